@@ -1,0 +1,13 @@
+pub mod Heads
+pub mod Asking
+pub mod Insides
+pub mod Joins
+pub mod Walker
+pub mod Shortest
+pub mod Integers
+pub mod Reading
+pub mod Whole
+pub mod Walking
+pub mod Moved
+pub mod Ends
+pub mod Laid

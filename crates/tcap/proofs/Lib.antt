@@ -1,0 +1,11 @@
+pub mod Strings
+pub mod Components
+pub mod Dialogues
+pub mod Messages
+pub mod Records
+pub mod Places
+pub mod Promises
+pub mod Refusals
+pub mod Computing
+pub mod Specimens
+pub mod Order

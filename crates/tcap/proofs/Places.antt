@@ -1,0 +1,376 @@
+-- Each string of a message that is read stands in its octets where it says, one behind the other; each fault is found in its octets.
+-- Assumes nothing.
+use Prim.Native.Nat.{ℕ, _+_, _≤_, _<_}
+use mathlib.Core.Path.{_≡_, refl, sym, ap, _∙_}
+use mathlib.Core.Bool.{Bool, true, false, _||_, false≢true}
+use mathlib.Core.List.{List, [], _∷_, _++_, append-nil}
+use mathlib.Core.Logic.{_⊎_, inl, inr}
+use mathlib.Core.Option.{Option·getD, Option, none, some}
+use native.Mathlib.Omega.{arith}
+use lib.ListN.{length, getD}
+use lib.Dec.{leb, eqb}
+use lib.IntN.{ℤ}
+use borrow.Author.Tests.{eq-eqb, leb-false}
+use Rattle.base.specs.Value.{Every, Maybe, same}
+use Rattle.element.specs.declared.{FaultKind.FaultKind}
+use Rattle.element.specs.Element.{extendedOf}
+use Rattle.element.specs.Primitive.{identifierOk, integerOk, signedOf, mostIntegerOctets}
+use Rattle.element.specs.Fault.{numberOf, Text, Owner, portion, dialogue, component, Fault, fault, at, inDialogue, inComponent, withInvokeId, withOrigId}
+use Rattle.element.specs.Ask.{got, bad, Body, ask}
+use Rattle.element.specs.Parts.{Item, level, integerItem, bindBody, thenBody, lastBody, optBody, silently}
+use Rattle.element.proofs.Ends.{outer, Ends, held, failed, the-held, the-failed, ends-next, ends-weaken, ends-check, ends-blamed, Plain, ends-ask}
+use Rattle.element.proofs.Laid.{Here, StandsAt, Laid, stop, stands-here, here-within, laid-wider, laid-append, laid-none, laid-each, nothing-ends, Claim, Keeps, Span, strung, ItemLaid, BodyLaid, leaf-laid, around-laid, kept-laid, item-weaken, map-laid, or-laid, bind-laid, only-laid, last-laid, opt-laid, map-body-laid, series-laid, series-unmarked, walk-laid}
+use Rattle.tcap.specs.declared.{Problem.Problem, Diagnostic.Diagnostic}
+use Rattle.tcap.specs.Meaning.{silent, Originating, orig, dest, Code, local, global, Component, invoke, last, notLast, error, reject, Dialogue, request, unidialogue, response, aborted, single, octets, Ending, cause, says, Message, unidirectional, begin, finish, continue, abort, structured, unstructured, version}
+use Rattle.tcap.specs.WellFormed.{mostOctets, mostComponents, leftAt, idOk}
+use Rattle.tcap.specs.Productions.{single?, octetItem, nameItem, codeItem, problemItem, idOrNullItem, origItem, destItem, carried, noted, versionBody, levelAt, parameterItem, codeBody, invokeBody, bothItem, resultBody, errorBody, rejectBody, componentItem, componentAt, componentsItem, infoBody, contextItem, askedItem, numberItem, sourceItem, answeredItem, abortedItem, heldItem, externalBody, inside6B, dialogueItem, tailBody, uniBody, beginBody, endBody, continueBody, abortBody, messageItem}
+use Rattle.tcap.specs.Reading.{learnt, aloneBody, readFirst, locatedUpTo}
+use Rattle.tcap.proofs.Records.{Sits}
+use Rattle.tcap.proofs.Strings.{Strings, tagged, whole, optionStrings, seriesStrings, codeStrings, bothStrings, componentStrings, namedStrings, dialogueStrings, endingStrings, origStrings, destStrings, restStrings, strings}
+
+-- Of a fault
+
+abbrev pub kindOf : Fault → FaultKind
+kindOf (fault k p o i t) = k
+
+abbrev pub placeOf : Fault → ℕ
+placeOf (fault k p o i t) = p
+
+abbrev pub ownerOf : Fault → Owner
+ownerOf (fault k p o i t) = o
+
+abbrev pub origOf : Fault → Option Text
+origOf (fault k p o i t) = t
+
+abbrev pub OwnerOk : Owner → Type 0
+OwnerOk portion = Unit {0}
+OwnerOk dialogue = Unit {0}
+OwnerOk (component k) = k < mostComponents
+
+-- found in contents of m that end at hi
+pub record FaultOk (m : List ℕ) (hi : ℕ) (f : Fault) : Type 0 where
+  pub place : placeOf f ≤ hi
+  pub owner : OwnerOk (ownerOf f)
+  pub plain : Plain (kindOf f)
+  pub origId : Maybe (λ t. StandsAt m (some 0x48, t)) (origOf f)
+
+claim : List ℕ → Claim
+claim m =
+    record {
+      Of = FaultOk m;
+      grows = λ i j f h q. record { place = omega (arith, q .place); owner = q .owner; plain = q .plain; origId = q .origId };
+      found = λ k p i. record { place = omega arith; owner = tt; plain = i; origId = tt };
+    }
+
+-- found in m or about it: 7, 8 and 9 belong to no part of it
+pub record RefusedFor (m : List ℕ) (f : Fault) : Type 0 where
+  pub place : placeOf f ≤ length m
+  pub owner : OwnerOk (ownerOf f)
+  pub inner : Plain (kindOf f) ⊎ (ownerOf f ≡ portion)
+  pub overlong : kindOf f ≡ FaultKind.Overlong → placeOf f ≡ mostOctets
+  pub noMessage : kindOf f ≡ FaultKind.NoMessage → placeOf f ≡ 0
+  pub origId : Maybe (λ t. StandsAt m (some 0x48, t)) (origOf f)
+
+plain-not : (k : FaultKind) → Plain k → (n : ℕ) → outer n ≡ true → numberOf k ≡ n → ⊥
+plain-not k i n t e = false≢true (sym i ∙ ap outer e ∙ t)
+
+inside-message : (m : List ℕ) (f : Fault) → FaultOk m (length m) f → RefusedFor m f
+unfolding numberOf
+inside-message m f q =
+    record {
+      place = q .place;
+      owner = q .owner;
+      inner = inl (q .plain);
+      overlong = λ e. absurd (plain-not (kindOf f) (q .plain) 7 refl (ap numberOf e));
+      noMessage = λ e. absurd (plain-not (kindOf f) (q .plain) 8 refl (ap numberOf e));
+      origId = q .origId;
+    }
+
+-- at the top: of a kind that is found there at just that place
+about-message : (m : List ℕ) (k : FaultKind) (p : ℕ) → p ≤ length m → (k ≡ FaultKind.Overlong → p ≡ mostOctets) → (k ≡ FaultKind.NoMessage → p ≡ 0) → RefusedFor m (at k p)
+about-message m k p h i j = record { place = h; owner = tt; inner = inr refl; overlong = i; noMessage = j; origId = tt }
+
+other-kind : {A : Type 0} (k l : FaultKind) → eqb (numberOf k) (numberOf l) ≡ false → k ≡ l → A
+other-kind k l t e = absurd (false≢true (sym t ∙ eq-eqb _ _ (ap numberOf e)))
+
+no-message : (m : List ℕ) → RefusedFor m (at FaultKind.NoMessage 0)
+unfolding numberOf
+no-message m = about-message m FaultKind.NoMessage 0 (omega arith) (other-kind FaultKind.NoMessage FaultKind.Overlong refl) (λ e. refl)
+
+too-long : (m : List ℕ) → mostOctets ≤ length m → RefusedFor m (at FaultKind.Overlong mostOctets)
+unfolding numberOf
+too-long m h = about-message m FaultKind.Overlong mostOctets h (λ e. refl) (other-kind FaultKind.Overlong FaultKind.NoMessage refl)
+
+after-message : (m : List ℕ) (p : ℕ) → p ≤ length m → RefusedFor m (at FaultKind.OctetsAfter p)
+unfolding numberOf
+after-message m p h = about-message m FaultKind.OctetsAfter p h (other-kind FaultKind.OctetsAfter FaultKind.Overlong refl) (other-kind FaultKind.OctetsAfter FaultKind.NoMessage refl)
+
+-- what is known from outside: an owner, an invoke ID, an originating ID
+known-as : (m : List ℕ) (hi p : ℕ) (k : FaultKind) (o o′ : Owner) (i i′ : Option ℤ) (t t′ : Option Text) → OwnerOk o′ → Maybe (λ s. StandsAt m (some 0x48, s)) t′ → FaultOk m hi (fault k p o i t) → FaultOk m hi (fault k p o′ i′ t′)
+known-as m hi p k o o′ i i′ t t′ g h q = record { place = q .place; owner = g; plain = q .plain; origId = h }
+
+keeps-dialogue : (m : List ℕ) → Keeps (claim m) inDialogue
+unfolding claim inDialogue
+keeps-dialogue m hi (fault k p o i t) q = known-as m hi p k o dialogue i i t t tt (q .origId) q
+
+keeps-component : (m : List ℕ) (n : ℕ) → n < mostComponents → Keeps (claim m) (inComponent n)
+unfolding claim inComponent
+keeps-component m n h hi (fault k p o i t) q = known-as m hi p k o (component n) i i t t h (q .origId) q
+
+keeps-invoke : (m : List ℕ) (j : Option ℤ) → Keeps (claim m) (withInvokeId j)
+unfolding claim withInvokeId
+keeps-invoke m j hi (fault k p o i t) q = known-as m hi p k o o i j t t (q .owner) (q .origId) q
+
+keeps-orig : (m : List ℕ) (l : Strings) (o : Originating Text) (lo hi : ℕ) → Laid m lo hi (origStrings o ++ l) → Keeps (claim m) (carried o)
+unfolding claim withOrigId Every
+keeps-orig m l (orig s) lo hi i j (fault k p o n t) q = known-as m j p k o o n n t (some s) (q .owner) (laid-each {P = StandsAt m} (λ s h. h) i .0) q
+
+keeps-carried : (m : List ℕ) (o : Originating Text) (lo hi : ℕ) → Laid m lo hi (origStrings o) → Keeps (claim m) (carried o)
+keeps-carried m o lo hi i = keeps-orig m [] o lo hi (rw append-nil i)
+
+-- Productions
+
+module _ (m : List ℕ) where
+  abbrev ItemReads : {L : Type 0} → Item L → (L → Strings) → Type 0
+  ItemReads x S = ItemLaid m (claim m) x (strung m S)
+
+  abbrev BodyReads : {L : Type 0} → Body L → (L → Strings) → Type 0
+  BodyReads b S = BodyLaid m (claim m) b (strung m S)
+
+  plainly : Keeps (claim m) (λ f. f)
+  plainly hi f q = q
+
+  bind-reads : {L M : Type 0} {x : Item L} {y : Body M} {S : L → Strings} {T : M → Strings} (l : ℕ) (note : L → Fault → Fault) → ((v : L) (lo hi : ℕ) → Laid m lo hi (S v) → Keeps (claim m) (note v)) → ItemReads x S → BodyReads y T
+      → BodyReads (bindBody (level l) note x (λ v. y)) (λ v. S (v .0) ++ T (v .1))
+  bind-reads l note k s t = bind-laid (level l) note plainly k (λ v b lo mid hi i j. laid-append i j) s (λ v. t)
+
+  then-reads : {L M : Type 0} {x : Item L} {y : Body M} {S : L → Strings} {T : M → Strings} (l : ℕ) → ItemReads x S → BodyReads y T → BodyReads (thenBody (level l) x y) (λ v. S (v .0) ++ T (v .1))
+  then-reads l s t = bind-reads l silently (λ v lo hi i. plainly) s t
+
+  last-reads : {L : Type 0} {x : Item L} {S : L → Strings} (l : ℕ) → ItemReads x S → BodyReads (lastBody (level l) x) (optionStrings S)
+  last-reads l s = last-laid (level l) plainly (λ p. stop (omega arith)) (λ v lo hi i. i) s
+
+  opt-reads : {L M : Type 0} {x : Item L} {y : Body M} {S : L → Strings} {T : M → Strings} → ItemReads x S → BodyReads y T → BodyReads (optBody x y) (λ v. optionStrings S (v .0) ++ T (v .1))
+  opt-reads s t = opt-laid (λ b lo hi i. i) (λ v b lo mid hi i j. laid-append i j) s t
+
+  -- of which no string is kept
+  mute-reads : {L M : Type 0} {x : Item L} {y : Body M} {S : L → Strings} {T : M → Strings} → ItemReads x S → BodyReads y T → BodyReads (optBody x y) (λ v. T (v .1))
+  mute-reads s t = opt-laid (λ b lo hi i. i) (λ v b lo mid hi i j. laid-wider lo hi (laid-none i) (omega arith) j) s t
+
+  integer-reads : (t most : ℕ) → extendedOf t ≡ false → ItemReads (integerItem t most) (λ v. [])
+  integer-reads t most e = map-laid (λ v. signedOf (v .1)) (λ v lo hi i. stop (laid-none i)) (leaf-laid t (integerOk most) e)
+
+  octet-reads : (t most : ℕ) → extendedOf t ≡ false → ItemReads (octetItem t most) (λ v. [])
+  octet-reads t most e = map-laid (λ v. getD (v .1) 0 0) (λ v lo hi i. stop (laid-none i)) (leaf-laid t (single? most) e)
+
+  name-reads : ItemReads nameItem (tagged 0x06)
+  unfolding extendedOf
+  name-reads = leaf-laid 0x06 identifierOk refl
+
+  code-reads : ItemReads codeItem codeStrings
+  unfolding extendedOf
+  code-reads = or-laid (map-laid local (λ v lo hi i. i) (integer-reads 0x02 mostIntegerOctets refl)) (map-laid global (λ v lo hi i. i) name-reads)
+
+  problem-reads : ItemReads problemItem (λ v. [])
+  unfolding extendedOf
+  problem-reads =
+      or-laid (map-laid Problem.General (λ v lo hi i. i) (octet-reads 0x80 2 refl))
+      (or-laid (map-laid Problem.OfInvoke (λ v lo hi i. i) (octet-reads 0x81 7 refl))
+      (or-laid (map-laid Problem.OfResult (λ v lo hi i. i) (octet-reads 0x82 2 refl)) (map-laid Problem.OfError (λ v lo hi i. i) (octet-reads 0x83 4 refl))))
+
+  null-reads : ItemReads idOrNullItem (λ v. [])
+  unfolding extendedOf
+  null-reads = or-laid (map-laid some (λ v lo hi i. i) (integer-reads 0x02 1 refl)) (map-laid (λ v. none) (λ v lo hi i. stop (laid-none i)) (leaf-laid 0x05 (same []) refl))
+
+  orig-reads : ItemReads origItem origStrings
+  unfolding extendedOf
+  orig-reads = map-laid orig (λ v lo hi i. i) (leaf-laid 0x48 idOk refl)
+
+  dest-reads : ItemReads destItem destStrings
+  unfolding extendedOf
+  dest-reads = map-laid dest (λ v lo hi i. i) (leaf-laid 0x49 idOk refl)
+
+  version-reads : {L : Type 0} {b : Body L} {S : L → Strings} → BodyReads b S → BodyReads (versionBody b) S
+  unfolding extendedOf
+  version-reads s = map-body-laid (λ v. v .1) (λ v lo hi i. i) (mute-reads (leaf-laid 0x80 (same version) refl) s)
+
+  -- its strings follow those of the name n before it
+  abbrev Following : Text → Span (Dialogue Text)
+  Following n d lo hi = (from : ℕ) → Laid m from lo (tagged 0x06 n) → Laid m from hi (dialogueStrings d)
+
+  following : (n : Text) (d : Dialogue Text) (lo hi : ℕ) → Laid m lo hi (dialogueStrings d) → Following n d lo hi
+  following n d lo hi i from j = laid-wider from hi (laid-none j) (omega arith) i
+
+  list-strings : (v : Option (List (Component Text))) (lo hi : ℕ) → Laid m lo hi (optionStrings (seriesStrings componentStrings) v) → Laid m lo hi (seriesStrings componentStrings (Option·getD v []))
+  unfolding seriesStrings
+  list-strings none lo hi i = i
+  list-strings (some l) lo hi i = i
+
+  ending-strings : (v : Option (Ending Text)) (s : Strings) (lo hi : ℕ) → Laid m lo hi (s ++ optionStrings endingStrings v) → Laid m lo hi (s ++ endingStrings (Option·getD v silent))
+  ending-strings none s lo hi i = i
+  ending-strings (some e) s lo hi i = i
+
+  module _ (limit : ℕ) where
+    parameter-reads : (n : ℕ) → ItemReads (parameterItem limit n) whole
+    parameter-reads n = walk-laid _ (leftAt limit n)
+
+    code-body-reads : BodyReads (codeBody limit) (λ v. codeStrings (v .0) ++ optionStrings whole (v .1))
+    code-body-reads = then-reads (leftAt limit 4) code-reads (last-reads (leftAt limit 4) (parameter-reads 4))
+
+    invoke-reads : BodyReads (invokeBody limit) componentStrings
+    unfolding extendedOf
+    invoke-reads =
+        map-body-laid (λ v. invoke (v .0) (v .1 .0) (v .1 .1 .0) (v .1 .1 .1)) (λ v lo hi i. i)
+        (bind-reads (leftAt limit 4) noted (λ v lo hi i. keeps-invoke m (some v)) (integer-reads 0x02 1 refl) (mute-reads (integer-reads 0x80 1 refl) code-body-reads))
+
+    both-reads : ItemReads (bothItem limit) bothStrings
+    both-reads = around-laid 0x30 (then-reads (leftAt limit 5) code-reads (only-laid (levelAt limit 5) plainly (parameter-reads 5)))
+
+    result-reads : (f : ℤ → Option (Code Text × Text) → Component Text) → ((i : ℤ) (r : Option (Code Text × Text)) → optionStrings bothStrings r ≡ componentStrings (f i r)) → BodyReads (resultBody limit f) componentStrings
+    unfolding extendedOf
+    result-reads f same =
+        map-body-laid (λ v. f (v .0) (v .1)) (λ v lo hi i. rw (same (v .0) (v .1)) at i)
+        (bind-reads (leftAt limit 4) noted (λ v lo hi i. keeps-invoke m (some v)) (integer-reads 0x02 1 refl) (last-reads (leftAt limit 4) both-reads))
+
+    error-reads : BodyReads (errorBody limit) componentStrings
+    unfolding extendedOf
+    error-reads =
+        map-body-laid (λ v. error (v .0) (v .1 .0) (v .1 .1)) (λ v lo hi i. i)
+        (bind-reads (leftAt limit 4) noted (λ v lo hi i. keeps-invoke m (some v)) (integer-reads 0x02 1 refl) code-body-reads)
+
+    reject-reads : BodyReads (rejectBody limit) componentStrings
+    reject-reads =
+        map-body-laid (λ v. reject (v .0) (v .1)) (λ v lo hi i. i)
+        (bind-reads (leftAt limit 4) withInvokeId (λ v lo hi i. keeps-invoke m v) null-reads (only-laid (levelAt limit 4) plainly problem-reads))
+
+    component-reads : ItemReads (componentItem limit) componentStrings
+    component-reads =
+        or-laid (around-laid 0xA1 invoke-reads)
+        (or-laid (around-laid 0xA2 (result-reads last (λ i r. refl)))
+        (or-laid (around-laid 0xA3 error-reads)
+        (or-laid (around-laid 0xA4 reject-reads)
+        (around-laid 0xA7 (result-reads notLast (λ i r. refl))))))
+
+    components-reads : ItemReads (componentsItem limit) (seriesStrings componentStrings)
+    unfolding seriesStrings numberOf
+    components-reads =
+        around-laid 0x6C (series-laid (componentAt limit) FaultKind.UnknownComponent mostComponents (λ k h. keeps-component m k h) refl (λ p. stop (omega arith)) (λ v ws lo mid hi i j. laid-append i j) component-reads none (λ v i. nothing-ends i) mostComponents 0 (omega arith))
+
+    info-reads : BodyReads (infoBody limit) (optionStrings (tagged 0xBE))
+    unfolding extendedOf
+    info-reads = last-reads (leftAt limit 6) (kept-laid 0xBE refl (λ n. series-unmarked (leftAt limit 7) n (walk-laid _ (leftAt limit 7))))
+
+    context-reads : ItemReads (contextItem limit) (tagged 0x06)
+    context-reads = around-laid 0xA1 (only-laid (levelAt limit 7) plainly name-reads)
+
+    asked-reads : (f : Text → Option Text → Dialogue Text) → ((n : Text) (u : Option Text) → namedStrings n u ≡ dialogueStrings (f n u)) → ItemReads (askedItem limit f) dialogueStrings
+    asked-reads f same =
+        around-laid 0x60 (map-body-laid (λ v. f (v .0) (v .1)) (λ v lo hi i. rw (same (v .0) (v .1)) at i) (version-reads (then-reads (leftAt limit 6) context-reads info-reads)))
+
+    number-reads : (t n most : ℕ) → ItemReads (numberItem limit t n most) (λ v. [])
+    unfolding extendedOf
+    number-reads t n most = around-laid t (only-laid (levelAt limit n) plainly (octet-reads 0x02 most refl))
+
+    source-reads : ItemReads (sourceItem limit) (λ v. [])
+    source-reads = around-laid 0xA3 (only-laid (levelAt limit 7) plainly (or-laid (map-laid Diagnostic.ByUser (λ v lo hi i. i) (number-reads 0xA1 8 2)) (map-laid Diagnostic.ByProvider (λ v lo hi i. i) (number-reads 0xA2 8 2))))
+
+    answered-reads : ItemReads (answeredItem limit) dialogueStrings
+    answered-reads =
+        around-laid 0x61
+        (map-body-laid (λ v. response (v .0) (v .1 .0) (v .1 .1 .0) (v .1 .1 .1)) (λ v lo hi i. i)
+        (version-reads (then-reads (leftAt limit 6) context-reads (then-reads (leftAt limit 6) (number-reads 0xA2 7 1) (then-reads (leftAt limit 6) source-reads info-reads)))))
+
+    aborted-reads : ItemReads (abortedItem limit) dialogueStrings
+    unfolding extendedOf
+    aborted-reads = around-laid 0x64 (map-body-laid (λ v. aborted (v .0) (v .1)) (λ v lo hi i. i) (then-reads (leftAt limit 6) (octet-reads 0x80 1 refl) info-reads))
+
+    held-reads : (n : Text) (s u : Bool) → ItemLaid m (claim m) (heldItem limit n s u) (Following n)
+    unfolding extendedOf
+    held-reads n true u =
+        item-weaken (following n)
+        (around-laid 0xA0 (only-laid (levelAt limit 5) plainly (or-laid (asked-reads request (λ n u. refl)) (or-laid answered-reads aborted-reads))))
+    held-reads n false true =
+        item-weaken (following n) (around-laid 0xA0 (only-laid (levelAt limit 5) plainly (asked-reads unidialogue (λ n u. refl))))
+    held-reads n false false =
+        or-laid (map-laid (single n) (λ e lo hi i from j. laid-append j i) (around-laid 0xA0 (only-laid (levelAt limit 5) plainly (parameter-reads 5))))
+        (map-laid (octets n) (λ c lo hi i from j. laid-append j i) (leaf-laid 0x81 (λ c. true) refl))
+
+    external-reads : BodyReads (externalBody limit) dialogueStrings
+    external-reads =
+        map-body-laid (λ v. v .1) (λ v lo hi i. i)
+        (bind-laid (levelAt limit 4) silently {T = Following} {U = strung m (λ v. dialogueStrings (v .1))} plainly (λ v lo hi i. plainly) (λ n d lo mid hi i j. j lo i) name-reads
+        (λ n. only-laid (levelAt limit 4) plainly (held-reads n (same structured (n .1)) (same unstructured (n .1)))))
+
+    dialogue-reads : ItemReads (dialogueItem limit) dialogueStrings
+    dialogue-reads = around-laid 0x6B (only-laid (inside6B limit) (keeps-dialogue m) (around-laid 0x28 external-reads))
+
+    tail-reads : BodyReads (tailBody limit) (λ v. restStrings (v .0) (v .1))
+    tail-reads = opt-reads dialogue-reads (map-body-laid (λ v. Option·getD v []) list-strings (last-reads (leftAt limit 2) components-reads))
+
+    uni-reads : BodyReads (uniBody limit) strings
+    uni-reads = map-body-laid (λ v. unidirectional (v .0) (v .1)) (λ v lo hi i. i) (opt-reads dialogue-reads (only-laid (levelAt limit 2) plainly components-reads))
+
+    begin-reads : BodyReads (beginBody limit) strings
+    begin-reads = map-body-laid (λ v. begin (v .0) (v .1 .0) (v .1 .1)) (λ v lo hi i. i) (bind-reads (leftAt limit 2) carried (keeps-carried m) orig-reads tail-reads)
+
+    end-reads : BodyReads (endBody limit) strings
+    end-reads = map-body-laid (λ v. finish (v .0) (v .1 .0) (v .1 .1)) (λ v lo hi i. i) (then-reads (leftAt limit 2) dest-reads tail-reads)
+
+    continue-reads : BodyReads (continueBody limit) strings
+    continue-reads =
+        map-body-laid (λ v. continue (v .0) (v .1 .0) (v .1 .1 .0) (v .1 .1 .1)) (λ v lo hi i. i)
+        (bind-reads (leftAt limit 2) carried (keeps-carried m) orig-reads (then-reads (leftAt limit 2) dest-reads tail-reads))
+
+    abort-reads : BodyReads (abortBody limit) strings
+    unfolding extendedOf
+    abort-reads =
+        map-body-laid (λ v. abort (v .0) (Option·getD (v .1) silent)) (λ v lo hi i. ending-strings (v .1) (destStrings (v .0)) lo hi i)
+        (then-reads (leftAt limit 2) dest-reads (last-reads (leftAt limit 2) (or-laid (map-laid cause (λ v lo hi i. i) (octet-reads 0x4A 4 refl)) (map-laid says (λ v lo hi i. i) dialogue-reads))))
+
+    message-reads : ItemReads (messageItem limit) strings
+    message-reads = or-laid (around-laid 0x61 uni-reads) (or-laid (around-laid 0x62 begin-reads) (or-laid (around-laid 0x64 end-reads) (or-laid (around-laid 0x65 continue-reads) (around-laid 0x67 abort-reads))))
+
+    -- the message is all there is
+    all-here : Here m 0 m
+    all-here = record { before = []; rest = []; octets = sym (append-nil m); place = refl }
+
+    keeps-orig-read : (o : Originating Text) (l : Strings) (lo hi : ℕ) → Laid m lo hi (origStrings o ++ l) → (f : Fault) → RefusedFor m f → RefusedFor m (carried o f)
+    unfolding withOrigId Every
+    keeps-orig-read (orig s) l lo hi i (fault k p o n t) q =
+        record { place = q .place; owner = q .owner; inner = q .inner; overlong = q .overlong; noMessage = q .noMessage; origId = laid-each {P = StandsAt m} (λ s h. h) i .0 }
+
+    keeps-learnt : (v : Message Text) (lo hi : ℕ) → Laid m lo hi (strings v) → (f : Fault) → RefusedFor m f → RefusedFor m (learnt v f)
+    keeps-learnt (unidirectional d cs) lo hi i f q = q
+    keeps-learnt (begin o d cs) lo hi i f q = keeps-orig-read o _ lo hi i f q
+    keeps-learnt (finish e d cs) lo hi i f q = q
+    keeps-learnt (continue o e d cs) lo hi i f q = keeps-orig-read o _ lo hi i f q
+    keeps-learnt (abort e s) lo hi i f q = q
+
+    alone-reads : Ends (λ v n. Laid m 0 (length m) (strings v)) (RefusedFor m) (ask (aloneBody limit (messageItem limit)) true 0 m)
+    unfolding claim
+    alone-reads =
+        ends-ask (aloneBody limit (messageItem limit)) true 0 m (λ v e f. nothing-ends e) (λ k i. inside-message m (at k 0) (claim m .grows 0 (length m) (at k 0) (omega arith) (claim m .found k 0 i))) (λ _ f q. q) (no-message m) λ h i f k.
+        ends-next (ends-weaken (message-reads .reads 0 m h all-here i k) (λ v n j. j) (λ f q. inside-message m f (claim m .grows (0 + length m) (length m) f (omega arith) q))) λ v n j.
+        ends-blamed (learnt v) (keeps-learnt v 0 (0 + n) (j .laid))
+        (ends-check (eqb n (length m)) _ (λ _. after-message m (0 + n) (omega (arith, j .within))) λ _. held {a = v} {n = n} (laid-wider 0 (length m) (omega arith) (omega (arith, j .within)) (j .laid)))
+
+first-reads : (limit : ℕ) (m : List ℕ) → Ends (λ v n. Laid m 0 (length m) (strings v)) (RefusedFor m) (readFirst limit (messageItem limit) m)
+unfolding readFirst claim numberOf
+first-reads limit [] = failed (inside-message [] (at FaultKind.CutOff 0) (claim [] .found FaultKind.CutOff 0 refl))
+first-reads limit (a ∷ r) = ends-check (messageItem limit .mine a) _ (λ _. no-message (a ∷ r)) λ _. alone-reads (a ∷ r) limit
+
+located-reads : (limit : ℕ) (m : List ℕ) → Ends (λ v n. Laid m 0 (length m) (strings v)) (RefusedFor m) (locatedUpTo limit m)
+unfolding locatedUpTo
+located-reads limit m = ends-check (leb (length m) mostOctets) _ (λ e. too-long m (omega (arith, leb-false (length m) mostOctets e))) λ _. first-reads limit m
+
+-- The theorems
+
+pub strings-stand : (limit : ℕ) (m : List ℕ) (v : Message Text) (n : ℕ) → locatedUpTo limit m ≡ got v n → Laid m 0 (length m) (strings v)
+strings-stand limit m v n e = the-held {P = λ v n. Laid m 0 (length m) (strings v)} {n = n} (rw e at (located-reads limit m))
+
+pub strings-sit : (limit : ℕ) (m : List ℕ) (v : Message Text) (n : ℕ) → locatedUpTo limit m ≡ got v n → Every (Sits m) (strings v)
+unfolding Sits
+strings-sit limit m v n e = laid-each (λ s h. here-within (stands-here s h)) (strings-stand limit m v n e)
+
+pub fault-placed : (limit : ℕ) (m : List ℕ) (f : Fault) → locatedUpTo limit m ≡ bad f → RefusedFor m f
+fault-placed limit m f e = the-failed (rw e at (located-reads limit m))

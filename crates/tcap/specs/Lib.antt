@@ -1,0 +1,5 @@
+pub mod Meaning
+pub mod WellFormed
+pub mod Productions
+pub mod Record
+pub mod Reading

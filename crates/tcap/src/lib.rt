@@ -1,0 +1,169 @@
+// The record of a TCAP message, and what reading answers. A string of a record is a place and a length in the octets beside it.
+use element::FaultKind;
+
+pub struct Span {
+    pub place: u32,
+    pub len: u32,
+}
+
+// A string that may be left out: a parameter, user information.
+pub enum OptionalSpan {
+    Absent,
+    Present(Span),
+}
+
+// A transaction ID is kept as its octets.
+pub struct TransactionId {
+    pub octets: Span,
+}
+
+// Tag 48 and tag 49: the two are never mixed up.
+pub struct OrigTransactionId(pub TransactionId);
+
+pub struct DestTransactionId(pub TransactionId);
+
+pub enum OptionalOrig {
+    NoOrig,
+    Orig(OrigTransactionId),
+}
+
+pub enum OptionalDest {
+    NoDest,
+    Dest(DestTransactionId),
+}
+
+// Only a Reject may have null.
+pub enum InvokeId {
+    Null,
+    Id(i8),
+}
+
+pub enum LinkedId {
+    Unlinked,
+    Linked(i8),
+}
+
+// An operation or error code.
+pub enum Code {
+    Local(i32),
+    Global(Span),
+}
+
+// The problem of a Reject: tags 80, 81, 82, 83.
+pub enum Problem {
+    General(u8),
+    OfInvoke(u8),
+    OfResult(u8),
+    OfError(u8),
+}
+
+// What a return result holds: nothing, or 30 with code and parameter.
+pub enum Returned {
+    Bare,
+    Both { code: Code, parameter: Span },
+}
+
+pub enum ComponentKind {
+    Invoke {
+        linked: LinkedId,
+        code: Code,
+        parameter: OptionalSpan,
+    },
+    ResultLast(Returned),
+    ResultNotLast(Returned),
+    ReturnError {
+        code: Code,
+        parameter: OptionalSpan,
+    },
+    Reject(Problem),
+}
+
+// One component: its invoke ID beside its kind, which carries its own fields.
+pub struct Row {
+    pub id: InvokeId,
+    pub kind: ComponentKind,
+}
+
+// Who diagnosed, of a dialogue response: the user (A1) or the provider (A2).
+pub enum Diagnostic {
+    ByUser(u8),
+    ByProvider(u8),
+}
+
+// The dialogue portion (6B), or the P-Abort cause (4A), which stands in its place.
+pub enum Dialogue {
+    NoDialogue,
+    Cause(u8),
+    Request {
+        name: Span,
+        info: OptionalSpan,
+    },
+    Response {
+        name: Span,
+        result: u8,
+        diagnostic: Diagnostic,
+        info: OptionalSpan,
+    },
+    DialogueAbort {
+        source: u8,
+        info: OptionalSpan,
+    },
+    Unidialogue {
+        name: Span,
+        info: OptionalSpan,
+    },
+    OutsideElement {
+        name: Span,
+        element: Span,
+    },
+    OutsideOctets {
+        name: Span,
+        octets: Span,
+    },
+}
+
+pub enum MessageKind {
+    Unidirectional,
+    Begin,
+    End,
+    Continue,
+    Abort,
+}
+
+// Rows from `count` on do not matter; reading leaves them blank.
+pub struct Record {
+    pub kind: MessageKind,
+    pub orig: OptionalOrig,
+    pub dest: OptionalDest,
+    pub dialogue: Dialogue,
+    pub count: usize,
+    pub rows: [Row; 16],
+}
+
+// The standard answer to a message that is refused: the P-Abort cause to send, or the general problem of a Reject.
+pub enum Answer {
+    AbortCause(u8),
+    RejectProblem {
+        problem: u8,
+        component: usize,
+        id: InvokeId,
+    },
+}
+
+pub struct Refusal {
+    pub kind: FaultKind,
+    pub place: usize,
+    pub orig: OptionalOrig,
+    pub answer: Answer,
+}
+
+pub enum Outcome {
+    Accepted,
+    Refused(Refusal),
+}
+
+// A refused reading has the blank record.
+pub struct Reading {
+    pub outcome: Outcome,
+    pub message: Record,
+}

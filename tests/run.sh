@@ -1,0 +1,67 @@
+#!/bin/sh
+# Every test there is, one after the other. The last line adds up what each of them counted: 'N passed, M failed'.
+set -u
+cd "$(dirname "$0")/.." || exit 2
+log=$(mktemp -d) || exit 2
+trap 'rm -rf "$log"' EXIT
+passed=0
+failed=0
+
+# one check: its name, then the command
+one() {
+    name=$1
+    shift
+    if "$@"; then
+        passed=$((passed + 1))
+        echo "ok: $name"
+    else
+        failed=$((failed + 1))
+        echo "FAILED: $name"
+    fi
+}
+
+# a command whose last line is 'N passed, M failed'
+many() {
+    name=$1
+    shift
+    "$@" >"$log/out" 2>&1
+    status=$?
+    cat "$log/out"
+    last=$(tail -n 1 "$log/out")
+    p=$(echo "$last" | sed -n 's/^\([0-9]*\) passed, \([0-9]*\) failed$/\1/p')
+    f=$(echo "$last" | sed -n 's/^\([0-9]*\) passed, \([0-9]*\) failed$/\2/p')
+    if [ -z "$p" ] || [ -z "$f" ]; then
+        p=0
+        f=1
+    fi
+    if [ "$status" -ne 0 ] && [ "$f" -eq 0 ]; then
+        f=1
+    fi
+    passed=$((passed + p))
+    failed=$((failed + f))
+    echo "$name: $p passed, $f failed"
+}
+
+# every folder of crates/ is a crate that crates.txt lists
+listed() {
+    for d in crates/*/; do
+        name=$(basename "$d")
+        grep -q "^$name:" crates.txt || {
+            echo "crates.txt does not list $name"
+            return 1
+        }
+    done
+}
+
+command -v rt >/dev/null || {
+    echo "the Rattle toolchain (rt) is not installed; docs/TOOLCHAIN.md names it"
+    echo "0 passed, 1 failed"
+    exit 1
+}
+rt version
+one "layout (rt fmt --check)" rt fmt --check
+one "every crate is listed" listed
+many "rt ci" rt ci
+
+echo "$passed passed, $failed failed"
+[ "$failed" -eq 0 ]
