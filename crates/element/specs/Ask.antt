@@ -35,7 +35,7 @@ pub data Head : Type 0 where
 pub record Body (A : Type 0) : Type 0 where
   -- the value if the contents end here; `none`: something is missing
   pub ends : Option A
-  -- there is room for no further component
+  -- there is room for no further component; in other series the room is as many as there are octets
   pub full : Bool
   -- to whom an element here belongs, from its tag to the end of its contents
   pub owner : Fault → Fault

@@ -27,7 +27,7 @@ numberOf FaultKind.UnknownComponent = 13
 abbrev pub Text : Type 0
 Text = ℕ × List ℕ
 
--- the transaction portion, inside the contents of 6B, or a component
+-- the transaction portion (all that is in neither of the others), inside the contents of 6B, or a component
 pub data Owner : Type 0 where
   portion dialogue : Owner
   component : ℕ → Owner

@@ -51,7 +51,7 @@ module _ (rules : LengthRules) where
   Matches (aroundOf t f) m = (c : List ℕ) × Matches f c × (Definite t c m ⊎ Unending t c m)
   Matches (perhaps f) m = (m ≡ []) ⊎ Matches f m
 
-  -- the shortest octets of a form
+  -- the shortest octets of a form: with definite lengths, and without what may be left out
   unfoldable pub shortest : Form → List ℕ
   shortest (exactly s) = s
   shortest (leafOf t c) = t ++ (rules .fewest (length c) ++ c)

@@ -28,7 +28,7 @@ integerOctets z = let k = widthFrom (mostIntegerOctets - 1) 1 z in octetsIn k (b
 unfoldable pub signedOf : List ℕ → ℤ
 signedOf c = signedAt (topOf (length c)) (numberFrom 0 c)
 
--- 1 to `most` octets, and just those in which their number is written
+-- 1 to `most` octets (4 at most), and just those in which their number is written
 unfoldable pub integerOk : ℕ → List ℕ → Bool
 integerOk most c = between 1 most c && same (integerOctets (signedOf c)) c
 

@@ -139,6 +139,6 @@ messageForm (finish e d cs) = around 0x64 (then (destForm e) (then (maybe dialog
 messageForm (continue o e d cs) = around 0x65 (then (origForm o) (then (destForm e) (then (maybe dialogueForm d) (componentsForm cs))))
 messageForm (abort e s) = around 0x67 (then (destForm e) (endingForm s))
 
--- the shortest message of a meaning
+-- the shortest message of a meaning, in definite lengths throughout: below 256 octets every other is longer, below 65,536 none is shorter
 unfoldable pub written : Meaning → List ℕ
 written μ = shortest document01 (messageForm μ)

@@ -133,7 +133,7 @@ module _ (limit : ℕ) where
   abbrev pub externalBody : Body (Dialogue Text)
   externalBody = mapBody (λ v. v .1) (bindBody (levelAt 4) silently nameItem (λ n. onlyBody (levelAt 4) (heldItem n (same structured (n .1)) (same unstructured (n .1)))))
 
-  -- all but a missing end pair of 6B itself is inside its contents
+  -- what stands in 6B is inside its contents; a missing end pair of 6B itself is not
   abbrev pub inside6B : Where
   inside6B = record { left = leftAt limit 3; owner = inDialogue }
 

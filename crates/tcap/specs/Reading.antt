@@ -40,7 +40,7 @@ answerFor n o i = cond (eqb n 8) (Answer.AbortCause 0) (cond (eqb n 12) (Answer.
 unfoldable pub refusalOf : Fault → Refusal
 refusalOf (fault k p o i t) = record { kind = k; place = p; orig = Option·getD (Option·map (λ t. origField (orig t)) t) OptionalOrig.NoOrig; answer = answerFor (numberOf k) o i }
 
--- a refusal hands back no components
+-- a refusal hands back the blank record: no components
 unfoldable pub answered : Got (Message Text) → Reading
 answered (got v n) = record { outcome = Outcome.Accepted; message = recordOf v }
 answered (bad f) = record { outcome = Outcome.Refused (refusalOf f); message = blankRecord }

@@ -77,7 +77,7 @@ recordOf (abort e s) = recordFrom MessageKind.Abort OptionalOrig.NoOrig (destFie
 abbrev pub blankRecord : Record
 blankRecord = recordFrom MessageKind.Unidirectional OptionalOrig.NoOrig OptionalDest.NoDest DialogueField.NoDialogue []
 
--- What a record means over the octets m: nothing, where a string passes their end, the count is above 16, or the kind lacks a part or may not have it
+-- What a record means over the octets m: nothing, where a string passes their end, the count is above 16, or an ID, a cause or a component is missing or too many
 
 module _ (m : List ℕ) where
   abbrev pub octetsAt : Span → Option (List ℕ)
@@ -142,7 +142,7 @@ module _ (m : List ℕ) where
   destMeans OptionalDest.NoDest = some none
   destMeans (OptionalDest.Dest e) = bind (octetsAt (e .0 .octets)) (λ c. some (some (dest c)))
 
-  -- a part that the kind may not have
+  -- none of a part that the kind may not have
   abbrev pub lacks : {A : Type 0} → Option A → Option (Unit {0})
   lacks none = some tt
   lacks (some a) = none
@@ -164,6 +164,6 @@ meaningOf r m =
     (bind (origMeans m (r .orig)) (λ o. bind (destMeans m (r .dest)) (λ e. bind (endingMeans m (r .dialogue)) (λ s. bind (rowsMean m (take (r .count) (r .rows))) (partsMean m (r .kind) o e s)))))
     none
 
--- two records are the same if both have a meaning, and it is one
+-- two records are the same if both have a meaning, and it is one; a record without a meaning is the same as none
 unfoldable pub Same : Record → List ℕ → Record → List ℕ → Type 0
 Same r m s n = (μ : Meaning) × (meaningOf r m ≡ some μ) × (meaningOf s n ≡ some μ)

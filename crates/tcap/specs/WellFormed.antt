@@ -81,7 +81,7 @@ OrigOk (orig i) = idOk i ≡ true
 abbrev pub DestOk : Destination (List ℕ) → Type 0
 DestOk (dest i) = idOk i ≡ true
 
--- with so many levels
+-- with so many levels, of which the fixed parts of a message need 8
 unfoldable pub WellFormedUpTo : ℕ → Meaning → Type 0
 WellFormedUpTo limit (unidirectional d cs) = Maybe (DialogueOk limit) d × (1 ≤ length cs) × ComponentsOk limit cs
 WellFormedUpTo limit (begin o d cs) = OrigOk o × Maybe (DialogueOk limit) d × ComponentsOk limit cs
