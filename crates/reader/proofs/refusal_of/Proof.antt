@@ -1,0 +1,18 @@
+-- `refusal_of` meets its contract. Assumes nothing.
+use Rattle.reader.specs.Parts.{refusalFrom}
+use borrow.Author.Needs.{needs}
+use Rattle.reader.proofs.refusal_of.Statement.{statement}
+use Rattle.reader.proofs.refusal_of.Tie as tie
+
+number-of-requires : tie.Need-number-of-requires
+number-of-requires c κs = search needs
+
+answer-of-requires : tie.Need-answer-of-requires
+answer-of-requires c κs = search needs
+
+returns : tie.Need-returns
+unfolding refusalFrom
+returns c = rw (c .answer-of .ensures, c .before .number-of .ensures)
+
+pub refusal-of-spec : {M : Type 1} → statement M
+refusal-of-spec = tie.close (tie.spec number-of-requires answer-of-requires returns)

@@ -1,0 +1,147 @@
+-- A message in the order in which the code reads it: IDs, then the rest, for every kind alike; cited by inner contracts, and no part of the definition of reading.
+-- Assumes nothing: these are definitions.
+use Prim.Native.Nat.{ℕ, _+_, _-_}
+use mathlib.Core.{Bool.Bool, Bool.cond, List.List, List.[], Option.Option, Option.none, Option.some, Option.Option·map, Option.Option·getD}
+use lib.{ListN.length, ListN.take, ListN.drop, ListN.getD, Dec.eqb, Dec.ltb}
+use Rattle.element.specs.{declared.FaultKind.FaultKind, Fault.numberOf, Fault.Text, Fault.Fault, Fault.at, Ask.Got, Ask.got, Ask.bad, Ask.next, Ask.blamed, Ask.Body, Ask.ask, Parts.mapItem, Parts.orItem, Parts.onlyBody, Parts.lastBody, Parts.optBody}
+use Rattle.tcap.specs.{declared.MessageKind.MessageKind, declared.OptionalOrig.OptionalOrig, declared.OptionalDest.OptionalDest, declared.Record.Record, declared.Span.Span, declared.InvokeId.InvokeId, declared.Answer.Answer, declared.Refusal.Refusal, declared.Outcome.Outcome, declared.Reading.Reading, Meaning.Originating, Meaning.Destination, Meaning.Component, Meaning.Ending, Meaning.silent, Meaning.cause, Meaning.says, Meaning.Message, WellFormed.mostOctets, WellFormed.deepestLevel, Productions.octetItem, Productions.origItem, Productions.destItem, Productions.carried, Productions.levelAt, Productions.componentsItem, Productions.dialogueItem, Productions.tailBody, Productions.uniBody, Productions.beginBody, Productions.endBody, Productions.continueBody, Productions.abortBody, Record.spanOf, Record.origField, Record.destField, Record.portionField, Record.endingField, Record.recordFrom, Record.blankRecord}
+use Rattle.tcap.specs.declared.Dialogue.{Dialogue}
+use Rattle.asking.specs.Asked.{front, faultField, innerOf, wholeOf}
+use Rattle.asking.specs.declared.{Owner.Owner, Fault.Fault as FaultField, Entry.Entry}
+use Rattle.reader.specs.declared.{KindRead.KindRead, IdRead.IdRead, IdsRead.IdsRead}
+
+-- the body of each kind
+abbrev pub bodyOf : MessageKind → Body (Message Text)
+bodyOf MessageKind.Unidirectional = uniBody deepestLevel
+bodyOf MessageKind.Begin = beginBody deepestLevel
+bodyOf MessageKind.End = endBody deepestLevel
+bodyOf MessageKind.Continue = continueBody deepestLevel
+bodyOf MessageKind.Abort = abortBody deepestLevel
+
+abbrev pub tagFor : MessageKind → ℕ
+tagFor MessageKind.Unidirectional = 0x61
+tagFor MessageKind.Begin = 0x62
+tagFor MessageKind.End = 0x64
+tagFor MessageKind.Continue = 0x65
+tagFor MessageKind.Abort = 0x67
+
+abbrev pub Ids : Type 0
+Ids = Option (Originating Text) × Option (Destination Text)
+
+abbrev pub carriedBy : Ids → Fault → Fault
+carriedBy (none, e) f = f
+carriedBy (some o, e) f = carried o f
+
+module _ (d : Bool) (p : ℕ) (part : List ℕ) where
+  abbrev pub origAsked : Got (Originating Text)
+  origAsked = ask (front (levelAt deepestLevel 2) FaultKind.Another origItem) d p part
+
+  abbrev pub destAsked : Got (Destination Text)
+  destAsked = ask (front (levelAt deepestLevel 2) FaultKind.Another destItem) d p part
+
+-- the IDs that the kind has
+unfoldable pub idsOf : MessageKind → Bool → ℕ → List ℕ → Got Ids
+idsOf MessageKind.Unidirectional d p part = got (none, none) 0
+idsOf MessageKind.Begin d p part = next (origAsked d p part) (λ o n. got (some o, none) n)
+idsOf MessageKind.End d p part = next (destAsked d p part) (λ e n. got (none, some e) n)
+idsOf MessageKind.Continue d p part = next (origAsked d p part) (λ o n. blamed (carried o) (next (destAsked d (p + n) (drop n part)) (λ e k. got (some o, some e) (n + k))))
+idsOf MessageKind.Abort d p part = next (destAsked d p part) (λ e n. got (none, some e) n)
+
+abbrev pub Rest : Type 0
+Rest = Dialogue × List (Component Text)
+
+-- 6B and 6C; of an Abort 4A or 6B
+unfoldable pub tailOf : Bool → ℕ → List ℕ → Got Rest
+tailOf d p part = next (ask (tailBody deepestLevel) d p part) (λ v n. got (portionField (v .0), v .1) n)
+
+unfoldable pub restOf : MessageKind → Bool → ℕ → List ℕ → Got Rest
+restOf MessageKind.Unidirectional d p part = next (ask (optBody (dialogueItem deepestLevel) (onlyBody (levelAt deepestLevel 2) (componentsItem deepestLevel))) d p part) (λ v n. got (portionField (v .0), v .1) n)
+restOf MessageKind.Begin d p part = tailOf d p part
+restOf MessageKind.End d p part = tailOf d p part
+restOf MessageKind.Continue d p part = tailOf d p part
+restOf MessageKind.Abort d p part = next (ask (lastBody (levelAt deepestLevel 2) (orItem (mapItem cause (octetItem 0x4A 4)) (mapItem says (dialogueItem deepestLevel)))) d p part) (λ v n. got (endingField (Option·getD v silent), []) n)
+
+abbrev pub origIn : Option (Originating Text) → OptionalOrig
+origIn o = Option·getD (Option·map origField o) OptionalOrig.NoOrig
+
+abbrev pub destIn : Option (Destination Text) → OptionalDest
+destIn e = Option·getD (Option·map destField e) OptionalDest.NoDest
+
+-- the record of a message, with the IDs it has
+unfoldable pub recordRead : MessageKind → Bool → ℕ → List ℕ → Got (Ids × Record)
+recordRead k d p part =
+    next (idsOf k d p part) (λ i n. blamed (carriedBy i) (next (restOf k d (p + n) (drop n part)) (λ r c. got (i, recordFrom k (origIn (i .0)) (destIn (i .1)) (r .0) (r .1)) (n + c))))
+
+-- the standard answer and the refusal of a fault as the code has it
+unfoldable pub causeBy : ℕ → ℕ
+causeBy n = cond (eqb n 10) 3 (cond (eqb n 11) 3 2)
+
+unfoldable pub problemBy : ℕ → ℕ
+problemBy n = cond (eqb n 13) 0 (cond (eqb n 10) 1 (cond (eqb n 11) 1 2))
+
+unfoldable pub answerBy : ℕ → Owner → InvokeId → Answer
+answerBy n Owner.Portion i = Answer.AbortCause (causeBy n)
+answerBy n Owner.Dialogue i = Answer.AbortCause 3
+answerBy n (Owner.Component k) i = Answer.RejectProblem (problemBy n) k i
+
+unfoldable pub answerFrom : ℕ → Owner → InvokeId → Answer
+answerFrom n o i = cond (eqb n 8) (Answer.AbortCause 0) (cond (eqb n 12) (Answer.AbortCause 4) (answerBy n o i))
+
+unfoldable pub refusalFrom : FaultField → Refusal
+refusalFrom f = record { kind = f .kind; place = f .place; orig = f .orig; answer = answerFrom (numberOf (f .kind)) (f .owner) (f .id) }
+
+unfoldable pub refusedBy : FaultField → Reading
+refusedBy f = record { outcome = Outcome.Refused (refusalFrom f); message = blankRecord }
+
+abbrev pub acceptedWith : Record → Reading
+acceptedWith r = record { outcome = Outcome.Accepted; message = r }
+
+-- the message is all there is: its contents stand from u to e, and n octets of them were read
+unfoldable pub finished : ℕ → ℕ → ℕ → Bool → Got (Ids × Record) → Reading
+finished l u e f (bad g) = refusedBy (faultField g)
+finished l u e f (got v n) = cond (eqb (wholeOf u e f n) l) (acceptedWith (v .1)) (refusedBy (faultField (carriedBy (v .0) (at FaultKind.OctetsAfter (0 + wholeOf u e f n)))))
+
+unfoldable pub readAs : MessageKind → List ℕ → Entry → Reading
+readAs k m (Entry.Bad f) = refusedBy (faultField (at f 0))
+readAs k m (Entry.Open u e f) = finished (length m) u e f (recordRead k f (0 + u) (take (e - u) (drop u m)))
+
+-- the kind by the first octet
+unfoldable pub kindOf : ℕ → KindRead
+kindOf a =
+    cond (eqb a 0x61) (KindRead.Kind MessageKind.Unidirectional)
+    (cond (eqb a 0x62) (KindRead.Kind MessageKind.Begin)
+    (cond (eqb a 0x64) (KindRead.Kind MessageKind.End)
+    (cond (eqb a 0x65) (KindRead.Kind MessageKind.Continue)
+    (cond (eqb a 0x67) (KindRead.Kind MessageKind.Abort)
+    KindRead.Unknown))))
+
+unfoldable pub readKind : List ℕ → KindRead → Reading
+readKind m KindRead.Unknown = refusedBy (faultField (at FaultKind.NoMessage 0))
+readKind m (KindRead.Kind k) = readAs k m (innerOf m 1)
+
+-- the code's order: 7, 1, 8, the message
+unfoldable pub readMessage : List ℕ → Reading
+readMessage m =
+    cond (ltb mostOctets (length m)) (refusedBy (faultField (at FaultKind.Overlong mostOctets)))
+    (cond (eqb (length m) 0) (refusedBy (faultField (at FaultKind.CutOff 0)))
+    (readKind m (kindOf (getD m 0 0))))
+
+-- What the readers of the IDs answer
+
+unfoldable pub idGot : Got Text → IdRead
+idGot (got t n) = IdRead.Got (spanOf t) n
+idGot (bad f) = IdRead.Bad (faultField f)
+
+unfoldable pub idsGot : Got Ids → IdsRead
+idsGot (got i n) = IdsRead.Got (origIn (i .0)) (destIn (i .1)) n
+idsGot (bad f) = IdsRead.Bad (faultField f)
+
+-- a fault after the originating ID
+abbrev pub givenOrig : FaultField → OptionalOrig → FaultField
+givenOrig f o = record { kind = f .kind; place = f .place; owner = f .owner; id = f .id; orig = o }
+
+abbrev pub origFrom : Span → OptionalOrig
+origFrom s = OptionalOrig.Orig (record { 0 = record { octets = s } })
+
+abbrev pub destFrom : Span → OptionalDest
+destFrom s = OptionalDest.Dest (record { 0 = record { octets = s } })
