@@ -4,9 +4,9 @@ use Prim.Native.Nat.{ℕ, _+_, _-_}
 use mathlib.Core.{Bool.Bool, Bool.cond, List.List, List.[], Option.Option, Option.none, Option.some, Option.Option·map, Option.Option·getD}
 use lib.{ListN.length, ListN.take, ListN.drop, ListN.getD, Dec.eqb, Dec.ltb}
 use Rattle.element.specs.{declared.FaultKind.FaultKind, Fault.numberOf, Fault.Text, Fault.Fault, Fault.at, Ask.Got, Ask.got, Ask.bad, Ask.next, Ask.blamed, Ask.Body, Ask.ask, Parts.mapItem, Parts.orItem, Parts.onlyBody, Parts.lastBody, Parts.optBody}
-use Rattle.tcap.specs.{declared.MessageKind.MessageKind, declared.OptionalOrig.OptionalOrig, declared.OptionalDest.OptionalDest, declared.Record.Record, declared.Span.Span, declared.InvokeId.InvokeId, declared.Answer.Answer, declared.Refusal.Refusal, declared.Outcome.Outcome, declared.Reading.Reading, Meaning.Originating, Meaning.Destination, Meaning.Component, Meaning.Ending, Meaning.silent, Meaning.cause, Meaning.says, Meaning.Message, WellFormed.mostOctets, WellFormed.deepestLevel, Productions.octetItem, Productions.origItem, Productions.destItem, Productions.carried, Productions.levelAt, Productions.componentsItem, Productions.dialogueItem, Productions.tailBody, Productions.uniBody, Productions.beginBody, Productions.endBody, Productions.continueBody, Productions.abortBody, Record.spanOf, Record.origField, Record.destField, Record.portionField, Record.endingField, Record.recordFrom, Record.blankRecord}
+use Rattle.tcap.specs.{declared.MessageKind.MessageKind, declared.OptionalOrig.OptionalOrig, declared.OptionalDest.OptionalDest, declared.Record.Record, declared.Span.Span, declared.InvokeId.InvokeId, declared.Answer.Answer, declared.Refusal.Refusal, declared.Outcome.Outcome, declared.Reading.Reading, Meaning.Originating, Meaning.Destination, Meaning.Component, Meaning.Ending, Meaning.silent, Meaning.cause, Meaning.says, Meaning.Message, WellFormed.mostOctets, WellFormed.deepestLevel, Productions.octetItem, Productions.origItem, Productions.destItem, Productions.carried, Productions.levelAt, Productions.componentsItem, Productions.dialogueItem, Productions.tailBody, Productions.uniBody, Productions.beginBody, Productions.endBody, Productions.continueBody, Productions.abortBody, Record.spanOf, Record.origField, Record.destField, Record.dialogueField, Record.portionField, Record.endingField, Record.recordFrom, Record.blankRecord}
 use Rattle.tcap.specs.declared.Dialogue.{Dialogue}
-use Rattle.asking.specs.Asked.{front, faultField, innerOf, wholeOf}
+use Rattle.asking.specs.Asked.{front, faultField, innerOf, wholeOf, begins}
 use Rattle.asking.specs.declared.{Owner.Owner, Fault.Fault as FaultField, Entry.Entry}
 use Rattle.reader.specs.declared.{KindRead.KindRead, IdRead.IdRead, IdsRead.IdsRead}
 
@@ -145,3 +145,29 @@ origFrom s = OptionalOrig.Orig (record { 0 = record { octets = s } })
 
 abbrev pub destFrom : Span → OptionalDest
 destFrom s = OptionalDest.Dest (record { 0 = record { octets = s } })
+
+-- The rest in the order of the code: 6B if it stands here (of an Abort 4A or 6B), then the components
+
+unfoldable pub portionRead : Bool → ℕ → List ℕ → Got Dialogue
+portionRead d p part =
+    cond (begins 0x6B part) (next (ask (front (levelAt deepestLevel 2) FaultKind.Another (dialogueItem deepestLevel)) d p part) (λ v n. got (dialogueField v) n)) (got Dialogue.NoDialogue 0)
+
+unfoldable pub portionFor : MessageKind → Bool → ℕ → List ℕ → Got Dialogue
+portionFor MessageKind.Unidirectional d p part = portionRead d p part
+portionFor MessageKind.Begin d p part = portionRead d p part
+portionFor MessageKind.End d p part = portionRead d p part
+portionFor MessageKind.Continue d p part = portionRead d p part
+portionFor MessageKind.Abort d p part = next (ask (lastBody (levelAt deepestLevel 2) (orItem (mapItem cause (octetItem 0x4A 4)) (mapItem says (dialogueItem deepestLevel)))) d p part) (λ v n. got (endingField (Option·getD v silent)) n)
+
+unfoldable pub someRows : Bool → ℕ → List ℕ → Got (List (Component Text))
+someRows d p part = next (ask (lastBody (levelAt deepestLevel 2) (componentsItem deepestLevel)) d p part) (λ v n. got (Option·getD v []) n)
+
+unfoldable pub rowsFor : MessageKind → Bool → ℕ → List ℕ → Got (List (Component Text))
+rowsFor MessageKind.Unidirectional d p part = ask (onlyBody (levelAt deepestLevel 2) (componentsItem deepestLevel)) d p part
+rowsFor MessageKind.Begin d p part = someRows d p part
+rowsFor MessageKind.End d p part = someRows d p part
+rowsFor MessageKind.Continue d p part = someRows d p part
+rowsFor MessageKind.Abort d p part = got [] 0
+
+unfoldable pub headOf : MessageKind → Bool → ℕ → List ℕ → Got (Ids × Dialogue)
+headOf k d p part = next (idsOf k d p part) (λ i n. blamed (carriedBy i) (next (portionFor k d (p + n) (drop n part)) (λ l c. got (i, l) (n + c))))
