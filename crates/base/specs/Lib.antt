@@ -1,2 +1,4 @@
 pub mod Number
 pub mod Value
+pub mod Text
+pub mod Put

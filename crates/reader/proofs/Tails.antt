@@ -149,10 +149,10 @@ module _ (d : Bool) (p : ℕ) (part : List ℕ) where
 -- The head of a message, and then its rows
 
 module _ (k : MessageKind) (d : Bool) (p : ℕ) (part : List ℕ) where
-  abbrev whole : Ids → DialogueField → List (Component Text) → Ids × Record
+  abbrev pub whole : Ids → DialogueField → List (Component Text) → Ids × Record
   whole i l cs = (i, recordFrom k (origIn (i .0)) (destIn (i .1)) l cs)
 
-  abbrev and-rows : Ids × DialogueField → ℕ → Got (Ids × Record)
+  abbrev pub and-rows : Ids × DialogueField → ℕ → Got (Ids × Record)
   and-rows h n = blamed (carriedBy (h .0)) (next (rowsFor k d (p + n) (drop n part)) (λ cs c. got (whole (h .0) (h .1) cs) (n + c)))
 
   sized : (i : Ids) (l : DialogueField) (n a : ℕ) (x : Got (List (Component Text))) → next (next x (λ cs c. got (with-rows d p part l cs) (a + c))) (λ r c. got (whole i (r .0) (r .1)) (n + c)) ≡ next x (λ cs c. got (whole i l cs) (n + a + c))

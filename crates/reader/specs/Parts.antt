@@ -2,13 +2,22 @@
 -- Assumes nothing: these are definitions.
 use Prim.Native.Nat.{ℕ, _+_, _-_}
 use mathlib.Core.{Bool.Bool, Bool.cond, List.List, List.[], Option.Option, Option.none, Option.some, Option.Option·map, Option.Option·getD}
-use lib.{ListN.length, ListN.take, ListN.drop, ListN.getD, Dec.eqb, Dec.ltb}
+use lib.{ListN.length, ListN.take, ListN.drop, ListN.getD, Dec.eqb, Dec.ltb, Dec.leb}
 use Rattle.element.specs.{declared.FaultKind.FaultKind, Fault.numberOf, Fault.Text, Fault.Fault, Fault.at, Ask.Got, Ask.got, Ask.bad, Ask.next, Ask.blamed, Ask.Body, Ask.ask, Parts.mapItem, Parts.orItem, Parts.onlyBody, Parts.lastBody, Parts.optBody}
 use Rattle.tcap.specs.{declared.MessageKind.MessageKind, declared.OptionalOrig.OptionalOrig, declared.OptionalDest.OptionalDest, declared.Record.Record, declared.Span.Span, declared.InvokeId.InvokeId, declared.Answer.Answer, declared.Refusal.Refusal, declared.Outcome.Outcome, declared.Reading.Reading, Meaning.Originating, Meaning.Destination, Meaning.Component, Meaning.Ending, Meaning.silent, Meaning.cause, Meaning.says, Meaning.Message, WellFormed.mostOctets, WellFormed.deepestLevel, Productions.octetItem, Productions.origItem, Productions.destItem, Productions.carried, Productions.levelAt, Productions.componentsItem, Productions.dialogueItem, Productions.tailBody, Productions.uniBody, Productions.beginBody, Productions.endBody, Productions.continueBody, Productions.abortBody, Record.spanOf, Record.origField, Record.destField, Record.dialogueField, Record.portionField, Record.endingField, Record.recordFrom, Record.blankRecord}
 use Rattle.tcap.specs.declared.Dialogue.{Dialogue}
-use Rattle.asking.specs.Asked.{front, faultField, innerOf, wholeOf, begins}
-use Rattle.asking.specs.declared.{Owner.Owner, Fault.Fault as FaultField, Entry.Entry}
-use Rattle.reader.specs.declared.{KindRead.KindRead, IdRead.IdRead, IdsRead.IdsRead}
+use Rattle.asking.specs.Asked.{front, faultField, innerOf, wholeOf, begins, leafOf, closeOf}
+use Rattle.asking.specs.declared.{Owner.Owner, Fault.Fault as FaultField, Entry.Entry, Field.Field, Next.Next, Closed.Closed}
+use Rattle.reader.specs.declared.{KindRead.KindRead, IdRead.IdRead, IdsRead.IdsRead, HeadRead.HeadRead}
+use Rattle.dialogue.specs.{declared.DialogueRead.DialogueRead, Reads.dialogueGot}
+use Rattle.components.specs.{declared.SeriesEnd.SeriesEnd, declared.Components.Components, Rows.componentsGot}
+use Rattle.tcap.specs.Meaning.{Dialogue as Dialogues}
+use Rattle.tcap.specs.Productions.{inside6B, externalBody}
+use Rattle.tcap.specs.WellFormed.{mostComponents}
+use Rattle.tcap.specs.Record.{rowOf, blankRow}
+use Rattle.element.specs.Parts.{aroundItem}
+use mathlib.Core.List.{map, _++_}
+use lib.ListN.{replicate}
 
 -- the body of each kind
 abbrev pub bodyOf : MessageKind → Body (Message Text)
@@ -171,3 +180,59 @@ rowsFor MessageKind.Abort d p part = got [] 0
 
 unfoldable pub headOf : MessageKind → Bool → ℕ → List ℕ → Got (Ids × Dialogue)
 headOf k d p part = next (idsOf k d p part) (λ i n. blamed (carriedBy i) (next (portionFor k d (p + n) (drop n part)) (λ l c. got (i, l) (n + c))))
+
+-- What the readers of the rest answer
+
+abbrev pub blankWith : SeriesEnd → Components
+blankWith e = record { end = e; count = 0; rows = replicate mostComponents blankRow }
+
+unfoldable pub portionGot : Got Dialogue → DialogueRead
+portionGot (got l n) = DialogueRead.Got l n
+portionGot (bad f) = DialogueRead.Bad (faultField f)
+
+-- 6B whose contents are where the entry says
+unfoldable pub resized : (ℕ → ℕ) → DialogueRead → DialogueRead
+resized m (DialogueRead.Got l n) = DialogueRead.Got l (m n)
+resized m (DialogueRead.Bad f) = DialogueRead.Bad f
+
+unfoldable pub portionIn : ℕ → List ℕ → Entry → DialogueRead
+portionIn p part (Entry.Bad k) = DialogueRead.Bad (faultField (at k p))
+portionIn p part (Entry.Open u e f) = resized (wholeOf u e f) (dialogueGot (ask (onlyBody (inside6B deepestLevel) (aroundItem 0x28 (externalBody deepestLevel))) f (p + u) (take (e - u) (drop u part))))
+
+-- 4A whose contents are where the field says
+unfoldable pub causeIn : ℕ → List ℕ → Field → DialogueRead
+causeIn p part (Field.Bad k) = DialogueRead.Bad (faultField (at k p))
+causeIn p part (Field.Contents u n) =
+    cond (eqb n 1) (cond (leb (getD part u 0) 4) (DialogueRead.Got (Dialogue.Cause (getD part u 0)) (u + n)) (DialogueRead.Bad (faultField (at FaultKind.BadContents p)))) (DialogueRead.Bad (faultField (at FaultKind.BadContents p)))
+
+-- what an Abort may end with
+unfoldable pub stopIn : ℕ → List ℕ → Next → DialogueRead
+stopIn p part Next.Ended = DialogueRead.Bad (faultField (at FaultKind.Missing p))
+stopIn p part Next.Unfinished = DialogueRead.Bad (faultField (at FaultKind.CutOff p))
+stopIn p part (Next.Fault k) = DialogueRead.Bad (faultField (at k p))
+stopIn p part (Next.Tag a s) =
+    cond (eqb a 0x4A) (causeIn p part (leafOf part s)) (cond (eqb a 0x6B) (portionIn p part (innerOf part 1)) (DialogueRead.Bad (faultField (at FaultKind.Another p))))
+
+unfoldable pub shutIn : ℕ → Dialogue → ℕ → Closed → DialogueRead
+shutIn p l n Closed.Done = DialogueRead.Got l n
+shutIn p l n Closed.Unfinished = DialogueRead.Bad (faultField (at FaultKind.CutOff p))
+shutIn p l n (Closed.Bad k) = DialogueRead.Bad (faultField (at k p))
+
+-- and nothing after it
+unfoldable pub endingIn : Bool → ℕ → List ℕ → DialogueRead → DialogueRead
+endingIn d p part (DialogueRead.Bad f) = DialogueRead.Bad f
+endingIn d p part (DialogueRead.Got l n) = shutIn (p + n) l n (closeOf d (drop n part))
+
+unfoldable pub shutRows : ℕ → Components → ℕ → Closed → Components
+shutRows p r n Closed.Done = record { end = SeriesEnd.Got n; count = r .count; rows = r .rows }
+shutRows p r n Closed.Unfinished = blankWith (SeriesEnd.Bad (faultField (at FaultKind.CutOff p)))
+shutRows p r n (Closed.Bad k) = blankWith (SeriesEnd.Bad (faultField (at k p)))
+
+-- a fault behind the IDs
+unfoldable pub carriedField : OptionalOrig → FaultField → FaultField
+carriedField OptionalOrig.NoOrig f = f
+carriedField (OptionalOrig.Orig o) f = givenOrig f (OptionalOrig.Orig o)
+
+unfoldable pub headGot : Got (Ids × Dialogue) → HeadRead
+headGot (got h n) = HeadRead.Got (origIn (h .0 .0)) (destIn (h .0 .1)) (h .1) n
+headGot (bad f) = HeadRead.Bad (faultField f)

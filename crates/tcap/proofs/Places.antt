@@ -17,7 +17,7 @@ use Rattle.element.specs.Element.{extendedOf}
 use Rattle.element.specs.Primitive.{identifierOk, integerOk, signedOf, mostIntegerOctets}
 use Rattle.element.specs.Fault.{numberOf, Text, Owner, portion, dialogue, component, Fault, fault, at, inDialogue, inComponent, withInvokeId, withOrigId}
 use Rattle.element.specs.Ask.{got, bad, Body, ask}
-use Rattle.element.specs.Parts.{Item, level, integerItem, bindBody, thenBody, lastBody, optBody, silently}
+use Rattle.element.specs.Parts.{Item, level, integerItem, aroundItem, mapItem, orItem, onlyBody, seriesBody, bindBody, thenBody, lastBody, optBody, silently}
 use Rattle.element.proofs.Ends.{outer, Ends, held, failed, the-held, the-failed, ends-next, ends-weaken, ends-check, ends-blamed, Plain, ends-ask}
 use Rattle.element.proofs.Laid.{Here, StandsAt, Laid, stop, stands-here, here-within, laid-wider, laid-append, laid-none, laid-each, nothing-ends, Claim, Keeps, Span, strung, ItemLaid, BodyLaid, leaf-laid, around-laid, kept-laid, item-weaken, map-laid, or-laid, bind-laid, only-laid, last-laid, opt-laid, map-body-laid, series-laid, series-unmarked, walk-laid}
 use Rattle.tcap.specs.declared.{Problem.Problem, Diagnostic.Diagnostic}
@@ -54,7 +54,7 @@ pub record FaultOk (m : List ℕ) (hi : ℕ) (f : Fault) : Type 0 where
   pub plain : Plain (kindOf f)
   pub origId : Maybe (λ t. StandsAt m (some 0x48, t)) (origOf f)
 
-claim : List ℕ → Claim
+pub claim : List ℕ → Claim
 claim m =
     record {
       Of = FaultOk m;
@@ -131,10 +131,10 @@ keeps-carried m o lo hi i = keeps-orig m [] o lo hi (rw append-nil i)
 -- Productions
 
 module _ (m : List ℕ) where
-  abbrev ItemReads : {L : Type 0} → Item L → (L → Strings) → Type 0
+  abbrev pub ItemReads : {L : Type 0} → Item L → (L → Strings) → Type 0
   ItemReads x S = ItemLaid m (claim m) x (strung m S)
 
-  abbrev BodyReads : {L : Type 0} → Body L → (L → Strings) → Type 0
+  abbrev pub BodyReads : {L : Type 0} → Body L → (L → Strings) → Type 0
   BodyReads b S = BodyLaid m (claim m) b (strung m S)
 
   plainly : Keeps (claim m) (λ f. f)
@@ -251,10 +251,13 @@ module _ (m : List ℕ) where
         (or-laid (around-laid 0xA4 reject-reads)
         (around-laid 0xA7 (result-reads notLast (λ i r. refl))))))
 
-    components-reads : ItemReads (componentsItem limit) (seriesStrings componentStrings)
+    pub rows-reads : BodyReads (seriesBody (componentAt limit) FaultKind.UnknownComponent (componentItem limit) none mostComponents 0) (seriesStrings componentStrings)
     unfolding seriesStrings numberOf
-    components-reads =
-        around-laid 0x6C (series-laid (componentAt limit) FaultKind.UnknownComponent mostComponents (λ k h. keeps-component m k h) refl (λ p. stop (omega arith)) (λ v ws lo mid hi i j. laid-append i j) component-reads none (λ v i. nothing-ends i) mostComponents 0 (omega arith))
+    rows-reads =
+        series-laid (componentAt limit) FaultKind.UnknownComponent mostComponents (λ k h. keeps-component m k h) refl (λ p. stop (omega arith)) (λ v ws lo mid hi i j. laid-append i j) component-reads none (λ v i. nothing-ends i) mostComponents 0 (omega arith)
+
+    components-reads : ItemReads (componentsItem limit) (seriesStrings componentStrings)
+    components-reads = around-laid 0x6C rows-reads
 
     info-reads : BodyReads (infoBody limit) (optionStrings (tagged 0xBE))
     unfolding extendedOf
@@ -301,14 +304,23 @@ module _ (m : List ℕ) where
         (bind-laid (levelAt limit 4) silently {T = Following} {U = strung m (λ v. dialogueStrings (v .1))} plainly (λ v lo hi i. plainly) (λ n d lo mid hi i j. j lo i) name-reads
         (λ n. only-laid (levelAt limit 4) plainly (held-reads n (same structured (n .1)) (same unstructured (n .1)))))
 
-    dialogue-reads : ItemReads (dialogueItem limit) dialogueStrings
-    dialogue-reads = around-laid 0x6B (only-laid (inside6B limit) (keeps-dialogue m) (around-laid 0x28 external-reads))
+    pub inside-reads : BodyReads (onlyBody (inside6B limit) (aroundItem 0x28 (externalBody limit))) dialogueStrings
+    inside-reads = only-laid (inside6B limit) (keeps-dialogue m) (around-laid 0x28 external-reads)
+
+    pub dialogue-reads : ItemReads (dialogueItem limit) dialogueStrings
+    dialogue-reads = around-laid 0x6B inside-reads
+
+    pub sole-rows-reads : BodyReads (onlyBody (levelAt limit 2) (componentsItem limit)) (seriesStrings componentStrings)
+    sole-rows-reads = only-laid (levelAt limit 2) plainly components-reads
+
+    pub last-rows-reads : BodyReads (lastBody (levelAt limit 2) (componentsItem limit)) (optionStrings (seriesStrings componentStrings))
+    last-rows-reads = last-reads (leftAt limit 2) components-reads
 
     tail-reads : BodyReads (tailBody limit) (λ v. restStrings (v .0) (v .1))
-    tail-reads = opt-reads dialogue-reads (map-body-laid (λ v. Option·getD v []) list-strings (last-reads (leftAt limit 2) components-reads))
+    tail-reads = opt-reads dialogue-reads (map-body-laid (λ v. Option·getD v []) list-strings last-rows-reads)
 
     uni-reads : BodyReads (uniBody limit) strings
-    uni-reads = map-body-laid (λ v. unidirectional (v .0) (v .1)) (λ v lo hi i. i) (opt-reads dialogue-reads (only-laid (levelAt limit 2) plainly components-reads))
+    uni-reads = map-body-laid (λ v. unidirectional (v .0) (v .1)) (λ v lo hi i. i) (opt-reads dialogue-reads sole-rows-reads)
 
     begin-reads : BodyReads (beginBody limit) strings
     begin-reads = map-body-laid (λ v. begin (v .0) (v .1 .0) (v .1 .1)) (λ v lo hi i. i) (bind-reads (leftAt limit 2) carried (keeps-carried m) orig-reads tail-reads)
@@ -321,11 +333,17 @@ module _ (m : List ℕ) where
         map-body-laid (λ v. continue (v .0) (v .1 .0) (v .1 .1 .0) (v .1 .1 .1)) (λ v lo hi i. i)
         (bind-reads (leftAt limit 2) carried (keeps-carried m) orig-reads (then-reads (leftAt limit 2) dest-reads tail-reads))
 
-    abort-reads : BodyReads (abortBody limit) strings
+    pub stop-reads : ItemReads (orItem (mapItem cause (octetItem 0x4A 4)) (mapItem says (dialogueItem limit))) endingStrings
     unfolding extendedOf
+    stop-reads = or-laid (map-laid cause (λ v lo hi i. i) (octet-reads 0x4A 4 refl)) (map-laid says (λ v lo hi i. i) dialogue-reads)
+
+    pub ending-reads : BodyReads (lastBody (levelAt limit 2) (orItem (mapItem cause (octetItem 0x4A 4)) (mapItem says (dialogueItem limit)))) (optionStrings endingStrings)
+    ending-reads = last-reads (leftAt limit 2) stop-reads
+
+    abort-reads : BodyReads (abortBody limit) strings
     abort-reads =
         map-body-laid (λ v. abort (v .0) (Option·getD (v .1) silent)) (λ v lo hi i. ending-strings (v .1) (destStrings (v .0)) lo hi i)
-        (then-reads (leftAt limit 2) dest-reads (last-reads (leftAt limit 2) (or-laid (map-laid cause (λ v lo hi i. i) (octet-reads 0x4A 4 refl)) (map-laid says (λ v lo hi i. i) dialogue-reads))))
+        (then-reads (leftAt limit 2) dest-reads ending-reads)
 
     message-reads : ItemReads (messageItem limit) strings
     message-reads = or-laid (around-laid 0x61 uni-reads) (or-laid (around-laid 0x62 begin-reads) (or-laid (around-laid 0x64 end-reads) (or-laid (around-laid 0x65 continue-reads) (around-laid 0x67 abort-reads))))

@@ -1,0 +1,88 @@
+-- `invoke_at` meets its contract. Assumes nothing.
+use borrow.Author.Needs.{needs}
+use Rattle.contents.proofs.invoke_at.Statement.{statement}
+use native.Mathlib.Omega.{arith}
+use mathlib.Core.Path.{refl, ap, _∙_}
+use lib.ListN.{length, length-drop}
+use Rattle.tcap.specs.WellFormed.{deepestLevel}
+use Rattle.fields.proofs.Fits.{fit-got, fits-got}
+use mathlib.Core.Option.{some}
+use mir.Syntax.{w8}
+use mir.Facts.{toZ-ofZ}
+use Rattle.element.specs.Element.{constructorOf}
+use Rattle.tcap.specs.declared.{InvokeId.InvokeId, ComponentKind.ComponentKind}
+use Rattle.tcap.specs.Record.{rowOf}
+use Rattle.fields.proofs.Told.{id-bad, id-got}
+use Rattle.contents.proofs.Joined.{bound-first, bound-later, bound-got}
+use Rattle.element.specs.Parts.{integerItem, optBody}
+use Rattle.tcap.specs.Meaning.{invoke}
+use Rattle.tcap.specs.Productions.{idItem, codeBody}
+use Rattle.contents.proofs.Told.{invoke-bad, invoke-got, bad-row, got-row}
+use Rattle.contents.proofs.Fitted.{id-fit, linked-fits}
+use Rattle.contents.proofs.invoke_at.Tie as tie
+
+octet-id-requires : tie.Need-octet-id-requires
+unfolding constructorOf
+octet-id-requires c κs = refl
+
+enum-known-fault : tie.Need-enum-known-fault
+enum-known-fault c = search needs
+
+enum-known-id : tie.Need-enum-known-id
+enum-known-id c = search needs
+
+add-here : tie.Need-add-here
+add-here c =
+    omega (arith, c .before .before .before .before .before .pre, fit-got _ _ _ _ _ (id-fit 0x02) (id-got _ _ (c .before .before .before .octet-id .ensures) _ _ (c .before .id .given .1)))
+
+after-requires : tie.Need-after-requires
+after-requires c κs = fit-got _ _ _ _ _ (id-fit 0x02) (id-got _ _ (c .before .before .before .octet-id .ensures) _ _ (c .before .id .given .1))
+
+invoke-rest-requires : tie.Need-invoke-rest-requires
+invoke-rest-requires c κs =
+    omega (arith, c .before .before .before .before .before .before .pre, fit-got _ _ _ _ _ (id-fit 0x02) (id-got _ _ (c .before .before .before .before .octet-id .ensures) _ _ (c .before .before .id .given .1)), simp length-drop at (ap length (c .after .ensures)))
+
+enum-known-fault-2 : tie.Need-enum-known-fault-2
+enum-known-fault-2 c = search needs
+
+with-id-requires : tie.Need-with-id-requires
+with-id-requires c κs = search needs
+
+enum-known-linked : tie.Need-enum-known-linked
+enum-known-linked c = search needs
+
+add-t23 : tie.Need-add-t23
+add-t23 c =
+    omega (arith, c .before .before .before .before .before .before .before .before .before .before .pre, fit-got _ _ _ _ _ (id-fit 0x02) (id-got _ _ (c .before .before .before .before .before .before .before .before .octet-id .ensures) _ _ (c .before .before .before .before .before .before .id .given .1)), fits-got _ _ _ linked-fits (invoke-got _ _ (c .before .before .before .invoke-rest .ensures) _ _ _ _ (c .before .linked .given .1)), simp length-drop at (ap length (c .before .before .before .before .after .ensures)))
+
+returns : tie.Need-returns
+returns c =
+    bad-row (bound-first some idItem (optBody (integerItem 0x80 1) (codeBody deepestLevel)) (λ v. invoke (v .0) (v .1 .0) (v .1 .1 .0) (v .1 .1 .1)) _ _ _ (id-bad _ _ (c .before .before .before .octet-id .ensures) _ (c .before .fault .given .1)))
+
+returns-2 : tie.Need-returns-2
+returns-2 c =
+    let first = (id-got _ _ (c .before .before .before .before .before .before .before .before .before .octet-id .ensures) _ _ (c .before .before .before .before .before .before .before .id .given .1)) in
+    bad-row (bound-later some idItem (optBody (integerItem 0x80 1) (codeBody deepestLevel)) (λ v. invoke (v .0) (v .1 .0) (v .1 .1 .0) (v .1 .1 .1)) _ _ _ first _ (c .before .before .before .before .before .after .ensures) _ (ap InvokeId.Id (toZ-ofZ {w = w8} {z = c .before .before .before .before .before .before .before .id .given .0 .0} (record { sfits = c .before .before .before .before .before .before .known-told2 .given .0 .1 }) ∙ first .2)) (c .with-id .ensures) (invoke-bad _ _ (c .before .before .before .before .invoke-rest .ensures) _ (c .before .before .fault2 .given .1)))
+
+returns-3 : tie.Need-returns-3
+returns-3 c =
+    rw (toZ-ofZ {w = w8} {z = c .before .before .before .before .before .before .id .given .0 .0} (record { sfits = c .before .before .before .before .before .known-told2 .given .0 .1 }))
+    (got-row (bound-got some idItem (optBody (integerItem 0x80 1) (codeBody deepestLevel)) (λ v. invoke (v .0) (v .1 .0) (v .1 .1 .0) (v .1 .1 .1)) _ _ _ (id-got _ _ (c .before .before .before .before .before .before .before .before .octet-id .ensures) _ _ (c .before .before .before .before .before .before .id .given .1)) _ (c .before .before .before .before .after .ensures) rowOf (λ i u. record { id = InvokeId.Id i; kind = ComponentKind.Invoke (u .0) (u .1 .0) (u .1 .1) }) (λ a b. refl) (invoke-got _ _ (c .before .before .before .invoke-rest .ensures) _ _ _ _ (c .before .linked .given .1))))
+
+pub invoke-at-spec : {M : Type 1} → statement M
+invoke-at-spec =
+    tie.close
+    (tie.spec
+    octet-id-requires
+    enum-known-fault
+    enum-known-id
+    add-here
+    after-requires
+    invoke-rest-requires
+    enum-known-fault-2
+    with-id-requires
+    enum-known-linked
+    add-t23
+    returns
+    returns-2
+    returns-3)

@@ -1,0 +1,36 @@
+-- What the readers of a component's contents answer, as their contracts cite it; the definition of reading rests on none of it.
+-- Assumes nothing: these are definitions.
+use mathlib.Core.{Bool.Bool, Bool.true, Bool.false, Bool.cond, Option.Option}
+use lib.{IntN.ℤ}
+use Rattle.element.specs.{Fault.Text, Ask.Got, Ask.got, Ask.bad}
+use Rattle.tcap.specs.{declared.InvokeId.InvokeId, declared.Returned.Returned, declared.ComponentKind.ComponentKind, Meaning.Code, Meaning.Component, Meaning.last, Meaning.notLast, Record.codeField, Record.spanField, Record.linkedField, Record.bothField, Record.rowOf}
+use Rattle.asking.specs.{declared.Fault.Fault, Asked.faultField}
+use Rattle.contents.specs.declared.{CodedRead.CodedRead, InvokeRead.InvokeRead, BothRead.BothRead, RowRead.RowRead}
+
+unfoldable pub codedGot : Got (Code Text × Option Text) → CodedRead
+codedGot (got v n) = CodedRead.Got (codeField (v .0)) (spanField (v .1)) n
+codedGot (bad f) = CodedRead.Bad (faultField f)
+
+unfoldable pub invokeGot : Got (Option ℤ × (Code Text × Option Text)) → InvokeRead
+invokeGot (got v n) = InvokeRead.Got (linkedField (v .0)) (codeField (v .1 .0)) (spanField (v .1 .1)) n
+invokeGot (bad f) = InvokeRead.Bad (faultField f)
+
+unfoldable pub bothGot : Got (Option (Code Text × Text)) → BothRead
+bothGot (got v n) = BothRead.Got (bothField v) n
+bothGot (bad f) = BothRead.Bad (faultField f)
+
+unfoldable pub rowGot : Got (Component Text) → RowRead
+rowGot (got c n) = RowRead.Got (rowOf c) n
+rowGot (bad f) = RowRead.Bad (faultField f)
+
+-- a fault that carries an invoke ID
+abbrev pub withId : InvokeId → Fault → Fault
+withId i f = record { kind = f .kind; place = f .place; owner = f .owner; id = i; orig = f .orig }
+
+-- the two results
+abbrev pub resultFor : Bool → ℤ → Option (Code Text × Text) → Component Text
+resultFor true = last
+resultFor false = notLast
+
+unfoldable pub resultField : Bool → Returned → ComponentKind
+resultField l r = cond l (ComponentKind.ResultLast r) (ComponentKind.ResultNotLast r)

@@ -1,0 +1,6 @@
+pub mod Leaves
+pub mod Peeks
+pub mod Plain
+pub mod Steps
+pub mod Told
+pub mod Fits

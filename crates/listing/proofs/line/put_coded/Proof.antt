@@ -1,0 +1,27 @@
+-- Field after field. Assumes nothing.
+use borrow.Author.Needs.{needs}
+use Rattle.base.proofs.Puts.{put-then}
+use Rattle.listing.specs.Listing.{codedText}
+use Rattle.listing.proofs.line.put_coded.Statement.{statement}
+use Rattle.listing.proofs.line.put_coded.Tie as tie
+
+put-linked-requires : tie.Need-put-linked-requires
+put-linked-requires c κs = search needs
+
+put-code-requires : tie.Need-put-code-requires
+put-code-requires c κs = search needs
+
+put-parameter-requires : tie.Need-put-parameter-requires
+put-parameter-requires c κs = search needs
+
+same-length : tie.Need-same-length
+same-length c = search needs
+
+returns : tie.Need-returns
+unfolding codedText
+returns c = put-then (put-then (c .before .before .before .before .before .before .before .before .before .before .put-linked .ensures) (c .before .before .before .before .before .before .put-code .ensures)) (c .before .before .put-parameter .ensures)
+
+pub put-coded-spec : {M : Type 1} → statement M
+put-coded-spec =
+    tie.close
+    (tie.spec put-linked-requires put-code-requires put-parameter-requires same-length returns)

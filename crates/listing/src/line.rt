@@ -1,0 +1,196 @@
+// The lines of a listing: the head, one for each component, or the refusal.
+ghost use mathlib.Core.Path.{_≡_};
+ghost use lib.ListN.{take};
+ghost use Rattle.base.specs.Put.{Put};
+ghost use Rattle.element.specs.Fault.{numberOf};
+ghost use Rattle.listing.specs.Fields.{answerText};
+ghost use Rattle.listing.specs.Listing.{codedText, returnedText, rejectText, partsText, rowText, rowsText, headText, refusalText};
+use crate::field::put_code;
+use crate::field::put_dialogue;
+use crate::field::put_ids;
+use crate::field::put_invoke_id;
+use crate::field::put_kind;
+use crate::field::put_linked;
+use crate::field::put_parameter;
+use crate::field::put_problem;
+use crate::field::put_word;
+use crate::number::put_decimal;
+use crate::number::put_number;
+use base::put_octet;
+use base::put_part;
+use element::FaultKind;
+use tcap::Answer;
+use tcap::Code;
+use tcap::ComponentKind;
+use tcap::LinkedId;
+use tcap::OptionalSpan;
+use tcap::Problem;
+use tcap::Record;
+use tcap::Refusal;
+use tcap::Returned;
+use tcap::Row;
+
+// Linked ID, code and parameter.
+fn put_coded(
+    out: &mut [u8],
+    at: usize,
+    message: &[u8],
+    linked: LinkedId,
+    code: Code,
+    parameter: OptionalSpan,
+) -> usize
+    ensures { λ r. ⌜ Put (now (out .entry)) at (codedText (now (message .entry)) linked code parameter) r (now (out .exit)) ⌝ }
+{
+    let a = put_linked(out, at, linked);
+    let b = put_code(out, a, message, code);
+    put_parameter(out, b, parameter)
+}
+
+fn put_returned(out: &mut [u8], at: usize, message: &[u8], returned: Returned) -> usize
+    ensures { λ r. ⌜ Put (now (out .entry)) at (returnedText (now (message .entry)) returned) r (now (out .exit)) ⌝ }
+{
+    match returned {
+        Returned::Bare => put_part(out, at, b" - - -"),
+        Returned::Both { code, parameter } => put_coded(
+            out,
+            at,
+            message,
+            LinkedId::Unlinked,
+            code,
+            OptionalSpan::Present(parameter),
+        ),
+    }
+}
+
+fn put_rejected(out: &mut [u8], at: usize, problem: Problem) -> usize
+    ensures { λ r. ⌜ Put (now (out .entry)) at (rejectText problem) r (now (out .exit)) ⌝ }
+{
+    let a = put_part(out, at, b" -");
+    let b = put_problem(out, a, problem);
+    put_part(out, b, b" -")
+}
+
+// What follows the invoke ID.
+fn put_parts(out: &mut [u8], at: usize, message: &[u8], kind: ComponentKind) -> usize
+    ensures { λ r. ⌜ Put (now (out .entry)) at (partsText (now (message .entry)) kind) r (now (out .exit)) ⌝ }
+{
+    match kind {
+        ComponentKind::Invoke {
+            linked,
+            code,
+            parameter,
+        } => put_coded(out, at, message, linked, code, parameter),
+        ComponentKind::ResultLast(returned) => put_returned(out, at, message, returned),
+        ComponentKind::ReturnError { code, parameter } => put_coded(
+            out,
+            at,
+            message,
+            LinkedId::Unlinked,
+            code,
+            parameter,
+        ),
+        ComponentKind::Reject(problem) => put_rejected(out, at, problem),
+        ComponentKind::ResultNotLast(returned) => put_returned(out, at, message, returned),
+    }
+}
+
+fn put_row(out: &mut [u8], at: usize, message: &[u8], index: usize, row: Row) -> usize
+    ensures { λ r. ⌜ Put (now (out .entry)) at (rowText (now (message .entry)) index row) r (now (out .exit)) ⌝ }
+{
+    let id = row.id;
+    let kind = row.kind;
+    let a = put_decimal(out, at, index);
+    let b = put_word(out, a, kind);
+    let c = put_invoke_id(out, b, id);
+    let d = put_parts(out, c, message, kind);
+    put_octet(out, d, b'\n')
+}
+
+// The first `count` rows of the sixteen.
+pub fn put_rows(out: &mut [u8], at: usize, message: &[u8], rows: [Row; 16], count: usize) -> usize
+    ensures { λ r. ⌜ Put (now (out .entry)) at (rowsText (now (message .entry)) 0 (take count rows)) r (now (out .exit)) ⌝ }
+{
+    let mut i = 0;
+    let mut o = at;
+    while i < 16 {
+        if count <= i {
+            return o;
+        }
+        let row = rows[i];
+        o = put_row(out, o, message, i, row);
+        i += 1;
+    }
+    o
+}
+
+pub fn put_head(out: &mut [u8], at: usize, message: &[u8], held: Record) -> usize
+    ensures { λ r. ⌜ Put (now (out .entry)) at (headText (now (message .entry)) held) r (now (out .exit)) ⌝ }
+{
+    let kind = held.kind;
+    let orig = held.orig;
+    let dest = held.dest;
+    let dialogue = held.dialogue;
+    let a = put_kind(out, at, kind);
+    let b = put_number(out, a, message.len());
+    let c = put_ids(out, b, message, orig, dest);
+    let d = put_dialogue(out, c, dialogue);
+    let e = put_number(out, d, held.count);
+    put_octet(out, e, b'\n')
+}
+
+// Document 01's number of a fault.
+fn fault_number(kind: FaultKind) -> usize
+    ensures { λ r. ⌜ r ≡ numberOf kind ⌝ }
+{
+    match kind {
+        FaultKind::CutOff => 1,
+        FaultKind::BadTag => 2,
+        FaultKind::BadLength => 3,
+        FaultKind::PassesEnd => 4,
+        FaultKind::TooDeep => 5,
+        FaultKind::CodeZero => 6,
+        FaultKind::Overlong => 7,
+        FaultKind::NoMessage => 8,
+        FaultKind::OctetsAfter => 9,
+        FaultKind::Missing => 10,
+        FaultKind::Another => 10,
+        FaultKind::TooMany => 10,
+        FaultKind::BadContents => 11,
+        FaultKind::Seventeenth => 12,
+        FaultKind::UnknownComponent => 13,
+    }
+}
+
+fn put_answer(out: &mut [u8], at: usize, answer: Answer) -> usize
+    ensures { λ r. ⌜ Put (now (out .entry)) at (answerText answer) r (now (out .exit)) ⌝ }
+{
+    match answer {
+        Answer::AbortCause(cause) => {
+            let a = put_part(out, at, b" cause");
+            put_number(out, a, cause as usize)
+        }
+        Answer::RejectProblem {
+            problem,
+            component,
+            id: _,
+        } => {
+            let a = put_part(out, at, b" problem");
+            let b = put_number(out, a, problem as usize);
+            let c = put_part(out, b, b" component");
+            put_number(out, c, component)
+        }
+    }
+}
+
+pub fn put_refusal(out: &mut [u8], at: usize, refusal: Refusal) -> usize
+    ensures { λ r. ⌜ Put (now (out .entry)) at (refusalText refusal) r (now (out .exit)) ⌝ }
+{
+    let kind = refusal.kind;
+    let answer = refusal.answer;
+    let number = fault_number(kind);
+    let a = put_part(out, at, b"refused");
+    let b = put_number(out, a, number);
+    let c = put_number(out, b, refusal.place);
+    let d = put_answer(out, c, answer);
+    put_octet(out, d, b'\n')
+}

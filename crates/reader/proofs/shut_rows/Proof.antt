@@ -1,0 +1,57 @@
+-- `shut_rows` meets its contract. Assumes nothing.
+use Rattle.reader.specs.Parts.{shutRows}
+use borrow.Author.Needs.{needs}
+use Rattle.reader.proofs.shut_rows.Statement.{statement}
+use Rattle.reader.proofs.shut_rows.Tie as tie
+
+close-at-requires : tie.Need-close-at-requires
+close-at-requires c κs = search needs
+
+enum-told : tie.Need-enum-told
+enum-told c = search needs
+
+enum-told-2 : tie.Need-enum-told-2
+enum-told-2 c = search needs
+
+found-requires : tie.Need-found-requires
+found-requires c κs = search needs
+
+no-rows-requires : tie.Need-no-rows-requires
+no-rows-requires c κs = search needs
+
+enum-known-kind : tie.Need-enum-known-kind
+enum-known-kind c = search needs
+
+found-requires-2 : tie.Need-found-requires-2
+found-requires-2 c κs = search needs
+
+no-rows-requires-2 : tie.Need-no-rows-requires-2
+no-rows-requires-2 c κs = search needs
+
+returns : tie.Need-returns
+unfolding shutRows
+returns c = rw (← (c .before .before .before .close-at .ensures), c .before .enum-told .given .1)
+
+returns-2 : tie.Need-returns-2
+unfolding shutRows
+returns-2 c = rw (← (c .before .before .before .before .close-at .ensures), c .before .before .enum-told2 .given .1, c .no-rows .ensures, c .before .found .ensures)
+
+returns-3 : tie.Need-returns-3
+unfolding shutRows
+returns-3 c = rw (← (c .before .before .before .before .before .close-at .ensures), c .before .before .before .kind .given .1, c .no-rows2 .ensures, c .before .found2 .ensures)
+
+pub shut-rows-spec : {M : Type 1} → statement M
+shut-rows-spec =
+    tie.close
+    (tie.spec
+    close-at-requires
+    enum-told
+    enum-told-2
+    found-requires
+    no-rows-requires
+    enum-known-kind
+    found-requires-2
+    no-rows-requires-2
+    returns
+    returns-2
+    returns-3)
