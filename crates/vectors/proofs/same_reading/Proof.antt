@@ -1,0 +1,44 @@
+-- The listing, and then what a refusal has beside it. Assumes nothing.
+use borrow.Author.Needs.{needs}
+use mathlib.Core.Path.{refl}
+use borrow.Author.Tests.{not-true, not-false}
+use Rattle.vectors.proofs.Telling.{denies, fails, also, accepted, refused}
+use Rattle.vectors.specs.Expected.{ReadingIs}
+use Rattle.vectors.proofs.same_reading.Statement.{statement}
+use Rattle.vectors.proofs.same_reading.Tie as tie
+
+same-listing-requires : tie.Need-same-listing-requires
+same-listing-requires c κs = search needs
+
+returns : tie.Need-returns
+unfolding ReadingIs
+returns c = denies (λ p. fails (c .before .same-listing .ensures .0, c .before .same-listing .ensures .1 (c .before .before .before .before .before .pre)) (not-true _ (c .if1 .taken)) (p .0))
+
+enum-told : tie.Need-enum-told
+enum-told c = search needs
+
+enum-known-outcome : tie.Need-enum-known-outcome
+enum-known-outcome c = search needs
+
+same-refusal-requires : tie.Need-same-refusal-requires
+same-refusal-requires c κs = search needs
+
+returns-2 : tie.Need-returns-2
+unfolding ReadingIs
+returns-2 c = also (c .before .before .before .same-listing .ensures .0 (not-false _ (c .before .before .if1 .left))) (λ _. accepted _ _ _ _ (c .enum-told .given .1), λ _. refl)
+
+returns-3 : tie.Need-returns-3
+unfolding ReadingIs
+returns-3 c = also (c .before .before .before .before .before .same-listing .ensures .0 (not-false _ (c .before .before .before .before .if1 .left))) (refused _ _ _ _ (c .before .before .outcome .given .1) (c .same-refusal .ensures))
+
+pub same-reading-spec : {M : Type 1} → statement M
+same-reading-spec =
+    tie.close
+    (tie.spec
+    same-listing-requires
+    returns
+    enum-told
+    enum-known-outcome
+    same-refusal-requires
+    returns-2
+    returns-3)
