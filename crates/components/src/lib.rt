@@ -1,19 +1,17 @@
 // The components: the contents of 6C.
 ghost use mathlib.Core.Path.{_≡_};
 ghost use mathlib.Core.Bool.{true};
-ghost use mathlib.Core.Option.{none};
 ghost use Prim.Native.Nat.{_+_, _≤_};
 ghost use lib.ListN.{length};
 ghost use Rattle.element.specs.declared.FaultKind.the-variants.{UnknownComponent};
 ghost use Rattle.element.specs.Ask.{ask};
-ghost use Rattle.element.specs.Parts.{seriesBody};
-ghost use Rattle.tcap.specs.WellFormed.{deepestLevel, mostComponents};
+ghost use Rattle.tcap.specs.WellFormed.{deepestLevel};
 ghost use Rattle.tcap.specs.Productions.{componentItem, componentAt};
 ghost use Rattle.tcap.specs.Record.{blankRow};
 ghost use Rattle.asking.specs.declared.Next.the-variants.{Tag};
 ghost use Rattle.asking.specs.Asked.{front, nextOf};
 ghost use Rattle.contents.specs.Contents.{rowGot};
-ghost use Rattle.components.specs.Rows.{ownedBy, bodyOf, refusedWith, componentsGot};
+ghost use Rattle.components.specs.Rows.{ownedBy, bodyOf};
 use asking::Entry;
 use asking::Fault;
 use asking::Next;
@@ -22,14 +20,12 @@ use asking::found;
 use asking::inner_at;
 use asking::next_at;
 use asking::whole_size;
-use base::after;
 use base::piece;
 use contents::RowRead;
 use contents::error_at;
 use contents::invoke_at;
 use contents::reject_at;
 use contents::result_at;
-use element::EndRead;
 use element::FaultKind;
 use tcap::Code;
 use tcap::ComponentKind;
@@ -37,17 +33,6 @@ use tcap::InvokeId;
 use tcap::LinkedId;
 use tcap::OptionalSpan;
 use tcap::Row;
-
-pub enum SeriesEnd {
-    Got(usize),
-    Bad(Fault),
-}
-
-pub struct Components {
-    pub end: SeriesEnd,
-    pub count: usize,
-    pub rows: [Row; 16],
-}
 
 // A fault of the component of this number.
 fn owned_by(fault: Fault, index: usize) -> Fault
@@ -152,7 +137,7 @@ pub fn component_at(part: &[u8], place: usize, index: usize) -> RowRead
 }
 
 // The row where there is no component.
-fn blank() -> Row
+pub fn blank() -> Row
     ensures { λ r. ⌜ r ≡ blankRow ⌝ }
 {
     Row {
@@ -162,63 +147,5 @@ fn blank() -> Row
             code: Code::Local(0),
             parameter: OptionalSpan::Absent,
         },
-    }
-}
-
-// A refusal has no rows.
-fn refused(fault: Fault) -> Components
-    ensures { λ r. ⌜ r ≡ refusedWith fault ⌝ }
-{
-    let row = blank();
-    let rows = [row; 16];
-    Components {
-        end: SeriesEnd::Bad(fault),
-        count: 0,
-        rows: rows,
-    }
-}
-
-// The contents of 6C: one component or more, at most 16.
-pub fn components_at(part: &[u8], place: usize, definite: bool) -> Components
-    requires { ⌜ place + length (now part) ≤ 4096 ⌝ }
-    ensures { λ r. ⌜ r ≡ componentsGot (ask (seriesBody (componentAt deepestLevel) UnknownComponent (componentItem deepestLevel) none mostComponents 0) definite place (now (part .entry))) ⌝ }
-{
-    let row = blank();
-    let mut rows = [row; 16];
-    let mut count: usize = 0;
-    let mut at: usize = 0;
-    loop {
-        let here = place + at;
-        let left = after(part, at);
-        match element::end_at(left, definite) {
-            EndRead::Ended => {
-                if count == 0 {
-                    return refused(found(FaultKind::Missing, here));
-                }
-                return Components {
-                    end: SeriesEnd::Got(at),
-                    count: count,
-                    rows: rows,
-                };
-            }
-            EndRead::Unfinished => {
-                return refused(found(FaultKind::CutOff, here));
-            }
-            EndRead::More => {
-                if count == 16 {
-                    return refused(found(FaultKind::Seventeenth, here));
-                }
-                match component_at(left, here, count) {
-                    RowRead::Bad(fault) => {
-                        return refused(fault);
-                    }
-                    RowRead::Got { row: next, size } => {
-                        rows[count] = next;
-                        count += 1;
-                        at += size;
-                    }
-                }
-            }
-        }
     }
 }

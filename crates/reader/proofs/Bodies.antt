@@ -17,8 +17,10 @@ use Rattle.tcap.specs.WellFormed.{deepestLevel}
 use Rattle.tcap.specs.Productions.{octetItem, origItem, destItem, carried, levelAt, componentsItem, dialogueItem, tailBody, uniBody, beginBody, endBody, continueBody, abortBody}
 use Rattle.tcap.specs.Record.{origField, destField, portionField, endingField, recordFrom, recordOf}
 use Rattle.asking.specs.Asked.{front}
+use Rattle.transaction.specs.Head.{Ids, carriedBy, origAsked, destAsked, idsOf, origIn, destIn}
+use Rattle.transaction.proofs.Firsts.{next-over}
 use Rattle.asking.proofs.Opened.{ask-map, ask-bind, ask-then, next-next, blamed-same, rest}
-use Rattle.reader.specs.Parts.{bodyOf, Ids, carriedBy, origAsked, destAsked, idsOf, Rest, tailOf, restOf, origIn, destIn, recordRead}
+use Rattle.reader.specs.Parts.{bodyOf, Rest, tailOf, restOf, recordRead}
 
 -- the IDs that a message has
 abbrev pub idsIn : Message Text → Ids
@@ -31,11 +33,6 @@ idsIn (abort e s) = (none, some e)
 -- what was read, as the code has it
 abbrev pub toRecord : Message Text → ℕ → Got (Ids × Record)
 toRecord v n = got (idsIn v, recordOf v) n
-
-pub next-over : {A B : Type 0} (x : Got A) (f g : A → ℕ → Got B) → ((a : A) (n : ℕ) → f a n ≡ g a n) → next x f ≡ next x g
-unfolding next
-next-over (got a n) f g h = h a n
-next-over (bad f) g h i = refl
 
 blamed-next : {A B : Type 0} (w : Fault → Fault) (x : Got A) (f : A → B) (m : ℕ → ℕ) → next (blamed w (next x (λ a n. got a (m n)))) (λ a n. got (f a) n) ≡ blamed w (next x (λ a n. got (f a) (m n)))
 unfolding next blamed

@@ -1,8 +1,5 @@
 pub mod Bodies
 pub mod Whole
-pub mod Ids
 pub mod Tails
-pub mod Portions
-pub mod Stops
-pub mod Taken
-pub mod Heads
+pub mod Gathered
+pub mod Rows

@@ -27,26 +27,9 @@ use Rattle.asking.specs.declared.{Next.Next}
 use Rattle.asking.specs.Asked.{front, onFront, onEnd, nextOf, begins}
 use Rattle.asking.proofs.Opened.{ask-map, next-next, rest}
 use Rattle.asking.proofs.Fronts.{opt-absent, opt-present}
-use Rattle.reader.specs.Parts.{Ids, carriedBy, idsOf, Rest, tailOf, restOf, origIn, destIn, recordRead, portionRead, portionFor, someRows, rowsFor, headOf}
-use Rattle.reader.proofs.Bodies.{next-over}
-
--- a tag of one octet, which is not 00, stands at the front
-not-ended : (d : Bool) (a : ℕ) (r : List ℕ) → (a ≡ 0 → ⊥) → endOf d (a ∷ r) ≡ EndRead.More
-unfolding endOf
-not-ended true a r n = refl
-not-ended false a [] n = rw (ne-eqb a 0 n)
-not-ended false a (y ∷ r) n = rw (ne-eqb a 0 n)
-
-at-front : (d : Bool) (a : ℕ) (r : List ℕ) → extendedOf a ≡ false → codeZero a ≡ false → (a ≡ 0 → ⊥) → nextOf d (a ∷ r) ≡ Next.Tag a 1
-unfolding nextOf onEnd frontOf fronted onFront IsTag
-at-front d a r e z n = rw (not-ended d a r n, tag-complete a [] r e, z)
-
-pub next-first : (d : Bool) (a : ℕ) (part : List ℕ) → extendedOf a ≡ false → codeZero a ≡ false → (a ≡ 0 → ⊥) → begins a part ≡ true → nextOf d part ≡ Next.Tag a 1
-unfolding begins
-next-first d a [] e z n h = absurd (false≢true h)
-next-first d a (x ∷ r) e z n h =
-    let q : x ≡ a = eqb-true x a (sym (ap (λ (t : Bool). not t && eqb x a) (ne-eqb (length (x ∷ r)) 0 (λ q. omega arith))) ∙ h) in
-    rw q (at-front d a r e z n)
+use Rattle.transaction.specs.Head.{Ids, carriedBy, idsOf, origIn, destIn, portionRead, portionFor, headOf}
+use Rattle.transaction.proofs.Firsts.{next-over, next-first}
+use Rattle.reader.specs.Parts.{Rest, tailOf, restOf, recordRead, someRows, rowsFor}
 
 -- 6B, and then what may follow it
 

@@ -8,16 +8,12 @@ use Rattle.tcap.specs.{declared.MessageKind.MessageKind, declared.OptionalOrig.
 use Rattle.tcap.specs.declared.Dialogue.{Dialogue}
 use Rattle.asking.specs.Asked.{front, faultField, innerOf, wholeOf, begins, leafOf, closeOf}
 use Rattle.asking.specs.declared.{Owner.Owner, Fault.Fault as FaultField, Entry.Entry, Field.Field, Next.Next, Closed.Closed}
-use Rattle.reader.specs.declared.{KindRead.KindRead, IdRead.IdRead, IdsRead.IdsRead, HeadRead.HeadRead}
-use Rattle.dialogue.specs.{declared.DialogueRead.DialogueRead, Reads.dialogueGot}
-use Rattle.components.specs.{declared.SeriesEnd.SeriesEnd, declared.Components.Components, Rows.componentsGot}
+use Rattle.transaction.specs.declared.{Head.Head}
+use Rattle.transaction.specs.Head.{Ids, carriedBy, idsOf, origIn, destIn, carriedField}
+use Rattle.reader.specs.declared.{KindRead.KindRead, Frame.Frame, Closing.Closing}
 use Rattle.tcap.specs.Meaning.{Dialogue as Dialogues}
 use Rattle.tcap.specs.Productions.{inside6B, externalBody}
-use Rattle.tcap.specs.WellFormed.{mostComponents}
-use Rattle.tcap.specs.Record.{rowOf, blankRow}
 use Rattle.element.specs.Parts.{aroundItem}
-use mathlib.Core.List.{map, _++_}
-use lib.ListN.{replicate}
 
 -- the body of each kind
 abbrev pub bodyOf : MessageKind → Body (Message Text)
@@ -34,28 +30,6 @@ tagFor MessageKind.End = 0x64
 tagFor MessageKind.Continue = 0x65
 tagFor MessageKind.Abort = 0x67
 
-abbrev pub Ids : Type 0
-Ids = Option (Originating Text) × Option (Destination Text)
-
-abbrev pub carriedBy : Ids → Fault → Fault
-carriedBy (none, e) f = f
-carriedBy (some o, e) f = carried o f
-
-module _ (d : Bool) (p : ℕ) (part : List ℕ) where
-  abbrev pub origAsked : Got (Originating Text)
-  origAsked = ask (front (levelAt deepestLevel 2) FaultKind.Another origItem) d p part
-
-  abbrev pub destAsked : Got (Destination Text)
-  destAsked = ask (front (levelAt deepestLevel 2) FaultKind.Another destItem) d p part
-
--- the IDs that the kind has
-unfoldable pub idsOf : MessageKind → Bool → ℕ → List ℕ → Got Ids
-idsOf MessageKind.Unidirectional d p part = got (none, none) 0
-idsOf MessageKind.Begin d p part = next (origAsked d p part) (λ o n. got (some o, none) n)
-idsOf MessageKind.End d p part = next (destAsked d p part) (λ e n. got (none, some e) n)
-idsOf MessageKind.Continue d p part = next (origAsked d p part) (λ o n. blamed (carried o) (next (destAsked d (p + n) (drop n part)) (λ e k. got (some o, some e) (n + k))))
-idsOf MessageKind.Abort d p part = next (destAsked d p part) (λ e n. got (none, some e) n)
-
 abbrev pub Rest : Type 0
 Rest = Dialogue × List (Component Text)
 
@@ -69,12 +43,6 @@ restOf MessageKind.Begin d p part = tailOf d p part
 restOf MessageKind.End d p part = tailOf d p part
 restOf MessageKind.Continue d p part = tailOf d p part
 restOf MessageKind.Abort d p part = next (ask (lastBody (levelAt deepestLevel 2) (orItem (mapItem cause (octetItem 0x4A 4)) (mapItem says (dialogueItem deepestLevel)))) d p part) (λ v n. got (endingField (Option·getD v silent), []) n)
-
-abbrev pub origIn : Option (Originating Text) → OptionalOrig
-origIn o = Option·getD (Option·map origField o) OptionalOrig.NoOrig
-
-abbrev pub destIn : Option (Destination Text) → OptionalDest
-destIn e = Option·getD (Option·map destField e) OptionalDest.NoDest
 
 -- the record of a message, with the IDs it has
 unfoldable pub recordRead : MessageKind → Bool → ℕ → List ℕ → Got (Ids × Record)
@@ -135,38 +103,7 @@ readMessage m =
     (cond (eqb (length m) 0) (refusedBy (faultField (at FaultKind.CutOff 0)))
     (readKind m (kindOf (getD m 0 0))))
 
--- What the readers of the IDs answer
-
-unfoldable pub idGot : Got Text → IdRead
-idGot (got t n) = IdRead.Got (spanOf t) n
-idGot (bad f) = IdRead.Bad (faultField f)
-
-unfoldable pub idsGot : Got Ids → IdsRead
-idsGot (got i n) = IdsRead.Got (origIn (i .0)) (destIn (i .1)) n
-idsGot (bad f) = IdsRead.Bad (faultField f)
-
--- a fault after the originating ID
-abbrev pub givenOrig : FaultField → OptionalOrig → FaultField
-givenOrig f o = record { kind = f .kind; place = f .place; owner = f .owner; id = f .id; orig = o }
-
-abbrev pub origFrom : Span → OptionalOrig
-origFrom s = OptionalOrig.Orig (record { 0 = record { octets = s } })
-
-abbrev pub destFrom : Span → OptionalDest
-destFrom s = OptionalDest.Dest (record { 0 = record { octets = s } })
-
--- The rest in the order of the code: 6B if it stands here (of an Abort 4A or 6B), then the components
-
-unfoldable pub portionRead : Bool → ℕ → List ℕ → Got Dialogue
-portionRead d p part =
-    cond (begins 0x6B part) (next (ask (front (levelAt deepestLevel 2) FaultKind.Another (dialogueItem deepestLevel)) d p part) (λ v n. got (dialogueField v) n)) (got Dialogue.NoDialogue 0)
-
-unfoldable pub portionFor : MessageKind → Bool → ℕ → List ℕ → Got Dialogue
-portionFor MessageKind.Unidirectional d p part = portionRead d p part
-portionFor MessageKind.Begin d p part = portionRead d p part
-portionFor MessageKind.End d p part = portionRead d p part
-portionFor MessageKind.Continue d p part = portionRead d p part
-portionFor MessageKind.Abort d p part = next (ask (lastBody (levelAt deepestLevel 2) (orItem (mapItem cause (octetItem 0x4A 4)) (mapItem says (dialogueItem deepestLevel)))) d p part) (λ v n. got (endingField (Option·getD v silent)) n)
+-- The rest of a message: its components, then nothing
 
 unfoldable pub someRows : Bool → ℕ → List ℕ → Got (List (Component Text))
 someRows d p part = next (ask (lastBody (levelAt deepestLevel 2) (componentsItem deepestLevel)) d p part) (λ v n. got (Option·getD v []) n)
@@ -178,61 +115,24 @@ rowsFor MessageKind.End d p part = someRows d p part
 rowsFor MessageKind.Continue d p part = someRows d p part
 rowsFor MessageKind.Abort d p part = got [] 0
 
-unfoldable pub headOf : MessageKind → Bool → ℕ → List ℕ → Got (Ids × Dialogue)
-headOf k d p part = next (idsOf k d p part) (λ i n. blamed (carriedBy i) (next (portionFor k d (p + n) (drop n part)) (λ l c. got (i, l) (n + c))))
+-- how a message ends whose contents have n octets before 6C, which takes s
+unfoldable pub closingOf : Frame → ℕ → ℕ → Closed → Closing
+closingOf f n s Closed.Done =
+    let w = wholeOf (f .start) (f .end) (f .definite) (n + s) in
+    cond (eqb w (f .len)) Closing.Whole (Closing.Bad (faultField (at FaultKind.OctetsAfter w)))
+closingOf f n s Closed.Unfinished = Closing.Bad (faultField (at FaultKind.CutOff (f .start + n + s)))
+closingOf f n s (Closed.Bad k) = Closing.Bad (faultField (at k (f .start + n + s)))
 
--- What the readers of the rest answer
+unfoldable pub closedWith : Head → List (Component Text) → Closing → Reading
+closedWith h cs Closing.Whole = acceptedWith (recordFrom (h .kind) (h .orig) (h .dest) (h .dialogue) cs)
+closedWith h cs (Closing.Bad g) = refusedBy (carriedField (h .orig) g)
 
-abbrev pub blankWith : SeriesEnd → Components
-blankWith e = record { end = e; count = 0; rows = replicate mostComponents blankRow }
+-- the reading, once the contents of 6C have been read: m k octets of `rest` are 6C, if k were read
+unfoldable pub gathered : Head → Frame → ℕ → List ℕ → (ℕ → ℕ) → Got (List (Component Text)) → Reading
+gathered h f n rest m (got cs k) = closedWith h cs (closingOf f n (m k) (closeOf (f .definite) (drop (m k) rest)))
+gathered h f n rest m (bad g) = refusedBy (carriedField (h .orig) (faultField g))
 
-unfoldable pub portionGot : Got Dialogue → DialogueRead
-portionGot (got l n) = DialogueRead.Got l n
-portionGot (bad f) = DialogueRead.Bad (faultField f)
-
--- 6B whose contents are where the entry says
-unfoldable pub resized : (ℕ → ℕ) → DialogueRead → DialogueRead
-resized m (DialogueRead.Got l n) = DialogueRead.Got l (m n)
-resized m (DialogueRead.Bad f) = DialogueRead.Bad f
-
-unfoldable pub portionIn : ℕ → List ℕ → Entry → DialogueRead
-portionIn p part (Entry.Bad k) = DialogueRead.Bad (faultField (at k p))
-portionIn p part (Entry.Open u e f) = resized (wholeOf u e f) (dialogueGot (ask (onlyBody (inside6B deepestLevel) (aroundItem 0x28 (externalBody deepestLevel))) f (p + u) (take (e - u) (drop u part))))
-
--- 4A whose contents are where the field says
-unfoldable pub causeIn : ℕ → List ℕ → Field → DialogueRead
-causeIn p part (Field.Bad k) = DialogueRead.Bad (faultField (at k p))
-causeIn p part (Field.Contents u n) =
-    cond (eqb n 1) (cond (leb (getD part u 0) 4) (DialogueRead.Got (Dialogue.Cause (getD part u 0)) (u + n)) (DialogueRead.Bad (faultField (at FaultKind.BadContents p)))) (DialogueRead.Bad (faultField (at FaultKind.BadContents p)))
-
--- what an Abort may end with
-unfoldable pub stopIn : ℕ → List ℕ → Next → DialogueRead
-stopIn p part Next.Ended = DialogueRead.Bad (faultField (at FaultKind.Missing p))
-stopIn p part Next.Unfinished = DialogueRead.Bad (faultField (at FaultKind.CutOff p))
-stopIn p part (Next.Fault k) = DialogueRead.Bad (faultField (at k p))
-stopIn p part (Next.Tag a s) =
-    cond (eqb a 0x4A) (causeIn p part (leafOf part s)) (cond (eqb a 0x6B) (portionIn p part (innerOf part 1)) (DialogueRead.Bad (faultField (at FaultKind.Another p))))
-
-unfoldable pub shutIn : ℕ → Dialogue → ℕ → Closed → DialogueRead
-shutIn p l n Closed.Done = DialogueRead.Got l n
-shutIn p l n Closed.Unfinished = DialogueRead.Bad (faultField (at FaultKind.CutOff p))
-shutIn p l n (Closed.Bad k) = DialogueRead.Bad (faultField (at k p))
-
--- and nothing after it
-unfoldable pub endingIn : Bool → ℕ → List ℕ → DialogueRead → DialogueRead
-endingIn d p part (DialogueRead.Bad f) = DialogueRead.Bad f
-endingIn d p part (DialogueRead.Got l n) = shutIn (p + n) l n (closeOf d (drop n part))
-
-unfoldable pub shutRows : ℕ → Components → ℕ → Closed → Components
-shutRows p r n Closed.Done = record { end = SeriesEnd.Got n; count = r .count; rows = r .rows }
-shutRows p r n Closed.Unfinished = blankWith (SeriesEnd.Bad (faultField (at FaultKind.CutOff p)))
-shutRows p r n (Closed.Bad k) = blankWith (SeriesEnd.Bad (faultField (at k p)))
-
--- a fault behind the IDs
-unfoldable pub carriedField : OptionalOrig → FaultField → FaultField
-carriedField OptionalOrig.NoOrig f = f
-carriedField (OptionalOrig.Orig o) f = givenOrig f (OptionalOrig.Orig o)
-
-unfoldable pub headGot : Got (Ids × Dialogue) → HeadRead
-headGot (got h n) = HeadRead.Got (origIn (h .0 .0)) (destIn (h .0 .1)) (h .1) n
-headGot (bad f) = HeadRead.Bad (faultField f)
+-- the reading, once all behind the head has been read
+unfoldable pub rowsRead : Head → Frame → ℕ → Got (List (Component Text)) → Reading
+rowsRead h f n (got cs k) = closedWith h cs (closingOf f n k Closed.Done)
+rowsRead h f n (bad g) = refusedBy (carriedField (h .orig) (faultField g))

@@ -3,26 +3,11 @@ use mathlib.Core.Path.{sym, ap, _∙_}
 use native.Mathlib.Omega.{arith}
 use native.Mathlib.Nat.{zero-add}
 use lib.ListN.{length, length-take, length-drop}
+use borrow.Author.Needs.{needs}
 use Rattle.asking.proofs.Sizes.{inner-size}
 use Rattle.reader.specs.Parts.{readAs}
-use borrow.Author.Needs.{needs}
 use Rattle.reader.proofs.message_at.Statement.{statement}
 use Rattle.reader.proofs.message_at.Tie as tie
-
-inner-at-requires : tie.Need-inner-at-requires
-inner-at-requires c κs = search needs
-
-enum-known-fault : tie.Need-enum-known-fault
-enum-known-fault c = search needs
-
-found-requires : tie.Need-found-requires
-found-requires c κs = search needs
-
-refused-requires : tie.Need-refused-requires
-refused-requires c κs = search needs
-
-enum-known-at : tie.Need-enum-known-at
-enum-known-at c = search needs
 
 sub-piece : tie.Need-sub-piece
 sub-piece c = omega (arith, inner-size _ _ (c .before .before .before .before .before .pre .1) _ _ _ (sym (c .before .before .before .inner-at .ensures) ∙ c .before .at .given .1))
@@ -40,6 +25,21 @@ returns c = rw (← (c .before .before .before .before .before .inner-at .ensure
 returns-2 : tie.Need-returns-2
 unfolding readAs
 returns-2 c = rw (← (c .before .before .before .before .before .inner-at .ensures), c .before .before .before .at .given .1, ← (c .before .piece .ensures), zero-add (c .before .before .before .at .given .0 .0)) (c .record-at .ensures)
+
+inner-at-requires : tie.Need-inner-at-requires
+inner-at-requires c κs = search needs
+
+enum-known-fault : tie.Need-enum-known-fault
+enum-known-fault c = search needs
+
+found-requires : tie.Need-found-requires
+found-requires c κs = search needs
+
+refused-requires : tie.Need-refused-requires
+refused-requires c κs = search needs
+
+enum-known-at : tie.Need-enum-known-at
+enum-known-at c = search needs
 
 pub message-at-spec : {M : Type 1} → statement M
 message-at-spec =

@@ -1,15 +1,32 @@
 -- `refused` meets its contract. Assumes nothing.
-use Rattle.reader.specs.Parts.{refusedBy}
 use borrow.Author.Needs.{needs}
+use Rattle.reader.specs.Parts.{refusedBy}
+use Rattle.reader.proofs.Gathered.{blank-set}
 use Rattle.reader.proofs.refused.Statement.{statement}
 use Rattle.reader.proofs.refused.Tie as tie
+
+returns : tie.Need-returns
+unfolding refusedBy
+returns c = rw (c .before .before .refusal-of .ensures, c .before .blank .ensures, blank-set 16)
 
 refusal-of-requires : tie.Need-refusal-of-requires
 refusal-of-requires c κs = search needs
 
-returns : tie.Need-returns
-unfolding refusedBy
-returns c = rw (c .refusal-of .ensures)
+blank-requires : tie.Need-blank-requires
+blank-requires c κs = search needs
+
+mul-rows : tie.Need-mul-rows
+mul-rows c = search needs
+
+array-set-from-rows : tie.Need-array-set-from-rows
+array-set-from-rows c = search needs
 
 pub refused-spec : {M : Type 1} → statement M
-refused-spec = tie.close (tie.spec refusal-of-requires returns)
+refused-spec =
+    tie.close
+    (tie.spec
+    refusal-of-requires
+    blank-requires
+    mul-rows
+    array-set-from-rows
+    returns)

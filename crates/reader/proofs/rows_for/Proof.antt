@@ -1,9 +1,32 @@
 -- `rows_for` meets its contract. Assumes nothing.
-use Rattle.components.specs.Rows.{componentsGot}
-use Rattle.reader.specs.Parts.{rowsFor}
+use native.Mathlib.Omega.{arith}
 use borrow.Author.Needs.{needs}
+use Rattle.reader.specs.Parts.{rowsFor}
 use Rattle.reader.proofs.rows_for.Statement.{statement}
 use Rattle.reader.proofs.rows_for.Tie as tie
+
+bare-requires : tie.Need-bare-requires
+bare-requires c κs = omega (arith, c .before .before .before .pre)
+
+returns : tie.Need-returns
+unfolding rowsFor
+returns c = rw (c .before .enum-told .given .1) (c .rows-at .ensures)
+
+returns-2 : tie.Need-returns-2
+unfolding rowsFor
+returns-2 c = rw (c .before .enum-told2 .given .1) (c .some-rows .ensures)
+
+returns-3 : tie.Need-returns-3
+unfolding rowsFor
+returns-3 c = rw (c .before .enum-told3 .given .1) (c .some-rows2 .ensures)
+
+returns-4 : tie.Need-returns-4
+unfolding rowsFor
+returns-4 c = rw (c .before .enum-told4 .given .1) (c .some-rows3 .ensures)
+
+returns-5 : tie.Need-returns-5
+unfolding rowsFor
+returns-5 c = rw (c .before .enum-told5 .given .1) (c .bare .ensures)
 
 enum-told : tie.Need-enum-told
 enum-told c = search needs
@@ -32,29 +55,6 @@ some-rows-requires-3 c κs = search needs
 enum-told-5 : tie.Need-enum-told-5
 enum-told-5 c = search needs
 
-blank-rows-requires : tie.Need-blank-rows-requires
-blank-rows-requires c κs = search needs
-
-returns : tie.Need-returns
-unfolding rowsFor
-returns c = rw (c .before .enum-told .given .1) (c .rows-at .ensures)
-
-returns-2 : tie.Need-returns-2
-unfolding rowsFor
-returns-2 c = rw (c .before .enum-told2 .given .1) (c .some-rows .ensures)
-
-returns-3 : tie.Need-returns-3
-unfolding rowsFor
-returns-3 c = rw (c .before .enum-told3 .given .1) (c .some-rows2 .ensures)
-
-returns-4 : tie.Need-returns-4
-unfolding rowsFor
-returns-4 c = rw (c .before .enum-told4 .given .1) (c .some-rows3 .ensures)
-
-returns-5 : tie.Need-returns-5
-unfolding rowsFor componentsGot
-returns-5 c = rw (c .before .enum-told5 .given .1) (c .blank-rows .ensures)
-
 pub rows-for-spec : {M : Type 1} → statement M
 rows-for-spec =
     tie.close
@@ -68,7 +68,7 @@ rows-for-spec =
     enum-told-4
     some-rows-requires-3
     enum-told-5
-    blank-rows-requires
+    bare-requires
     returns
     returns-2
     returns-3

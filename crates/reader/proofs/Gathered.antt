@@ -1,0 +1,193 @@
+-- The loop over the components: the rows of those that were read, and then those of the rest. Assumes nothing.
+use Prim.Native.Nat.{ℕ, zero, suc, _+_, _-_, _≤_, _<_}
+use native.Mathlib.Omega.{arith}
+use native.Mathlib.Nat.{add-zero, zero-add, add-assoc}
+use mathlib.Core.Path.{_≡_, refl, sym, ap, ap₂, _∙_}
+use mathlib.Core.Bool.{Bool, true, false, cond}
+use mathlib.Core.List.{List, [], _∷_, _++_, map, append-nil}
+use mathlib.Core.Option.{Option, none, some}
+use lib.ListN.{length, take, drop, set, replicate, length-map, take-append-drop}
+use lib.Seq.{drop-drop, take-suc-set, append-snoc, drop-set-lt, length-take-le}
+use lib.Dec.{eqb}
+use borrow.Author.Tests.{eq-eqb, ne-eqb}
+use Rattle.element.specs.declared.{FaultKind.FaultKind, EndRead.EndRead}
+use Rattle.element.specs.Fault.{Text, at}
+use Rattle.element.specs.Head.{endOf}
+use Rattle.element.specs.Ask.{Got, got, bad, next, Body, ask}
+use Rattle.element.specs.Parts.{seriesBody}
+use Rattle.element.proofs.Asking.{ask-ends, ask-missing, ask-unfinished, ask-full}
+use Rattle.tcap.specs.declared.Row.{Row}
+use Rattle.tcap.specs.Meaning.{Component}
+use Rattle.tcap.specs.WellFormed.{deepestLevel, mostComponents}
+use Rattle.tcap.specs.Productions.{componentItem, componentAt}
+use Rattle.tcap.specs.Record.{rowOf, blankRow}
+use Rattle.asking.specs.declared.Fault.{Fault}
+use Rattle.asking.specs.Asked.{faultField}
+use Rattle.asking.proofs.Opened.{rest}
+use Rattle.asking.proofs.Fronts.{series-more}
+use Rattle.fields.proofs.Plain.{front-more}
+use Rattle.fields.proofs.Steps.{Failed, Gives, more-not}
+use Rattle.components.proofs.Chosen.{component-here}
+use Rattle.tcap.specs.declared.Reading.{Reading}
+use Rattle.asking.specs.Asked.{closeOf, wholeOf}
+use Rattle.transaction.proofs.Taken.{whole-within}
+use Rattle.transaction.specs.declared.{Head.Head}
+use Rattle.transaction.specs.Head.{carriedField}
+use Rattle.reader.specs.declared.{Frame.Frame, Closing.Closing}
+use Rattle.reader.specs.Parts.{refusedBy, acceptedWith, closingOf, closedWith, gathered}
+
+-- the first must be there
+abbrev endsAt : ℕ → Option (List (Component Text))
+endsAt k = cond (eqb k 0) none (some [])
+
+abbrev bodyAt : Option (List (Component Text)) → ℕ → ℕ → Body (List (Component Text))
+bodyAt e room k = seriesBody (componentAt deepestLevel) FaultKind.UnknownComponent (componentItem deepestLevel) e room k
+
+-- rows, and those of the components that follow after `at` octets
+unfoldable rowsThen : List Row → ℕ → Got (List (Component Text)) → Got (List Row)
+rowsThen l at (got cs n) = got (l ++ map rowOf cs) (at + n)
+rowsThen l at (bad f) = bad f
+
+pub record Left (d : Bool) (p : ℕ) (part : List ℕ) (rows : List Row) (count i : ℕ) : Type 0 where
+  same : rowsThen [] 0 (ask (bodyAt none mostComponents 0) d p part) ≡ rowsThen (take count rows) i (ask (bodyAt (endsAt count) (mostComponents - count) count) d (p + i) (drop i part))
+
+-- as handed out
+unfoldable pub closedAs : Head → ℕ → List Row → Closing → Reading
+closedAs h n rows Closing.Whole = acceptedWith (record { kind = h .kind; orig = h .orig; dest = h .dest; dialogue = h .dialogue; count = n; rows = rows })
+closedAs h n rows (Closing.Bad g) = refusedBy (carriedField (h .orig) g)
+
+-- the end, whatever room there is
+ended-by : (room k : ℕ) (e : Option (List (Component Text))) → bodyAt e room k .ends ≡ e
+unfolding seriesBody
+ended-by zero k e = refl
+ended-by (suc room) k e = refl
+
+-- what is no end in contents of the indefinite form is none in the definite
+more-true : (d : Bool) (part : List ℕ) → endOf d part ≡ EndRead.More → endOf true part ≡ EndRead.More
+unfolding endOf
+more-true true part e = e
+more-true false [] e = let z : _≡_ {A = ℕ} 0 1 = cc in absurd (omega arith)
+more-true false (x ∷ r) e = refl
+
+module _ (h : Head) (f : Frame) (n : ℕ) (behind : List ℕ) (m : ℕ → ℕ) where
+  abbrev closes : ℕ → Closing
+  closes k = closingOf f n (m k) (closeOf (f .definite) (drop (m k) behind))
+
+  unfoldable handed : Got (List Row) → Reading
+  handed (got l k) = closedAs h (length l) (l ++ replicate (mostComponents - length l) blankRow) (closes k)
+  handed (bad g) = refusedBy (carriedField (h .orig) (faultField g))
+
+  closed-same : (cs : List (Component Text)) (c : Closing) → closedWith h cs c ≡ closedAs h (length (map rowOf cs)) (map rowOf cs ++ replicate (mostComponents - length (map rowOf cs)) blankRow) c
+  unfolding closedWith closedAs
+  closed-same cs Closing.Whole = rw (length-map cs rowOf)
+  closed-same cs (Closing.Bad g) = refl
+
+  handed-rows : (x : Got (List (Component Text))) → gathered h f n behind m x ≡ handed (rowsThen [] 0 x)
+  unfolding gathered handed rowsThen
+  handed-rows (got cs k) = rw (zero-add k) (closed-same cs (closes k))
+  handed-rows (bad g) = refl
+
+module _ (d : Bool) (p : ℕ) (part : List ℕ) (rows : List Row) (count i : ℕ) (left : Left d p part rows count i) (q : List ℕ) (cut : q ≡ drop i part) where
+  abbrev all : Got (List (Component Text))
+  all = ask (bodyAt none mostComponents 0) d p part
+
+  abbrev more : Got (List (Component Text))
+  more = ask (bodyAt (endsAt count) (mostComponents - count) count) d (p + i) (drop i part)
+
+  -- a fault ends it
+  pub refused-by : {g : Fault} (h : Head) (f : Frame) (n : ℕ) (behind : List ℕ) (m : ℕ → ℕ) (r : Reading) → r ≡ refusedBy (carriedField (h .orig) g) → Failed more g → r ≡ gathered h f n behind m all
+  unfolding handed rowsThen
+  refused-by h f n behind m r is (g, e, j) =
+      is ∙ ap (λ (x : Fault). refusedBy (carriedField (h .orig) x)) j ∙ sym (handed-rows h f n behind m all ∙ ap (handed h f n behind m) (left .same ∙ ap (rowsThen (take count rows) i) e))
+
+  module _ (r : EndRead) (is : r ≡ endOf d q) where
+    told : (e : EndRead) → r ≡ e → endOf d (drop i part) ≡ e
+    told e h = ap (endOf d) (sym cut) ∙ sym is ∙ h
+
+    pub more-missing : r ≡ EndRead.Ended → count ≡ 0 → more ≡ bad (at FaultKind.Missing (p + i))
+    more-missing e z = ask-missing (bodyAt (endsAt count) (mostComponents - count) count) d (p + i) (drop i part) (told EndRead.Ended e) (ended-by (mostComponents - count) count (endsAt count) ∙ rw (eq-eqb count 0 z))
+
+    pub more-unfinished : r ≡ EndRead.Unfinished → more ≡ bad (at FaultKind.CutOff (p + i))
+    more-unfinished e = ask-unfinished (bodyAt (endsAt count) (mostComponents - count) count) d (p + i) (drop i part) (told EndRead.Unfinished e)
+
+    pub more-full : r ≡ EndRead.More → count ≡ 16 → more ≡ bad (at FaultKind.Seventeenth (p + i))
+    unfolding seriesBody
+    more-full e z =
+        let none-left : mostComponents - count ≡ 0 = omega arith in
+        ask-full (bodyAt (endsAt count) (mostComponents - count) count) d (p + i) (drop i part) (told EndRead.More e) (rw none-left)
+
+    -- the last has been read
+    pub handed-out : (h : Head) (f : Frame) (n : ℕ) (behind : List ℕ) (m : ℕ → ℕ) → r ≡ EndRead.Ended → (count ≡ 0 → ⊥) → count ≤ 16 → length rows ≡ 16 → drop count rows ≡ replicate (16 - count) blankRow
+        → gathered h f n behind m all ≡ closedAs h count rows (closingOf f n (m i) (closeOf (f .definite) (drop (m i) behind)))
+    unfolding handed rowsThen
+    handed-out h f n behind m e z k sixteen blanks =
+        let l : length (take count rows) ≡ count = length-take-le count rows (omega arith) in
+        let g : more ≡ got [] 0 = ask-ends (bodyAt (endsAt count) (mostComponents - count) count) d (p + i) (drop i part) [] (told EndRead.Ended e) (ended-by (mostComponents - count) count (endsAt count) ∙ rw (ne-eqb count 0 z)) in
+        handed-rows h f n behind m all ∙ ap (handed h f n behind m) (left .same ∙ ap (rowsThen (take count rows) i) g) ∙ rw (append-nil, l, add-zero, ← blanks, take-append-drop)
+
+    -- one more
+    module _ (e : r ≡ EndRead.More) (few : count < 16) where
+      abbrev after-one : ℕ → List ℕ → Component Text → ℕ → Got (List (Component Text))
+      after-one place c = rest (λ a. bodyAt (some []) (mostComponents - suc count) (suc count)) (λ a ws. a ∷ ws) d place c
+
+      more-is : more ≡ next (component-here count true (p + i) q) (after-one (p + i) q)
+      more-is =
+          let room : mostComponents - count ≡ suc (mostComponents - suc count) = omega arith in
+          let w = told EndRead.More e in
+          ap (λ (k : ℕ). ask (bodyAt (endsAt count) k count) d (p + i) (drop i part)) room
+          ∙ series-more (componentAt deepestLevel) FaultKind.UnknownComponent (componentItem deepestLevel) (endsAt count) count d (p + i) (drop i part) (mostComponents - suc count) (more-not w)
+          ∙ ap (λ (z : Got (Component Text)). next z (after-one (p + i) (drop i part)))
+          (front-more (componentAt deepestLevel count) FaultKind.UnknownComponent (componentItem deepestLevel) (p + i) (drop i part) d w
+          ∙ sym (front-more (componentAt deepestLevel count) FaultKind.UnknownComponent (componentItem deepestLevel) (p + i) (drop i part) true (more-true d (drop i part) w)))
+          ∙ ap (λ (c : List ℕ). next (component-here count true (p + i) c) (after-one (p + i) c)) (sym cut)
+
+      pub more-bad : {f : Fault} → Failed (component-here count true (p + i) q) f → Failed more f
+      unfolding next
+      more-bad (g, h, j) = (g, more-is ∙ rw h, j)
+
+      module _ (row : Row) (n : ℕ) (sixteen : length rows ≡ 16) where
+        step : (a : Component Text) → row ≡ rowOf a → (y : Got (List (Component Text)))
+            → rowsThen (take count rows) i (next y (λ ws m. got (a ∷ ws) (n + m))) ≡ rowsThen (take (suc count) (set rows count row)) (i + n) y
+        unfolding next rowsThen
+        step a j (got ws m) = rw (take-suc-set rows count row (omega arith), append-snoc, add-assoc, j)
+        step a j (bad f) = refl
+
+        follows : ask (bodyAt (some []) (mostComponents - suc count) (suc count)) d (p + i + n) (drop n q) ≡ ask (bodyAt (endsAt (count + 1)) (mostComponents - (count + 1)) (count + 1)) d (p + (i + n)) (drop (i + n) part)
+        follows =
+            let z : suc count ≡ count + 1 = omega arith in
+            let t : p + i + n ≡ p + (i + n) = omega arith in
+            let later : (count + 1 ≡ 0 → ⊥) = λ h. omega arith in
+            ap (λ (k : ℕ). ask (bodyAt (some []) (mostComponents - k) k) d (p + i + n) (drop n q)) z
+            ∙ ap₂ (λ (place : ℕ) (c : List ℕ). ask (bodyAt (some []) (mostComponents - (count + 1)) (count + 1)) d place c) t (ap (drop n) cut ∙ drop-drop n i part)
+            ∙ ap (λ (t : Bool). ask (bodyAt (cond t none (some [])) (mostComponents - (count + 1)) (count + 1)) d (p + (i + n)) (drop (i + n) part)) (sym (ne-eqb (count + 1) 0 later))
+
+        pub more-got : Gives rowOf (component-here count true (p + i) q) row n → Left d p part (set rows count row) (count + 1) (i + n)
+        unfolding next
+        more-got (a, h, j) =
+            let z : suc count ≡ count + 1 = omega arith in
+            record {
+              same = left .same ∙ ap (rowsThen (take count rows) i) (more-is ∙ rw h) ∙ step a j (ask (bodyAt (some []) (mostComponents - suc count) (suc count)) d (p + i + n) (drop n q))
+                  ∙ ap₂ (λ (k : ℕ) (y : Got (List (Component Text))). rowsThen (take k (set rows count row)) (i + n) y) z follows;
+            }
+
+-- nothing has been read
+pub left-all : (d : Bool) (p : ℕ) (part : List ℕ) (rows : List Row) → Left d p part rows 0 0
+left-all d p part rows = record { same = rw (add-zero p) }
+
+pub blank-step : (rows : List Row) (count : ℕ) (row : Row) → count < 16 → drop count rows ≡ replicate (16 - count) blankRow → drop (count + 1) (set rows count row) ≡ replicate (16 - (count + 1)) blankRow
+blank-step rows count row h e =
+    let room : 16 - count ≡ suc (16 - (count + 1)) = omega arith in
+    drop-set-lt (count + 1) rows count row (omega arith) ∙ sym (drop-drop 1 count rows) ∙ ap (drop 1) (e ∙ ap (λ (k : ℕ). replicate k blankRow) room)
+
+-- a blank row set among blank rows
+pub blank-set : (n k : ℕ) → set (replicate n blankRow) k blankRow ≡ replicate n blankRow
+blank-set zero k = refl
+blank-set (suc n) zero = refl
+blank-set (suc n) (suc k) = ap (λ (l : List Row). blankRow ∷ l) (blank-set n k)
+
+-- 6C, whose contents end where they were read to, lies in the rest of the message
+pub end-within : (rest part : List ℕ) (u e n : ℕ) (f : Bool) (q : List ℕ) (r : EndRead) → part ≡ take (e - u) (drop u rest) → u ≤ e → e ≤ length rest → n ≤ length part
+    → q ≡ drop n part → r ≡ endOf f q → r ≡ EndRead.Ended → wholeOf u e f n ≤ length rest
+end-within rest part u e n f q r cut h i within at-end is told =
+    let ended : endOf f (drop n part) ≡ EndRead.Ended = ap (endOf f) (sym at-end) ∙ sym is ∙ told in
+    whole-within rest u e n f h i (rw cut at within, rw cut at ended)

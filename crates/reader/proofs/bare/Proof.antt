@@ -1,0 +1,49 @@
+-- `bare` meets its contract. Assumes nothing.
+use mathlib.Core.Path.{sym, ap, _∙_}
+use native.Mathlib.Omega.{arith}
+use native.Mathlib.Nat.{add-zero}
+use borrow.Author.Needs.{needs}
+use borrow.Author.Tests.{eq-eqb, ne-eqb}
+use Rattle.reader.specs.Parts.{closingOf, closedWith, rowsRead}
+use Rattle.reader.proofs.Gathered.{blank-set}
+use Rattle.reader.proofs.bare.Statement.{statement}
+use Rattle.reader.proofs.bare.Tie as tie
+
+whole-size-requires : tie.Need-whole-size-requires
+whole-size-requires c κs = omega (arith, c .pre)
+
+returns : tie.Need-returns
+unfolding rowsRead closingOf closedWith
+returns c = rw (add-zero, ← (c .before .before .before .before .whole-size .ensures), ne-eqb _ _ (c .before .before .if1 .taken), c .refused-behind .ensures, c .before .found .ensures)
+
+returns-2 : tie.Need-returns-2
+unfolding rowsRead closingOf closedWith
+returns-2 c = rw (add-zero, ← (c .before .before .before .whole-size .ensures), eq-eqb _ _ (c .before .if1 .left), c .blank .ensures, blank-set 16)
+
+found-requires : tie.Need-found-requires
+found-requires c κs = search needs
+
+refused-behind-requires : tie.Need-refused-behind-requires
+refused-behind-requires c κs = search needs
+
+blank-requires : tie.Need-blank-requires
+blank-requires c κs = search needs
+
+mul-rows : tie.Need-mul-rows
+mul-rows c = search needs
+
+array-set-from-rows : tie.Need-array-set-from-rows
+array-set-from-rows c = search needs
+
+pub bare-spec : {M : Type 1} → statement M
+bare-spec =
+    tie.close
+    (tie.spec
+    whole-size-requires
+    found-requires
+    refused-behind-requires
+    returns
+    blank-requires
+    mul-rows
+    array-set-from-rows
+    returns-2)

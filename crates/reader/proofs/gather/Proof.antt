@@ -1,0 +1,191 @@
+-- `gather` meets its contract. Assumes nothing.
+use Rattle.reader.proofs.gather.Statement.{statement}
+use native.Mathlib.Omega.{arith}
+use Prim.Native.Nat.{_≤_, _-_}
+use mathlib.Core.Path.{_≡_, refl, sym, ap, _∙_}
+use borrow.Author.Needs.{needs}
+use lib.ListN.{length, drop, replicate, length-take, length-drop, length-set}
+use Rattle.tcap.specs.Record.{blankRow}
+use Rattle.fields.proofs.Fits.{fit-got}
+use Rattle.contents.proofs.Told.{row-bad, row-got}
+use Rattle.contents.proofs.Fitted.{component-fit}
+use Rattle.reader.proofs.Gathered.{Left, left-all, closedAs, refused-by, more-missing, more-unfinished, more-full, more-bad, more-got, handed-out, blank-step, end-within}
+use Rattle.reader.proofs.gather.Tie as tie
+
+abbrev Inv-loop : tie.InvT-loop
+Inv-loop frame rest before portion kind orig dest dialogue part place rows₀ count₀ at₀ rows count at =
+    (count ≤ 16) × (length rows ≡ 16) × (at ≤ length part) × Left (portion .definite) place part rows count at × (drop count rows ≡ replicate (16 - count) blankRow)
+
+abbrev μ-loop : tie.MeasureT-loop
+μ-loop frame rest before portion kind orig dest dialogue part place rows₀ count₀ at₀ rows count at = 17 - count
+
+sub-piece : tie.Need-sub-piece Inv-loop μ-loop
+sub-piece c = omega (arith, c .before .before .pre .1)
+
+piece-requires : tie.Need-piece-requires Inv-loop μ-loop
+piece-requires c κs = omega (arith, c .before .before .pre .1)
+
+add-place : tie.Need-add-place Inv-loop μ-loop
+add-place c = omega (arith, c .before .before .before .before .pre .0, c .before .before .before .before .pre .1)
+
+add-place-2 : tie.Need-add-place-2 Inv-loop μ-loop
+add-place-2 c = omega (arith, c .before .before .before .before .before .pre .0, c .before .before .before .before .before .pre .1)
+
+loop-holds : tie.Need-loop-holds Inv-loop μ-loop
+loop-holds c = (search needs, refl, search needs, left-all _ _ _ _, rw (c .blank .ensures))
+
+add-here : tie.Need-add-here Inv-loop μ-loop
+add-here c = omega (arith, c .before .before .before .before .before .before .before .pre .0, c .before .before .before .before .before .before .before .pre .1, c .loop .inv .2, simp (length-take, length-drop) at (ap length (c .before .before .before .before .piece .ensures)))
+
+after-requires : tie.Need-after-requires Inv-loop μ-loop
+after-requires c κs = c .loop .inv .2
+
+returns : tie.Need-returns Inv-loop μ-loop
+returns c = rw (← (c .before .before .before .before .before .before .before .before .before .before .before .piece .ensures)) (refused-by _ _ _ _ _ _ (c .before .before .before .before .before .before .before .loop .inv .3) _ (c .before .before .before .before .before .before .after .ensures) _ _ _ _ _ _ (c .refused-behind .ensures) (_, more-missing _ _ _ _ _ _ (c .before .before .before .before .before .before .before .loop .inv .3) _ (c .before .before .before .before .before .before .after .ensures) _ (c .before .before .before .before .before .end-at .ensures) (c .before .before .before .enum-told .given .1) (c .before .before .if1 .taken), c .before .found .ensures))
+
+whole-size-requires : tie.Need-whole-size-requires Inv-loop μ-loop
+whole-size-requires c κs = omega (arith, c .before .before .before .before .before .before .before .before .before .before .before .before .pre .0, c .before .before .before .before .before .before .before .before .before .before .before .before .pre .1, c .before .before .before .before .before .loop .inv .2, simp (length-take, length-drop) at (ap length (c .before .before .before .before .before .before .before .before .before .piece .ensures)))
+
+closing-at-requires : tie.Need-closing-at-requires Inv-loop μ-loop
+closing-at-requires c κs = (c .before .before .before .before .before .before .before .before .before .before .before .before .before .pre .0, rw (c .whole-size .ensures) (end-within _ _ _ _ _ _ _ _ (c .before .before .before .before .before .before .before .before .before .before .piece .ensures) (c .before .before .before .before .before .before .before .before .before .before .before .before .before .pre .1 .0) (c .before .before .before .before .before .before .before .before .before .before .before .before .before .pre .1 .1) (c .before .before .before .before .before .before .loop .inv .2) (c .before .before .before .before .before .after .ensures) (c .before .before .before .before .end-at .ensures) (c .before .before .enum-told .given .1)))
+
+returns-2 : tie.Need-returns-2 Inv-loop μ-loop
+unfolding closedAs
+returns-2 c = rw (← (c .before .before .before .before .before .before .before .before .before .before .before .before .before .before .before .piece .ensures), handed-out _ _ _ _ _ _ (c .before .before .before .before .before .before .before .before .before .before .before .loop .inv .3) _ (c .before .before .before .before .before .before .before .before .before .before .after .ensures) _ (c .before .before .before .before .before .before .before .before .before .end-at .ensures) _ _ _ _ _ (c .before .before .before .before .before .before .before .enum-told .given .1) (c .before .before .before .before .before .before .if1 .left) (c .before .before .before .before .before .before .before .before .before .before .before .loop .inv .0) (c .before .before .before .before .before .before .before .before .before .before .before .loop .inv .1) (c .before .before .before .before .before .before .before .before .before .before .before .loop .inv .4), ← (c .before .before .before .before .before .whole-size .ensures), ← (c .before .before .before .before .closing-at .ensures), c .before .before .fault .given .1) (c .refused-behind2 .ensures)
+
+returns-3 : tie.Need-returns-3 Inv-loop μ-loop
+unfolding closedAs
+returns-3 c = rw (← (c .before .before .before .before .before .before .before .before .before .before .before .before .before .piece .ensures), handed-out _ _ _ _ _ _ (c .before .before .before .before .before .before .before .before .before .loop .inv .3) _ (c .before .before .before .before .before .before .before .before .after .ensures) _ (c .before .before .before .before .before .before .before .end-at .ensures) _ _ _ _ _ (c .before .before .before .before .before .enum-told .given .1) (c .before .before .before .before .if1 .left) (c .before .before .before .before .before .before .before .before .before .loop .inv .0) (c .before .before .before .before .before .before .before .before .before .loop .inv .1) (c .before .before .before .before .before .before .before .before .before .loop .inv .4), ← (c .before .before .before .whole-size .ensures), ← (c .before .before .closing-at .ensures), c .enum-told2 .given .1)
+
+returns-4 : tie.Need-returns-4 Inv-loop μ-loop
+returns-4 c = rw (← (c .before .before .before .before .before .before .before .before .before .before .piece .ensures)) (refused-by _ _ _ _ _ _ (c .before .before .before .before .before .before .loop .inv .3) _ (c .before .before .before .before .before .after .ensures) _ _ _ _ _ _ (c .refused-behind3 .ensures) (_, more-unfinished _ _ _ _ _ _ (c .before .before .before .before .before .before .loop .inv .3) _ (c .before .before .before .before .before .after .ensures) _ (c .before .before .before .before .end-at .ensures) (c .before .before .enum-told3 .given .1), c .before .found2 .ensures))
+
+returns-5 : tie.Need-returns-5 Inv-loop μ-loop
+returns-5 c = rw (← (c .before .before .before .before .before .before .before .before .before .before .before .piece .ensures)) (refused-by _ _ _ _ _ _ (c .before .before .before .before .before .before .before .loop .inv .3) _ (c .before .before .before .before .before .before .after .ensures) _ _ _ _ _ _ (c .refused-behind4 .ensures) (_, more-full _ _ _ _ _ _ (c .before .before .before .before .before .before .before .loop .inv .3) _ (c .before .before .before .before .before .before .after .ensures) _ (c .before .before .before .before .before .end-at .ensures) (c .before .before .before .enum-told4 .given .1) (c .before .before .if2 .taken), c .before .found3 .ensures))
+
+component-at-requires : tie.Need-component-at-requires Inv-loop μ-loop
+component-at-requires c κs = omega (arith, c .before .before .before .before .before .before .before .before .before .before .before .before .pre .0, c .before .before .before .before .before .before .before .before .before .before .before .before .pre .1, c .before .before .before .before .before .loop .inv .2, simp (length-take, length-drop) at (ap length (c .before .before .before .before .before .before .before .before .before .piece .ensures)), simp length-drop at (ap length (c .before .before .before .before .after .ensures)))
+
+returns-6 : tie.Need-returns-6 Inv-loop μ-loop
+returns-6 c = rw (← (c .before .before .before .before .before .before .before .before .before .before .before .before .before .before .piece .ensures)) (refused-by _ _ _ _ _ _ (c .before .before .before .before .before .before .before .before .before .before .loop .inv .3) _ (c .before .before .before .before .before .before .before .before .before .after .ensures) _ _ _ _ _ _ (c .refused-behind5 .ensures) (more-bad _ _ _ _ _ _ (c .before .before .before .before .before .before .before .before .before .before .loop .inv .3) _ (c .before .before .before .before .before .before .before .before .before .after .ensures) _ (c .before .before .before .before .before .before .before .before .end-at .ensures) (c .before .before .before .before .before .before .enum-told4 .given .1) (omega (arith, c .before .before .before .before .before .before .before .before .before .before .loop .inv .0, c .before .before .before .before .before .if2 .left)) (row-bad _ _ (c .before .before .before .before .component-at .ensures) _ (c .before .before .fault2 .given .1))))
+
+add-at : tie.Need-add-at Inv-loop μ-loop
+add-at c = omega (arith, c .before .before .before .before .before .before .before .before .before .before .before .before .before .before .before .before .pre .0, c .before .before .before .before .before .before .before .before .before .before .before .before .before .before .before .before .pre .1, c .before .before .before .before .before .before .before .before .before .loop .inv .2, fit-got _ _ _ _ _ component-fit (row-got _ _ (c .before .before .before .component-at .ensures) _ _ (c .before .next .given .1)), simp (length-take, length-drop) at (ap length (c .before .before .before .before .before .before .before .before .before .before .before .before .before .piece .ensures)), simp length-drop at (ap length (c .before .before .before .before .before .before .before .before .after .ensures)))
+
+loop-again : tie.Need-loop-again Inv-loop μ-loop
+loop-again c = (
+  omega (arith, c .before .before .before .before .before .before .before .before .before .loop .inv .0, c .before .before .before .before .if2 .left),
+  rw length-set (c .before .before .before .before .before .before .before .before .before .loop .inv .1),
+  omega (arith, c .before .before .before .before .before .before .before .before .before .loop .inv .2, fit-got _ _ _ _ _ component-fit (row-got _ _ (c .before .before .before .component-at .ensures) _ _ (c .before .next .given .1)), simp length-drop at (ap length (c .before .before .before .before .before .before .before .before .after .ensures))),
+  more-got _ _ _ _ _ _ (c .before .before .before .before .before .before .before .before .before .loop .inv .3) _ (c .before .before .before .before .before .before .before .before .after .ensures) _ (c .before .before .before .before .before .before .before .end-at .ensures) (c .before .before .before .before .before .enum-told4 .given .1) (omega (arith, c .before .before .before .before .before .before .before .before .before .loop .inv .0, c .before .before .before .before .if2 .left)) _ _ (c .before .before .before .before .before .before .before .before .before .loop .inv .1) (row-got _ _ (c .before .before .before .component-at .ensures) _ _ (c .before .next .given .1)),
+  blank-step _ (c .before .before .before .before .before .before .before .before .before .loop .count) _ (omega (arith, c .before .before .before .before .before .before .before .before .before .loop .inv .0, c .before .before .before .before .if2 .left)) (c .before .before .before .before .before .before .before .before .before .loop .inv .4),
+)
+
+blank-requires : tie.Need-blank-requires Inv-loop μ-loop
+blank-requires c κs = search needs
+
+end-at-requires : tie.Need-end-at-requires Inv-loop μ-loop
+end-at-requires c κs = search needs
+
+enum-told : tie.Need-enum-told Inv-loop μ-loop
+enum-told c = search needs
+
+found-requires : tie.Need-found-requires Inv-loop μ-loop
+found-requires c κs = search needs
+
+refused-behind-requires : tie.Need-refused-behind-requires Inv-loop μ-loop
+refused-behind-requires c κs = search needs
+
+enum-known-fault : tie.Need-enum-known-fault Inv-loop μ-loop
+enum-known-fault c = search needs
+
+refused-behind-requires-2 : tie.Need-refused-behind-requires-2 Inv-loop μ-loop
+refused-behind-requires-2 c κs = search needs
+
+enum-told-2 : tie.Need-enum-told-2 Inv-loop μ-loop
+enum-told-2 c = search needs
+
+enum-told-3 : tie.Need-enum-told-3 Inv-loop μ-loop
+enum-told-3 c = search needs
+
+found-requires-2 : tie.Need-found-requires-2 Inv-loop μ-loop
+found-requires-2 c κs = search needs
+
+refused-behind-requires-3 : tie.Need-refused-behind-requires-3 Inv-loop μ-loop
+refused-behind-requires-3 c κs = search needs
+
+enum-told-4 : tie.Need-enum-told-4 Inv-loop μ-loop
+enum-told-4 c = search needs
+
+found-requires-3 : tie.Need-found-requires-3 Inv-loop μ-loop
+found-requires-3 c κs = search needs
+
+refused-behind-requires-4 : tie.Need-refused-behind-requires-4 Inv-loop μ-loop
+refused-behind-requires-4 c κs = search needs
+
+enum-known-fault-2 : tie.Need-enum-known-fault-2 Inv-loop μ-loop
+enum-known-fault-2 c = search needs
+
+refused-behind-requires-5 : tie.Need-refused-behind-requires-5 Inv-loop μ-loop
+refused-behind-requires-5 c κs = search needs
+
+enum-known-next : tie.Need-enum-known-next Inv-loop μ-loop
+enum-known-next c = search needs
+
+mul-rows : tie.Need-mul-rows Inv-loop μ-loop
+mul-rows c = search needs
+
+array-set-from-rows : tie.Need-array-set-from-rows Inv-loop μ-loop
+array-set-from-rows c = search needs
+
+add-count : tie.Need-add-count Inv-loop μ-loop
+add-count c = search needs
+
+loop-less : tie.Need-loop-less Inv-loop μ-loop
+loop-less c = search needs
+
+pub gather-spec : {M : Type 1} → statement M
+gather-spec =
+    tie.close
+    (tie.spec
+    Inv-loop
+    μ-loop
+    sub-piece
+    piece-requires
+    add-place
+    add-place-2
+    blank-requires
+    loop-holds
+    add-here
+    after-requires
+    end-at-requires
+    enum-told
+    found-requires
+    refused-behind-requires
+    returns
+    whole-size-requires
+    closing-at-requires
+    enum-known-fault
+    refused-behind-requires-2
+    returns-2
+    enum-told-2
+    returns-3
+    enum-told-3
+    found-requires-2
+    refused-behind-requires-3
+    returns-4
+    enum-told-4
+    found-requires-3
+    refused-behind-requires-4
+    returns-5
+    component-at-requires
+    enum-known-fault-2
+    refused-behind-requires-5
+    returns-6
+    enum-known-next
+    mul-rows
+    array-set-from-rows
+    add-count
+    add-at
+    loop-less
+    loop-again)
