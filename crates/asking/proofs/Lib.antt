@@ -1,3 +1,4 @@
 pub mod Sizes
 pub mod Opened
 pub mod Fronts
+pub mod Shorts

@@ -2,11 +2,11 @@
 -- Assumes nothing: these are definitions.
 use Prim.Native.Nat.{ℕ, _+_}
 use mathlib.Core.{Bool.Bool, Bool.true, Bool.false, Bool.cond, Bool._&&_, Bool.not, List.List, Option.Option, Option.none, Option.some, Option.Option·map, Option.Option·getD}
-use lib.{ListN.length, ListN.getD, ListN.drop, Dec.eqb}
-use Rattle.element.specs.{declared.FaultKind.FaultKind, declared.EndRead.EndRead, declared.TagRead.TagRead, declared.LengthRead.LengthRead, Head.endOf, Head.lengthOf, Answers.frontOf, Ask.Got, Ask.blamed, Ask.Body, Parts.Item, Parts.Where, Parts.place}
+use lib.{ListN.length, ListN.getD, ListN.drop, Dec.ltb, Dec.eqb}
+use Rattle.element.specs.{declared.FaultKind.FaultKind, declared.EndRead.EndRead, declared.TagRead.TagRead, declared.LengthRead.LengthRead, Head.endOf, Head.lengthOf, Answers.frontOf, Answers.shortOf, Ask.Got, Ask.blamed, Ask.Body, Parts.Item, Parts.Where, Parts.place}
 use Rattle.element.specs.Fault.{Owner as Owned, portion, dialogue, component, Fault as Faulty, fault}
 use Rattle.tcap.specs.{declared.OptionalOrig.OptionalOrig, declared.Span.Span, Meaning.orig, Record.origField, Record.idField}
-use Rattle.asking.specs.declared.{Owner.Owner, Fault.Fault, Next.Next, Field.Field, Entry.Entry, Closed.Closed}
+use Rattle.asking.specs.declared.{Owner.Owner, Fault.Fault, Next.Next, Field.Field, Octet.Octet, Entry.Entry, Closed.Closed}
 
 -- a fault as the code has it
 abbrev pub ownerField : Owned → Owner
@@ -58,6 +58,14 @@ fieldNext t part (Next.Tag a s) = cond (eqb a t) (leafOf part s) (Field.Bad Faul
 unfoldable pub fieldOf : ℕ → Bool → List ℕ → Field
 fieldOf t d part = fieldNext t part (nextOf d part)
 
+-- one contents octet, and how many octets it takes with tag and length
+unfoldable pub onOctet : List ℕ → Field → Octet
+onOctet part (Field.Bad k) = Octet.Bad k
+onOctet part (Field.Contents u n) = cond (eqb n 1) (Octet.Got (getD part u 0) (u + n)) (Octet.Bad FaultKind.BadContents)
+
+unfoldable pub octetOf : ℕ → Bool → List ℕ → Octet
+octetOf t d part = onOctet part (fieldOf t d part)
+
 unfoldable pub entryNext : ℕ → List ℕ → Next → Entry
 entryNext t part Next.Ended = Entry.Bad FaultKind.Missing
 entryNext t part Next.Unfinished = Entry.Bad FaultKind.CutOff
@@ -79,6 +87,10 @@ closeOf d part = closeNext (nextOf d part)
 -- an element with this tag of one octet stands here
 unfoldable pub begins : ℕ → List ℕ → Bool
 begins t part = not (eqb (length part) 0) && eqb (getD part 0 0) t
+
+-- the same, short and of one contents octet
+unfoldable pub octetStands : ℕ → List ℕ → Bool
+octetStands t part = cond (ltb (length part) 3) false (cond (eqb (getD part 1 0) 1) (cond (begins t part) (shortOf part) false) false)
 
 -- how many octets a constructor takes, of whose contents k were read
 unfoldable pub wholeOf : ℕ → ℕ → Bool → ℕ → ℕ

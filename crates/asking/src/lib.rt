@@ -3,8 +3,9 @@ ghost use mathlib.Core.Path.{_≡_};
 ghost use Prim.Native.Nat.{_+_, _≤_};
 ghost use lib.ListN.{length};
 ghost use Rattle.element.specs.Fault.{at};
-ghost use Rattle.asking.specs.Asked.{faultField, nextOf, leafOf, innerOf, fieldOf, entryOf, closeOf, wholeOf, begins, spanFrom};
+ghost use Rattle.asking.specs.Asked.{faultField, nextOf, leafOf, innerOf, fieldOf, octetStands, octetOf, entryOf, closeOf, wholeOf, begins, spanFrom};
 use base::after;
+use base::wide;
 use element::EndRead;
 use element::FaultKind;
 use element::LengthRead;
@@ -41,6 +42,12 @@ pub enum Next {
 pub enum Field {
     Bad(FaultKind),
     Contents { at: usize, count: usize },
+}
+
+// A primitive of one contents octet, and how many octets it takes.
+pub enum Octet {
+    Bad(FaultKind),
+    Got { octet: u8, size: usize },
 }
 
 // A constructor: its contents stand from `at` to `end`, if they are definite; otherwise the end pair lies before `end`.
@@ -138,8 +145,8 @@ pub fn inner_at(part: &[u8], size: usize) -> Entry
     }
 }
 
-// A primitive of one tag that must stand here.
-pub fn field_at(part: &[u8], definite: bool, tag: u8) -> Field
+// A primitive of one tag that must stand here, question by question.
+fn field_asked(part: &[u8], definite: bool, tag: u8) -> Field
     ensures { λ r. ⌜ r ≡ fieldOf tag definite (now (part .entry)) ⌝ }
 {
     match next_at(part, definite) {
@@ -155,8 +162,67 @@ pub fn field_at(part: &[u8], definite: bool, tag: u8) -> Field
     }
 }
 
-// A constructor of one tag that must stand here.
-pub fn entry_at(part: &[u8], definite: bool, tag: u8) -> Entry
+// A primitive of one tag that must stand here; most are short, and callers take in this much and no more.
+pub fn field_at(part: &[u8], definite: bool, tag: u8) -> Field
+    ensures { λ r. ⌜ r ≡ fieldOf tag definite (now (part .entry)) ⌝ }
+{
+    if !begins_with(part, tag) {
+        return field_asked(part, definite, tag);
+    }
+    if element::is_short(part) {
+        return Field::Contents {
+            at: 2,
+            count: wide(part[1]),
+        };
+    }
+    field_asked(part, definite, tag)
+}
+
+// Whether a short primitive of this tag and one contents octet stands here.
+fn is_octet(part: &[u8], tag: u8) -> bool
+    ensures { λ r. ⌜ r ≡ octetStands tag (now (part .entry)) ⌝ }
+{
+    if part.len() < 3 {
+        return false;
+    }
+    if part[1] != 1 {
+        return false;
+    }
+    if !begins_with(part, tag) {
+        return false;
+    }
+    element::is_short(part)
+}
+
+// A primitive of one tag and one contents octet that must stand here.
+pub fn octet_at(part: &[u8], definite: bool, tag: u8) -> Octet
+    ensures { λ r. ⌜ r ≡ octetOf tag definite (now (part .entry)) ⌝ }
+{
+    if is_octet(part, tag) {
+        return Octet::Got {
+            octet: part[2],
+            size: 3,
+        };
+    }
+    match field_asked(part, definite, tag) {
+        Field::Bad(kind) => {
+            return Octet::Bad(kind);
+        }
+        Field::Contents { at, count } => {
+            if count != 1 {
+                return Octet::Bad(FaultKind::BadContents);
+            }
+            let octet = part[at];
+            Octet::Got {
+                octet: octet,
+                size: at + count,
+            }
+        }
+    }
+}
+
+// A constructor of one tag that must stand here, question by question.
+fn entry_asked(part: &[u8], definite: bool, tag: u8) -> Entry
     ensures { λ r. ⌜ r ≡ entryOf tag definite (now (part .entry)) ⌝ }
 {
     match next_at(part, definite) {
@@ -170,6 +236,23 @@ pub fn entry_at(part: &[u8], definite: bool, tag: u8) -> Entry
             inner_at(part, size)
         }
     }
+}
+
+// A constructor of one tag that must stand here; the same.
+pub fn entry_at(part: &[u8], definite: bool, tag: u8) -> Entry
+    ensures { λ r. ⌜ r ≡ entryOf tag definite (now (part .entry)) ⌝ }
+{
+    if !begins_with(part, tag) {
+        return entry_asked(part, definite, tag);
+    }
+    if element::is_short(part) {
+        return Entry::Open {
+            at: 2,
+            end: 2 + wide(part[1]),
+            definite: true,
+        };
+    }
+    entry_asked(part, definite, tag)
 }
 
 // Nothing more may come here.

@@ -3,6 +3,7 @@ use Prim.Native.Nat.{ℕ, _+_, _-_, _≤_}
 use mathlib.Core.Path.{_≡_, refl, sym, ap, _∙_}
 use mathlib.Core.Bool.{Bool, true, false, cond, _||_}
 use mathlib.Core.List.{List}
+use native.Mathlib.Omega.{arith}
 use lib.ListN.{length, take, drop}
 use lib.Dec.{eqb}
 use borrow.Author.Tests.{eqb-true}
@@ -24,7 +25,8 @@ use Rattle.asking.proofs.Sizes.{next-size, inner-size, inner-open}
 use Rattle.asking.proofs.Fronts.{around-open}
 use Rattle.fields.proofs.Steps.{Failed, Gives}
 use Rattle.fields.proofs.Fits.{Fits}
-use Rattle.components.specs.Rows.{ownedBy, bodyOf}
+use Rattle.components.specs.declared.{Opened.Opened}
+use Rattle.components.specs.Rows.{ownedBy, bodyOf, insideOf, headerOf}
 use Rattle.contents.proofs.Fitted.{invoke-fits, result-fits, error-fits, reject-fits}
 
 -- one of the five bodies
@@ -121,3 +123,73 @@ module _ (k : ℕ) (d : Bool) (p : ℕ) (part : List ℕ) where
         pub opened-got : {v : Row} {j : ℕ} (n : ℕ) → n ≡ wholeOf u e f j → Gives rowOf (ask (bodyOf a) f (p + u) q) v j → Gives rowOf component-here v n
         unfolding next blamed
         opened-got n size (c, i, j) = (c, opened ∙ rw (i, size), j)
+
+-- A header that was told of, read back
+
+module _ (k : ℕ) (p : ℕ) (part : List ℕ) where
+  in-entry : (a s : ℕ) (g : Fault) (x : Entry) → innerOf part s ≡ x → nextOf true part ≡ Next.Tag a s → componentItem deepestLevel .mine a ≡ true → insideOf k p a x ≡ Opened.Bad g → Failed (component-here k true p part) g
+  unfolding insideOf
+  in-entry a s g (Entry.Bad j) i tag mine h =
+      let o : g ≡ ownedBy k (faultField (at j p)) = cc in
+      owned-at k true p part j refl o (opened-bad k true p part a s tag mine _ (sym i) j refl)
+  in-entry a s g (Entry.Open u e f) i tag mine h = let z : _≡_ {A = ℕ} 0 1 = cc in absurd (omega arith)
+
+  by-tag : (a s : ℕ) (g : Fault) (q : Bool) → componentItem deepestLevel .mine a ≡ q → nextOf true part ≡ Next.Tag a s
+      → cond q (insideOf k p a (innerOf part s)) (Opened.Bad (ownedBy k (faultField (at FaultKind.UnknownComponent p)))) ≡ Opened.Bad g → Failed (component-here k true p part) g
+  by-tag a s g true mine tag h = in-entry a s g (innerOf part s) refl tag mine h
+  by-tag a s g false mine tag h =
+      let o : g ≡ ownedBy k (faultField (at FaultKind.UnknownComponent p)) = cc in
+      owned-at k true p part FaultKind.UnknownComponent refl o (component-unknown k true p part _ refl a s false tag (sym mine) refl)
+
+  by-next : (g : Fault) (n : Next) → nextOf true part ≡ n → headerOf k p part n ≡ Opened.Bad g → Failed (component-here k true p part) g
+  unfolding headerOf
+  by-next g Next.Ended e h = (at FaultKind.Missing p, component-ended k true p part _ refl e, cc)
+  by-next g Next.Unfinished e h = (at FaultKind.CutOff p, component-unfinished k true p part _ refl e, cc)
+  by-next g (Next.Fault j) e h =
+      let o : g ≡ ownedBy k (faultField (at j p)) = cc in
+      owned-at k true p part j refl o (component-fault k true p part _ refl j e)
+  by-next g (Next.Tag a s) e h = by-tag a s g (componentItem deepestLevel .mine a) refl e h
+
+  pub header-bad : (r : Opened) → r ≡ headerOf k p part (nextOf true part) → (g : Fault) → r ≡ Opened.Bad g → Failed (component-here k true p part) g
+  header-bad r is g e = by-next g (nextOf true part) refl (sym is ∙ e)
+
+  -- the tag is a component's, and its length was read
+  pub record Header (a u e : ℕ) (f : Bool) : Type 0 where
+    pub size : ℕ
+    pub tag : nextOf true part ≡ Next.Tag a size
+    pub mine : componentItem deepestLevel .mine a ≡ true
+    pub inner : innerOf part size ≡ Entry.Open u e f
+
+  open-entry : (a s b u e : ℕ) (f : Bool) (x : Entry) → innerOf part s ≡ x → nextOf true part ≡ Next.Tag a s → componentItem deepestLevel .mine a ≡ true → insideOf k p a x ≡ Opened.Open b u e f → Header b u e f
+  unfolding insideOf
+  open-entry a s b u e f (Entry.Bad j) i tag mine h = let z : _≡_ {A = ℕ} 0 1 = cc in absurd (omega arith)
+  open-entry a s b u e f (Entry.Open v w g) i tag mine h =
+      let z : a ≡ b = cc in
+      let y : Entry.Open v w g ≡ Entry.Open u e f = cc in
+      record { size = s; tag = rw z at tag; mine = rw z at mine; inner = i ∙ y }
+
+  open-tag : (a s b u e : ℕ) (f q : Bool) → componentItem deepestLevel .mine a ≡ q → nextOf true part ≡ Next.Tag a s
+      → cond q (insideOf k p a (innerOf part s)) (Opened.Bad (ownedBy k (faultField (at FaultKind.UnknownComponent p)))) ≡ Opened.Open b u e f → Header b u e f
+  open-tag a s b u e f true mine tag h = open-entry a s b u e f (innerOf part s) refl tag mine h
+  open-tag a s b u e f false mine tag h = let z : _≡_ {A = ℕ} 0 1 = cc in absurd (omega arith)
+
+  open-next : (b u e : ℕ) (f : Bool) (n : Next) → nextOf true part ≡ n → headerOf k p part n ≡ Opened.Open b u e f → Header b u e f
+  unfolding headerOf
+  open-next b u e f Next.Ended i h = let z : _≡_ {A = ℕ} 0 1 = cc in absurd (omega arith)
+  open-next b u e f Next.Unfinished i h = let z : _≡_ {A = ℕ} 0 1 = cc in absurd (omega arith)
+  open-next b u e f (Next.Fault j) i h = let z : _≡_ {A = ℕ} 0 1 = cc in absurd (omega arith)
+  open-next b u e f (Next.Tag a s) i h = open-tag a s b u e f (componentItem deepestLevel .mine a) refl i h
+
+  pub header-open : (r : Opened) → r ≡ headerOf k p part (nextOf true part) → (a u e : ℕ) (f : Bool) → r ≡ Opened.Open a u e f → Header a u e f
+  header-open r is a u e f h = open-next a u e f (nextOf true part) refl (sym is ∙ h)
+
+  module _ (a u e : ℕ) (f : Bool) (h : Header a u e f) where
+    pub header-room : (u ≤ e) × (e ≤ length part)
+    header-room = opened-room k true p part a (h .size) (h .tag) (h .mine) _ refl u e f (h .inner)
+
+    module _ (q : List ℕ) (cut : q ≡ take (e - u) (drop u part)) where
+      pub header-later : {g o : Fault} → o ≡ ownedBy k g → Failed (ask (bodyOf a) f (p + u) q) g → Failed (component-here k true p part) o
+      header-later = opened-later k true p part a (h .size) (h .tag) (h .mine) _ refl u e f (h .inner) q cut
+
+      pub header-got : {v : Row} {j : ℕ} (n : ℕ) → n ≡ wholeOf u e f j → Gives rowOf (ask (bodyOf a) f (p + u) q) v j → Gives rowOf (component-here k true p part) v n
+      header-got = opened-got k true p part a (h .size) (h .tag) (h .mine) _ refl u e f (h .inner) q cut

@@ -1,11 +1,12 @@
 -- What the readers of components answer, as their contracts cite it; the definition of reading rests on none of it.
 -- Assumes nothing: these are definitions.
 use Prim.Native.Nat.{ℕ}
-use mathlib.Core.{Bool.cond}
+use mathlib.Core.{Bool.cond, List.List}
 use lib.{Dec.eqb}
-use Rattle.element.specs.{Fault.Text, Ask.Body}
-use Rattle.tcap.specs.{Meaning.Component, Meaning.last, Meaning.notLast, WellFormed.deepestLevel, Productions.invokeBody, Productions.resultBody, Productions.errorBody, Productions.rejectBody}
-use Rattle.asking.specs.{declared.Owner.Owner, declared.Fault.Fault}
+use Rattle.element.specs.{declared.FaultKind.FaultKind, Fault.Text, Fault.at, Ask.Body}
+use Rattle.tcap.specs.{Meaning.Component, Meaning.last, Meaning.notLast, WellFormed.deepestLevel, Productions.invokeBody, Productions.resultBody, Productions.errorBody, Productions.rejectBody, Productions.componentItem}
+use Rattle.asking.specs.{declared.Owner.Owner, declared.Fault.Fault, declared.Next.Next, declared.Entry.Entry, Asked.faultField, Asked.innerOf}
+use Rattle.components.specs.declared.{Opened.Opened}
 
 -- a fault of the component of this number
 abbrev pub ownedBy : ℕ → Fault → Fault
@@ -19,3 +20,14 @@ bodyOf a =
     (cond (eqb a 0xA3) (errorBody deepestLevel)
     (cond (eqb a 0xA4) (rejectBody deepestLevel)
     (resultBody deepestLevel notLast))))
+
+-- a component up to its contents: its tag and where they stand, or the fault, which is the component's
+unfoldable pub insideOf : ℕ → ℕ → ℕ → Entry → Opened
+insideOf k p a (Entry.Bad j) = Opened.Bad (ownedBy k (faultField (at j p)))
+insideOf k p a (Entry.Open u e f) = Opened.Open a u e f
+
+unfoldable pub headerOf : ℕ → ℕ → List ℕ → Next → Opened
+headerOf k p part Next.Ended = Opened.Bad (faultField (at FaultKind.Missing p))
+headerOf k p part Next.Unfinished = Opened.Bad (faultField (at FaultKind.CutOff p))
+headerOf k p part (Next.Fault j) = Opened.Bad (ownedBy k (faultField (at j p)))
+headerOf k p part (Next.Tag a s) = cond (componentItem deepestLevel .mine a) (insideOf k p a (innerOf part s)) (Opened.Bad (ownedBy k (faultField (at FaultKind.UnknownComponent p))))

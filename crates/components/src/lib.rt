@@ -3,15 +3,13 @@ ghost use mathlib.Core.Path.{_≡_};
 ghost use mathlib.Core.Bool.{true};
 ghost use Prim.Native.Nat.{_+_, _≤_};
 ghost use lib.ListN.{length};
-ghost use Rattle.element.specs.declared.FaultKind.the-variants.{UnknownComponent};
 ghost use Rattle.element.specs.Ask.{ask};
 ghost use Rattle.tcap.specs.WellFormed.{deepestLevel};
-ghost use Rattle.tcap.specs.Productions.{componentItem, componentAt};
+ghost use Rattle.tcap.specs.Productions.{componentItem};
 ghost use Rattle.tcap.specs.Record.{blankRow};
-ghost use Rattle.asking.specs.declared.Next.the-variants.{Tag};
-ghost use Rattle.asking.specs.Asked.{front, nextOf};
+ghost use Rattle.asking.specs.Asked.{nextOf, innerOf};
 ghost use Rattle.contents.specs.Contents.{rowGot};
-ghost use Rattle.components.specs.Rows.{ownedBy, bodyOf};
+ghost use Rattle.components.specs.Rows.{ownedBy, bodyOf, insideOf, headerOf};
 use asking::Entry;
 use asking::Fault;
 use asking::Next;
@@ -19,8 +17,6 @@ use asking::Owner;
 use asking::found;
 use asking::inner_at;
 use asking::next_at;
-use asking::whole_size;
-use base::piece;
 use contents::RowRead;
 use contents::error_at;
 use contents::invoke_at;
@@ -34,8 +30,19 @@ use tcap::LinkedId;
 use tcap::OptionalSpan;
 use tcap::Row;
 
+// A component up to its contents: its tag, and where they stand.
+pub enum Opened {
+    Bad(Fault),
+    Open {
+        first: u8,
+        at: usize,
+        end: usize,
+        definite: bool,
+    },
+}
+
 // A fault of the component of this number.
-fn owned_by(fault: Fault, index: usize) -> Fault
+pub fn owned_by(fault: Fault, index: usize) -> Fault
     ensures { λ r. ⌜ r ≡ ownedBy index fault ⌝ }
 {
     let kind = fault.kind;
@@ -51,7 +58,7 @@ fn owned_by(fault: Fault, index: usize) -> Fault
 }
 
 // The contents of a component by its tag.
-fn contents_at(part: &[u8], place: usize, definite: bool, first: u8) -> RowRead
+pub fn contents_at(part: &[u8], place: usize, definite: bool, first: u8) -> RowRead
     requires { ⌜ place + length (now part) ≤ 4096 ⌝ }
     ensures { λ r. ⌜ r ≡ rowGot (ask (bodyOf first) definite place (now (part .entry))) ⌝ }
 {
@@ -89,49 +96,35 @@ fn is_component(first: u8) -> bool
     first == 0xA7
 }
 
-// A component whose tag takes `size` octets, from its length on.
-fn opened_at(part: &[u8], place: usize, index: usize, first: u8, size: usize) -> RowRead
-    requires { ⌜ place + length (now part) ≤ 4096 ⌝ }
-    requires { ⌜ nextOf true (now part) ≡ Tag first size ⌝ }
-    requires { ⌜ componentItem deepestLevel .mine first ≡ true ⌝ }
-    ensures { λ r. ⌜ r ≡ rowGot (ask (front (componentAt deepestLevel index) UnknownComponent (componentItem deepestLevel)) true place (now (part .entry))) ⌝ }
+// The length of a component whose tag takes `size` octets.
+fn inside_at(part: &[u8], place: usize, index: usize, first: u8, size: usize) -> Opened
+    requires { ⌜ size ≤ length (now part) ⌝ }
+    ensures { λ r. ⌜ r ≡ insideOf index place first (innerOf (now (part .entry)) size) ⌝ }
 {
     match inner_at(part, size) {
-        Entry::Bad(kind) => RowRead::Bad(owned_by(found(kind, place), index)),
-        Entry::Open {
-            at,
-            end,
-            definite: inner,
-        } => {
-            let here = place + at;
-            match contents_at(piece(part, at, end - at), here, inner, first) {
-                RowRead::Bad(fault) => RowRead::Bad(owned_by(fault, index)),
-                RowRead::Got { row, size: taken } => {
-                    let whole = whole_size(at, end, inner, taken);
-                    RowRead::Got {
-                        row: row,
-                        size: whole,
-                    }
-                }
-            }
-        }
+        Entry::Bad(kind) => Opened::Bad(owned_by(found(kind, place), index)),
+        Entry::Open { at, end, definite } => Opened::Open {
+            first: first,
+            at: at,
+            end: end,
+            definite: definite,
+        },
     }
 }
 
-// The component of this number, where the end of the contents has been asked.
-pub fn component_at(part: &[u8], place: usize, index: usize) -> RowRead
-    requires { ⌜ place + length (now part) ≤ 4096 ⌝ }
-    ensures { λ r. ⌜ r ≡ rowGot (ask (front (componentAt deepestLevel index) UnknownComponent (componentItem deepestLevel)) true place (now (part .entry))) ⌝ }
+// The component of this number up to its contents, where the end of the contents around it has been asked.
+pub fn header_at(part: &[u8], place: usize, index: usize) -> Opened
+    ensures { λ r. ⌜ r ≡ headerOf index place (now (part .entry)) (nextOf true (now (part .entry))) ⌝ }
 {
     match next_at(part, true) {
-        Next::Ended => RowRead::Bad(found(FaultKind::Missing, place)),
-        Next::Unfinished => RowRead::Bad(found(FaultKind::CutOff, place)),
-        Next::Fault(kind) => RowRead::Bad(owned_by(found(kind, place), index)),
+        Next::Ended => Opened::Bad(found(FaultKind::Missing, place)),
+        Next::Unfinished => Opened::Bad(found(FaultKind::CutOff, place)),
+        Next::Fault(kind) => Opened::Bad(owned_by(found(kind, place), index)),
         Next::Tag { first, size } => {
             if !is_component(first) {
-                return RowRead::Bad(owned_by(found(FaultKind::UnknownComponent, place), index));
+                return Opened::Bad(owned_by(found(FaultKind::UnknownComponent, place), index));
             }
-            opened_at(part, place, index, first, size)
+            inside_at(part, place, index, first, size)
         }
     }
 }

@@ -3,10 +3,12 @@ use Prim.Native.Nat.{ℕ}
 use lib.IntN.{ℤ}
 use mathlib.Core.Option.{Option}
 use Rattle.element.specs.Fault.{Text, withInvokeId}
-use Rattle.element.specs.Parts.{integerItem, mapItem, silently, thenBody, onlyBody, lastBody, optBody}
+use Rattle.element.specs.Walk.{walkItem}
+use Rattle.element.specs.Parts.{level, integerItem, mapItem, silently, thenBody, onlyBody, lastBody, optBody}
 use Rattle.tcap.specs.Meaning.{Code, Component}
 use Rattle.tcap.specs.WellFormed.{deepestLevel}
 use Rattle.tcap.specs.Productions.{levelAt, octetItem, parameterItem, codeItem, idOrNullItem, problemItem, noted, codeBody, invokeBody, bothItem, resultBody, errorBody, rejectBody, componentItem}
+use Rattle.contents.specs.Contents.{codedBody}
 use Rattle.fields.proofs.Fits.{Fit, Fits, leaf-fit, map-fit, or-fit, around-fit, walk-fit, bind-fits, only-fits, last-fits, opt-fits, map-fits}
 
 pub id-fit : (t : ℕ) → Fit (integerItem t 1)
@@ -24,14 +26,14 @@ problem-fit = or-fit (octet _ _ _) (or-fit (octet _ _ _) (or-fit (octet _ _ _) (
     octet : (t most : ℕ) {A : Type 0} (f : ℕ → A) → Fit (mapItem f (octetItem t most))
     octet t most f = map-fit f (map-fit _ (leaf-fit t _))
 
-pub parameter-fits : Fits (lastBody (levelAt deepestLevel 4) (parameterItem deepestLevel 4))
-parameter-fits = last-fits (levelAt deepestLevel 4) (walk-fit 13)
+pub parameter-fits : (l : ℕ) → Fits (lastBody (level l) (walkItem l))
+parameter-fits l = last-fits (level l) (walk-fit l)
 
-pub coded-fits : Fits (codeBody deepestLevel)
-coded-fits = bind-fits (levelAt deepestLevel 4) code-fit silently _ (λ c. parameter-fits)
+pub coded-fits : (l : ℕ) → Fits (codedBody l)
+coded-fits l = bind-fits (levelAt deepestLevel 4) code-fit silently _ (λ c. parameter-fits l)
 
 pub linked-fits : Fits (optBody (integerItem 0x80 1) (codeBody deepestLevel))
-linked-fits = opt-fits (id-fit 0x80) coded-fits
+linked-fits = opt-fits (id-fit 0x80) (coded-fits 13)
 
 pub element-fits : Fits (onlyBody (levelAt deepestLevel 5) (parameterItem deepestLevel 5))
 element-fits = only-fits (levelAt deepestLevel 5) (walk-fit 12)
@@ -56,7 +58,7 @@ pub result-fits : (f : ℤ → Option (Code Text × Text) → Component Text) �
 result-fits f = map-fits _ (bind-fits (levelAt deepestLevel 4) (id-fit 0x02) noted _ (λ i. both-fits))
 
 pub error-fits : Fits (errorBody deepestLevel)
-error-fits = map-fits _ (bind-fits (levelAt deepestLevel 4) (id-fit 0x02) noted _ (λ i. coded-fits))
+error-fits = map-fits _ (bind-fits (levelAt deepestLevel 4) (id-fit 0x02) noted _ (λ i. coded-fits 13))
 
 pub reject-fits : Fits (rejectBody deepestLevel)
 reject-fits = map-fits _ (bind-fits (levelAt deepestLevel 4) null-fit withInvokeId _ (λ i. sole-fits))

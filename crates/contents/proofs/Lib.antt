@@ -1,3 +1,4 @@
 pub mod Told
 pub mod Joined
 pub mod Fitted
+pub mod Held

@@ -1,11 +1,16 @@
 -- What the readers of a component's contents answer, as their contracts cite it; the definition of reading rests on none of it.
 -- Assumes nothing: these are definitions.
+use Prim.Native.Nat.{ℕ}
 use mathlib.Core.{Bool.Bool, Bool.true, Bool.false, Bool.cond, Option.Option}
 use lib.{IntN.ℤ}
-use Rattle.element.specs.{Fault.Text, Ask.Got, Ask.got, Ask.bad}
-use Rattle.tcap.specs.{declared.InvokeId.InvokeId, declared.Returned.Returned, declared.ComponentKind.ComponentKind, Meaning.Code, Meaning.Component, Meaning.last, Meaning.notLast, Record.codeField, Record.spanField, Record.linkedField, Record.bothField, Record.rowOf}
+use Rattle.element.specs.{Fault.Text, Ask.Got, Ask.got, Ask.bad, Ask.Body, Parts.level, Parts.thenBody, Parts.lastBody, Walk.walkItem}
+use Rattle.tcap.specs.{declared.InvokeId.InvokeId, declared.Returned.Returned, declared.ComponentKind.ComponentKind, Meaning.Code, Meaning.Component, Meaning.last, Meaning.notLast, Record.codeField, Record.spanField, Record.linkedField, Record.bothField, Record.rowOf, WellFormed.deepestLevel, Productions.levelAt, Productions.codeItem}
 use Rattle.asking.specs.{declared.Fault.Fault, Asked.faultField}
 use Rattle.contents.specs.declared.{CodedRead.CodedRead, InvokeRead.InvokeRead, BothRead.BothRead, RowRead.RowRead}
+
+-- code and parameter, for whose element so many levels are left
+abbrev pub codedBody : ℕ → Body (Code Text × Option Text)
+codedBody left = thenBody (levelAt deepestLevel 4) codeItem (lastBody (level left) (walkItem left))
 
 unfoldable pub codedGot : Got (Code Text × Option Text) → CodedRead
 codedGot (got v n) = CodedRead.Got (codeField (v .0)) (spanField (v .1)) n

@@ -10,7 +10,7 @@ ghost use Rattle.tcap.specs.WellFormed.{deepestLevel};
 ghost use Rattle.tcap.specs.Productions.{levelAt, parameterItem, codeItem, problemItem, codeBody, invokeBody, bothItem, resultBody, errorBody, rejectBody};
 ghost use Rattle.asking.specs.Asked.{begins};
 ghost use Rattle.fields.specs.Fields.{field, problemGot};
-ghost use Rattle.contents.specs.Contents.{codedGot, invokeGot, bothGot, rowGot, withId, resultFor, resultField};
+ghost use Rattle.contents.specs.Contents.{codedBody, codedGot, invokeGot, bothGot, rowGot, withId, resultFor, resultField};
 use asking::Entry;
 use asking::Fault;
 use asking::begins_with;
@@ -27,9 +27,7 @@ use fields::NullRead;
 use fields::ParameterRead;
 use fields::ProblemRead;
 use fields::Rest;
-use fields::SpanRead;
 use fields::code_at;
-use fields::element_at;
 use fields::octet_id;
 use fields::parameter_at;
 use fields::problem_at;
@@ -91,16 +89,21 @@ fn with_id(fault: Fault, id: InvokeId) -> Fault
 }
 
 // Code and parameter.
-fn code_body(part: &[u8], place: usize, definite: bool) -> CodedRead
+fn code_body(part: &[u8], place: usize, definite: bool, left: usize) -> CodedRead
     requires { ⌜ place + length (now part) ≤ 4096 ⌝ }
-    ensures { λ r. ⌜ r ≡ codedGot (ask (codeBody deepestLevel) definite place (now (part .entry))) ⌝ }
+    requires { ⌜ 1 ≤ left ⌝ }
+    ensures { λ r. ⌜ r ≡ codedGot (ask (codedBody left) definite place (now (part .entry))) ⌝ }
 {
     match code_at(part, place, definite) {
-        CodeRead::Bad(fault) => CodedRead::Bad(fault),
+        CodeRead::Bad(fault) => {
+            return CodedRead::Bad(fault);
+        }
         CodeRead::Got { code, size } => {
             let here = place + size;
-            match parameter_at(after(part, size), here, definite, 13) {
-                ParameterRead::Bad(fault) => CodedRead::Bad(fault),
+            match parameter_at(after(part, size), here, definite, left) {
+                ParameterRead::Bad(fault) => {
+                    return CodedRead::Bad(fault);
+                }
                 ParameterRead::Got {
                     parameter,
                     size: more,
@@ -121,11 +124,15 @@ fn linked_at(part: &[u8], place: usize, definite: bool) -> InvokeRead
     ensures { λ r. ⌜ r ≡ invokeGot (ask (optBody (integerItem 0x80 1) (codeBody deepestLevel)) definite place (now (part .entry))) ⌝ }
 {
     match octet_id(part, place, definite, 0x80) {
-        IdRead::Bad(fault) => InvokeRead::Bad(fault),
+        IdRead::Bad(fault) => {
+            return InvokeRead::Bad(fault);
+        }
         IdRead::Got { id, size } => {
             let here = place + size;
-            match code_body(after(part, size), here, definite) {
-                CodedRead::Bad(fault) => InvokeRead::Bad(fault),
+            match code_body(after(part, size), here, definite, 13) {
+                CodedRead::Bad(fault) => {
+                    return InvokeRead::Bad(fault);
+                }
                 CodedRead::Got {
                     code,
                     parameter,
@@ -149,8 +156,10 @@ fn invoke_rest(part: &[u8], place: usize, definite: bool) -> InvokeRead
     if begins_with(part, 0x80) {
         return linked_at(part, place, definite);
     }
-    match code_body(part, place, definite) {
-        CodedRead::Bad(fault) => InvokeRead::Bad(fault),
+    match code_body(part, place, definite, 13) {
+        CodedRead::Bad(fault) => {
+            return InvokeRead::Bad(fault);
+        }
         CodedRead::Got {
             code,
             parameter,
@@ -170,11 +179,15 @@ pub fn invoke_at(part: &[u8], place: usize, definite: bool) -> RowRead
     ensures { λ r. ⌜ r ≡ rowGot (ask (invokeBody deepestLevel) definite place (now (part .entry))) ⌝ }
 {
     match octet_id(part, place, definite, 0x02) {
-        IdRead::Bad(fault) => RowRead::Bad(fault),
+        IdRead::Bad(fault) => {
+            return RowRead::Bad(fault);
+        }
         IdRead::Got { id, size } => {
             let here = place + size;
             match invoke_rest(after(part, size), here, definite) {
-                InvokeRead::Bad(fault) => RowRead::Bad(with_id(fault, InvokeId::Id(id))),
+                InvokeRead::Bad(fault) => {
+                    return RowRead::Bad(with_id(fault, InvokeId::Id(id)));
+                }
                 InvokeRead::Got {
                     linked,
                     code,
@@ -202,11 +215,15 @@ pub fn error_at(part: &[u8], place: usize, definite: bool) -> RowRead
     ensures { λ r. ⌜ r ≡ rowGot (ask (errorBody deepestLevel) definite place (now (part .entry))) ⌝ }
 {
     match octet_id(part, place, definite, 0x02) {
-        IdRead::Bad(fault) => RowRead::Bad(fault),
+        IdRead::Bad(fault) => {
+            return RowRead::Bad(fault);
+        }
         IdRead::Got { id, size } => {
             let here = place + size;
-            match code_body(after(part, size), here, definite) {
-                CodedRead::Bad(fault) => RowRead::Bad(with_id(fault, InvokeId::Id(id))),
+            match code_body(after(part, size), here, definite, 13) {
+                CodedRead::Bad(fault) => {
+                    return RowRead::Bad(with_id(fault, InvokeId::Id(id)));
+                }
                 CodedRead::Got {
                     code,
                     parameter,
@@ -231,21 +248,26 @@ fn held_at(part: &[u8], place: usize, definite: bool) -> BothRead
     requires { ⌜ place + length (now part) ≤ 4096 ⌝ }
     ensures { λ r. ⌜ r ≡ bothGot (next (ask (thenBody (levelAt deepestLevel 5) codeItem (onlyBody (levelAt deepestLevel 5) (parameterItem deepestLevel 5))) definite place (now (part .entry))) (λ v n. got (some v) n)) ⌝ }
 {
-    match code_at(part, place, definite) {
-        CodeRead::Bad(fault) => BothRead::Bad(fault),
-        CodeRead::Got { code, size } => {
-            let here = place + size;
-            match element_at(after(part, size), here, definite, 12) {
-                SpanRead::Bad(fault) => BothRead::Bad(fault),
-                SpanRead::Got { span, size: more } => BothRead::Got {
-                    both: Returned::Both {
-                        code: code,
-                        parameter: span,
-                    },
-                    size: size + more,
-                },
-            }
+    match code_body(part, place, definite, 12) {
+        CodedRead::Bad(fault) => {
+            return BothRead::Bad(fault);
         }
+        CodedRead::Got {
+            code,
+            parameter,
+            size,
+        } => match parameter {
+            OptionalSpan::Absent => {
+                return BothRead::Bad(found(FaultKind::Missing, place + size));
+            }
+            OptionalSpan::Present(span) => BothRead::Got {
+                both: Returned::Both {
+                    code: code,
+                    parameter: span,
+                },
+                size: size,
+            },
+        },
     }
 }
 
@@ -255,7 +277,9 @@ fn both_entry(part: &[u8], place: usize, definite: bool) -> BothRead
     ensures { λ r. ⌜ r ≡ bothGot (next (field (bothItem deepestLevel) definite place (now (part .entry))) (λ v n. got (some v) n)) ⌝ }
 {
     match entry_at(part, definite, 0x30) {
-        Entry::Bad(kind) => BothRead::Bad(found(kind, place)),
+        Entry::Bad(kind) => {
+            return BothRead::Bad(found(kind, place));
+        }
         Entry::Open {
             at,
             end,
@@ -263,7 +287,9 @@ fn both_entry(part: &[u8], place: usize, definite: bool) -> BothRead
         } => {
             let here = place + at;
             match held_at(piece(part, at, end - at), here, inner) {
-                BothRead::Bad(fault) => BothRead::Bad(fault),
+                BothRead::Bad(fault) => {
+                    return BothRead::Bad(fault);
+                }
                 BothRead::Got { both, size: taken } => {
                     let size = whole_size(at, end, inner, taken);
                     BothRead::Got {
@@ -282,15 +308,23 @@ fn both_at(part: &[u8], place: usize, definite: bool) -> BothRead
     ensures { λ r. ⌜ r ≡ bothGot (ask (lastBody (levelAt deepestLevel 4) (bothItem deepestLevel)) definite place (now (part .entry))) ⌝ }
 {
     match element::end_at(part, definite) {
-        EndRead::Ended => BothRead::Got {
-            both: Returned::Bare,
-            size: 0,
-        },
-        EndRead::Unfinished => BothRead::Bad(found(FaultKind::CutOff, place)),
+        EndRead::Ended => {
+            return BothRead::Got {
+                both: Returned::Bare,
+                size: 0,
+            };
+        }
+        EndRead::Unfinished => {
+            return BothRead::Bad(found(FaultKind::CutOff, place));
+        }
         EndRead::More => match both_entry(part, place, definite) {
-            BothRead::Bad(fault) => BothRead::Bad(fault),
+            BothRead::Bad(fault) => {
+                return BothRead::Bad(fault);
+            }
             BothRead::Got { both, size } => match rest_after(part, place, definite, size) {
-                Rest::Bad(fault) => BothRead::Bad(fault),
+                Rest::Bad(fault) => {
+                    return BothRead::Bad(fault);
+                }
                 Rest::Done => BothRead::Got {
                     both: both,
                     size: size,
@@ -315,11 +349,15 @@ pub fn result_at(part: &[u8], place: usize, definite: bool, last: bool) -> RowRe
     ensures { λ r. ⌜ r ≡ rowGot (ask (resultBody deepestLevel (resultFor last)) definite place (now (part .entry))) ⌝ }
 {
     match octet_id(part, place, definite, 0x02) {
-        IdRead::Bad(fault) => RowRead::Bad(fault),
+        IdRead::Bad(fault) => {
+            return RowRead::Bad(fault);
+        }
         IdRead::Got { id, size } => {
             let here = place + size;
             match both_at(after(part, size), here, definite) {
-                BothRead::Bad(fault) => RowRead::Bad(with_id(fault, InvokeId::Id(id))),
+                BothRead::Bad(fault) => {
+                    return RowRead::Bad(with_id(fault, InvokeId::Id(id)));
+                }
                 BothRead::Got { both, size: more } => {
                     let kind = result_kind(last, both);
                     RowRead::Got {
@@ -341,9 +379,13 @@ fn sole_problem(part: &[u8], place: usize, definite: bool) -> ProblemRead
     ensures { λ r. ⌜ r ≡ problemGot (ask (onlyBody (levelAt deepestLevel 4) problemItem) definite place (now (part .entry))) ⌝ }
 {
     match problem_at(part, place, definite) {
-        ProblemRead::Bad(fault) => ProblemRead::Bad(fault),
+        ProblemRead::Bad(fault) => {
+            return ProblemRead::Bad(fault);
+        }
         ProblemRead::Got { problem, size } => match rest_after(part, place, definite, size) {
-            Rest::Bad(fault) => ProblemRead::Bad(fault),
+            Rest::Bad(fault) => {
+                return ProblemRead::Bad(fault);
+            }
             Rest::Done => ProblemRead::Got {
                 problem: problem,
                 size: size,
@@ -358,11 +400,15 @@ pub fn reject_at(part: &[u8], place: usize, definite: bool) -> RowRead
     ensures { λ r. ⌜ r ≡ rowGot (ask (rejectBody deepestLevel) definite place (now (part .entry))) ⌝ }
 {
     match reject_id_at(part, place, definite) {
-        NullRead::Bad(fault) => RowRead::Bad(fault),
+        NullRead::Bad(fault) => {
+            return RowRead::Bad(fault);
+        }
         NullRead::Got { id, size } => {
             let here = place + size;
             match sole_problem(after(part, size), here, definite) {
-                ProblemRead::Bad(fault) => RowRead::Bad(with_id(fault, id)),
+                ProblemRead::Bad(fault) => {
+                    return RowRead::Bad(with_id(fault, id));
+                }
                 ProblemRead::Got {
                     problem,
                     size: more,

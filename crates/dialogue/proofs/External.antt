@@ -1,4 +1,4 @@
--- What the readers of PDUs, of names and of what stands behind them were told; and to whom the faults in 6B belong. Assumes nothing.
+-- What the readers of names and of what stands behind them were told; and to whom the faults in 6B belong. Assumes nothing.
 use Prim.Native.Nat.{ℕ, _+_, _-_, _≤_}
 use mathlib.Core.Path.{_≡_, refl, sym, ap, _∙_}
 use mathlib.Core.Bool.{Bool, true, false, not, _&&_}
@@ -11,60 +11,31 @@ use lib.Dec.{ltb, eqb}
 use borrow.Author.Tests.{eq-eqb, ne-eqb}
 use Rattle.base.specs.Value.{same}
 use Rattle.element.specs.declared.{FaultKind.FaultKind, EndRead.EndRead, TagRead.TagRead, LengthRead.LengthRead}
-use Rattle.element.specs.Element.{constructorOf, codeZero, extendedOf}
+use Rattle.element.specs.Element.{constructorOf, codeZero}
 use Rattle.element.specs.Fault.{Text, at, inDialogue}
 use Rattle.element.specs.Fault.{Fault as Faulty, fault}
 use Rattle.element.specs.Head.{endOf, tagOf, lengthOf}
 use Rattle.element.specs.Primitive.{identifierOk}
 use Rattle.element.specs.Ask.{Got, got, bad, next, check, blamed, Body, askLength, askTag, askEnd, ask}
-use Rattle.element.specs.Parts.{Item, Where, level, leafContents, orItem, done, onlyBody, bindBody, silently}
+use Rattle.element.specs.Parts.{Item, Where, level, leafContents, done, onlyBody, bindBody, silently}
 use Rattle.element.proofs.Asking.{Then, fact, void, the-fact, then-check}
 use Rattle.tcap.specs.declared.{Span.Span}
 use Rattle.tcap.specs.declared.{Dialogue.Dialogue as DialogueField}
-use Rattle.tcap.specs.Meaning.{Dialogue, request, structured, unstructured}
+use Rattle.tcap.specs.Meaning.{Dialogue, structured, unstructured}
 use Rattle.tcap.specs.WellFormed.{deepestLevel}
-use Rattle.tcap.specs.Record.{spanOf, spanField, dialogueField}
-use Rattle.tcap.specs.Productions.{levelAt, nameItem, askedItem, answeredItem, abortedItem, heldItem, externalBody, inside6B}
+use Rattle.tcap.specs.Record.{spanOf, dialogueField}
+use Rattle.tcap.specs.Productions.{levelAt, nameItem, heldItem, externalBody, inside6B}
 use Rattle.asking.specs.declared.{Field.Field, Closed.Closed, Fault.Fault}
-use Rattle.asking.specs.Asked.{faultField, front, fieldOf, closeOf, begins}
+use Rattle.asking.specs.Asked.{faultField, front, fieldOf, closeOf}
 use Rattle.asking.proofs.Opened.{ask-bind, ask-only, ask-map, rest, blamed-same}
 use Rattle.asking.proofs.Fronts.{fieldGot, front-field, front-level, closedGot, ask-done}
 use Rattle.asking.proofs.Sizes.{field-size}
-use Rattle.dialogue.specs.declared.{SizeRead.SizeRead, NameKind.NameKind}
-use Rattle.dialogue.specs.Reads.{here, askedAs, pduItem, kindOf, heldAs, lastHeld, common, ownedField, ownedFinish}
-use Rattle.dialogue.proofs.Told.{Gives, Fails, fails-by, fails-next, next-fails, gives-by, gives-next}
-use Rattle.dialogue.proofs.Peeked.{or-first, or-second}
-use Rattle.dialogue.proofs.Named.{eqb-turned, other-length}
-
--- PDUs
-
-pub asked-request : (s : Bool) → s ≡ true → (n : Text) (u : _) → dialogueField (askedAs s n u) ≡ DialogueField.Request (spanOf n) (spanField u)
-asked-request s e n u = rw e
-
-pub asked-unidialogue : (s : Bool) → s ≡ false → (n : Text) (u : _) → dialogueField (askedAs s n u) ≡ DialogueField.Unidialogue (spanOf n) (spanField u)
-asked-unidialogue s e n u = rw e
-
-module _ (d : Bool) (p : ℕ) (part : List ℕ) (s : Bool) where
-  pub pdu-other : s ≡ false → ask (here 5 (askedItem deepestLevel (askedAs false))) d p part ≡ ask (here 5 (pduItem s)) d p part
-  pdu-other e = rw e
-
-  module _ (e : s ≡ true) {a : Bool} (is-a : a ≡ begins 0x60 part) where
-    pub pdu-request : a ≡ true → ask (here 5 (askedItem deepestLevel (askedAs true))) d p part ≡ ask (here 5 (pduItem s)) d p part
-    unfolding extendedOf codeZero
-    pdu-request h = rw e (sym (or-first 0x60 refl refl d 12 refl (askedItem deepestLevel request) (orItem (answeredItem deepestLevel) (abortedItem deepestLevel)) (λ a. refl) p part is-a h))
-
-    module _ (g : a ≡ false) {b : Bool} (is-b : b ≡ begins 0x61 part) where
-      not-asked : ask (here 5 (pduItem true)) d p part ≡ ask (here 5 (orItem (answeredItem deepestLevel) (abortedItem deepestLevel))) d p part
-      unfolding extendedOf codeZero
-      not-asked = or-second 0x60 refl refl d 12 refl (askedItem deepestLevel request) (orItem (answeredItem deepestLevel) (abortedItem deepestLevel)) (λ a. refl) p part is-a g
-
-      pub pdu-response : b ≡ true → ask (here 5 (answeredItem deepestLevel)) d p part ≡ ask (here 5 (pduItem s)) d p part
-      unfolding extendedOf codeZero
-      pdu-response h = rw e (sym (not-asked ∙ or-first 0x61 refl refl d 12 refl (answeredItem deepestLevel) (abortedItem deepestLevel) (λ a. refl) p part is-b h))
-
-      pub pdu-abort : b ≡ false → ask (here 5 (abortedItem deepestLevel)) d p part ≡ ask (here 5 (pduItem s)) d p part
-      unfolding extendedOf codeZero
-      pdu-abort h = rw e (sym (not-asked ∙ or-second 0x61 refl refl d 12 refl (answeredItem deepestLevel) (abortedItem deepestLevel) (λ a. refl) p part is-b h))
+use Rattle.association.specs.declared.{SizeRead.SizeRead}
+use Rattle.dialogue.specs.declared.{NameKind.NameKind}
+use Rattle.association.specs.Held.{here}
+use Rattle.dialogue.specs.Reads.{kindOf, heldAs, lastHeld, common, ownedField, ownedFinish}
+use Rattle.association.proofs.Told.{Gives, Fails, fails-by, fails-next, next-fails, gives-by, gives-next}
+use Rattle.association.proofs.Named.{eqb-turned, other-length}
 
 -- Names
 
@@ -84,7 +55,7 @@ reorder true true true true true true false = refl
 reorder true true true true true true true = refl
 
 -- names that differ in their sixth octet
-seven : (x : ℕ) (c : List ℕ) → length c ≡ 7 → same (0x00 ∷ 0x11 ∷ 0x86 ∷ 0x05 ∷ 0x01 ∷ x ∷ 0x01 ∷ []) c ≡ (common c && eqb (getD c 5 0) x)
+pub seven : (x : ℕ) (c : List ℕ) → length c ≡ 7 → same (0x00 ∷ 0x11 ∷ 0x86 ∷ 0x05 ∷ 0x01 ∷ x ∷ 0x01 ∷ []) c ≡ (common c && eqb (getD c 5 0) x)
 unfolding same common
 seven x [] h = let z : _≡_ {A = ℕ} 0 7 = h in absurd (omega arith)
 seven x (a ∷ []) h = let z : _≡_ {A = ℕ} 1 7 = h in absurd (omega arith)

@@ -1,90 +1,50 @@
-// The readers of the dialogue portion: all that stands in 6B, one function for each production of document 01.
+// The reader of the dialogue portion: what 6B holds, up to the PDUs.
 ghost use mathlib.Core.Path.{_≡_};
-ghost use mathlib.Core.Bool.{true, false};
+ghost use mathlib.Core.Bool.{true};
 ghost use Prim.Native.Nat.{_+_, _≤_};
-ghost use lib.ListN.{length, drop};
+ghost use lib.ListN.{length};
 ghost use Rattle.base.specs.Value.{same};
-ghost use Rattle.element.specs.Element.{constructorOf};
 ghost use Rattle.element.specs.Fault.{Text};
 ghost use Rattle.element.specs.Ask.{ask};
 ghost use Rattle.element.specs.Parts.{aroundItem, onlyBody};
-ghost use Rattle.tcap.specs.Meaning.{version, structured, unstructured};
+ghost use Rattle.tcap.specs.Meaning.{structured, unstructured};
 ghost use Rattle.tcap.specs.WellFormed.{deepestLevel};
-ghost use Rattle.tcap.specs.Productions.{nameItem, octetItem, contextItem, numberItem, sourceItem, infoBody, askedItem, answeredItem, abortedItem, parameterItem, externalBody, inside6B};
+ghost use Rattle.tcap.specs.Productions.{externalBody, inside6B};
 ghost use Rattle.tcap.specs.Record.{spanOf};
-ghost use Rattle.asking.specs.Asked.{closeOf, wholeOf};
-ghost use Rattle.dialogue.specs.Reads.{sizeGot, spanGot, infoGot, numberGot, sourceGot, askedGot, answerGot, dialogueGot, here, finishOf, diagnosticItem, skipped, namedOf, infoItem, askedBody, answerBody, answeredBody, abortedBody, askedAs, pduItem, knownItem, singleItem, octetsItem, kindOf, heldAs, lastHeld, common, ownedField, ownedFinish};
+ghost use Rattle.asking.specs.Asked.{closeOf};
+ghost use Rattle.association.specs.Held.{here};
+ghost use Rattle.dialogue.specs.Reads.{dialogueGot, knownItem, kindOf, heldAs, lastHeld, common, ownedField, ownedFinish};
+ghost use Rattle.pdus.specs.declared.PduKind.{PduKind};
+ghost use Rattle.dialogue.specs.Plain.{EndsTogether, Known, Holds, pduOf};
 ghost use Rattle.dialogue.specs.declared.NameKind.the-variants.{Outside};
+ghost use Rattle.dialogue.specs.declared.Plain.the-variants.{Pdu as PlainPdu};
 use asking::Closed;
 use asking::Entry;
 use asking::Fault;
-use asking::Field;
 use asking::Owner;
 use asking::begins_with;
 use asking::close_at;
 use asking::entry_at;
-use asking::field_at;
 use asking::found;
-use asking::leaf_at;
-use asking::span_at;
 use asking::whole_size;
+use association::SizeRead;
+use association::SpanRead;
+use association::finish_at;
+use association::name_at;
+use association::shut_at;
 use base::after;
 use base::piece;
 use element::EndRead;
 use element::FaultKind;
-use element::Walk;
 use element::end_at;
-use element::primitive::identifier_ok;
-use element::walk_element;
-use element::walk_series;
-use tcap::Diagnostic;
+use pdus::PduKind;
+use pdus::PduRead;
+use pdus::contents_at;
+use pdus::octets_at;
+use pdus::pdu_at;
+use pdus::single_at;
 use tcap::Dialogue;
-use tcap::OptionalSpan;
 use tcap::Span;
-
-pub enum SizeRead {
-    Got { size: usize },
-    Bad(Fault),
-}
-
-pub enum SpanRead {
-    Got { span: Span, size: usize },
-    Bad(Fault),
-}
-
-pub enum InfoRead {
-    Got { info: OptionalSpan, size: usize },
-    Bad(Fault),
-}
-
-pub enum NumberRead {
-    Got { number: u8, size: usize },
-    Bad(Fault),
-}
-
-pub enum SourceRead {
-    Got { source: Diagnostic, size: usize },
-    Bad(Fault),
-}
-
-pub enum AskedRead {
-    Got {
-        name: Span,
-        info: OptionalSpan,
-        size: usize,
-    },
-    Bad(Fault),
-}
-
-pub enum AnswerRead {
-    Got {
-        result: u8,
-        source: Diagnostic,
-        info: OptionalSpan,
-        size: usize,
-    },
-    Bad(Fault),
-}
 
 pub enum DialogueRead {
     Got { dialogue: Dialogue, size: usize },
@@ -98,534 +58,10 @@ pub enum NameKind {
     Outside,
 }
 
-// Nothing more may come here; `size` octets were taken.
-fn finish_at(part: &[u8], place: usize, definite: bool, size: usize) -> SizeRead
-    ensures { λ r. ⌜ r ≡ finishOf place size (closeOf definite (now (part .entry))) ⌝ }
-{
-    match close_at(part, definite) {
-        Closed::Done => SizeRead::Got { size: size },
-        Closed::Unfinished => SizeRead::Bad(found(FaultKind::CutOff, place)),
-        Closed::Bad(kind) => SizeRead::Bad(found(kind, place)),
-    }
-}
-
-// Nothing more may come in a constructor's contents, of which `taken` octets were taken.
-fn shut_at(
-    contents: &[u8],
-    place: usize,
-    definite: bool,
-    taken: usize,
-    at: usize,
-    end: usize,
-) -> SizeRead
-    requires { ⌜ (taken ≤ length (now contents)) × (place + length (now contents) ≤ 4096) × (at ≤ 4096) ⌝ }
-    ensures { λ r. ⌜ r ≡ finishOf (place + taken) (wholeOf at end definite taken) (closeOf definite (drop taken (now (contents .entry)))) ⌝ }
-{
-    let size = whole_size(at, end, definite, taken);
-    finish_at(after(contents, taken), place + taken, definite, size)
-}
-
-// An object identifier.
-fn name_at(part: &[u8], place: usize, definite: bool) -> SpanRead
-    requires { ⌜ place + length (now part) ≤ 4096 ⌝ }
-    ensures { λ r. ⌜ r ≡ spanGot (ask (here 7 nameItem) definite place (now (part .entry))) ⌝ }
-{
-    match field_at(part, definite, 0x06) {
-        Field::Bad(kind) => SpanRead::Bad(found(kind, place)),
-        Field::Contents { at, count } => {
-            if identifier_ok(piece(part, at, count)) {
-                let size = at + count;
-                return SpanRead::Got {
-                    span: span_at(place + at, count),
-                    size: size,
-                };
-            }
-            SpanRead::Bad(found(FaultKind::BadContents, place))
-        }
-    }
-}
-
-// The application context name: A1 holding one name.
-fn context_at(part: &[u8], place: usize, definite: bool) -> SpanRead
-    requires { ⌜ place + length (now part) ≤ 4096 ⌝ }
-    ensures { λ r. ⌜ r ≡ spanGot (ask (here 6 (contextItem deepestLevel)) definite place (now (part .entry))) ⌝ }
-{
-    match entry_at(part, definite, 0xA1) {
-        Entry::Bad(kind) => SpanRead::Bad(found(kind, place)),
-        Entry::Open {
-            at,
-            end,
-            definite: inner,
-        } => {
-            let contents = piece(part, at, end - at);
-            let start = place + at;
-            match name_at(contents, start, inner) {
-                SpanRead::Bad(fault) => SpanRead::Bad(fault),
-                SpanRead::Got { span, size } => match shut_at(
-                    contents,
-                    start,
-                    inner,
-                    size,
-                    at,
-                    end,
-                ) {
-                    SizeRead::Bad(fault) => SpanRead::Bad(fault),
-                    SizeRead::Got { size: whole } => SpanRead::Got {
-                        span: span,
-                        size: whole,
-                    },
-                },
-            }
-        }
-    }
-}
-
-// A primitive of one octet, 0 to `most`.
-fn octet_at(part: &[u8], place: usize, definite: bool, tag: u8, most: u8) -> NumberRead
-    requires { ⌜ constructorOf tag ≡ false ⌝ }
-    ensures { λ r. ⌜ r ≡ numberGot (ask (here 7 (octetItem tag most)) definite place (now (part .entry))) ⌝ }
-{
-    match field_at(part, definite, tag) {
-        Field::Bad(kind) => NumberRead::Bad(found(kind, place)),
-        Field::Contents { at, count } => {
-            if count != 1 {
-                return NumberRead::Bad(found(FaultKind::BadContents, place));
-            }
-            let number = part[at];
-            if number > most {
-                return NumberRead::Bad(found(FaultKind::BadContents, place));
-            }
-            let size = at + 1;
-            NumberRead::Got {
-                number: number,
-                size: size,
-            }
-        }
-    }
-}
-
-// A constructor holding 02 01 with 0 to `most`.
-fn number_at(part: &[u8], place: usize, definite: bool, tag: u8, most: u8) -> NumberRead
-    requires { ⌜ place + length (now part) ≤ 4096 ⌝ }
-    requires { ⌜ constructorOf tag ≡ true ⌝ }
-    ensures { λ r. ⌜ r ≡ numberGot (ask (here 6 (numberItem deepestLevel tag 7 most)) definite place (now (part .entry))) ⌝ }
-{
-    match entry_at(part, definite, tag) {
-        Entry::Bad(kind) => NumberRead::Bad(found(kind, place)),
-        Entry::Open {
-            at,
-            end,
-            definite: inner,
-        } => {
-            let contents = piece(part, at, end - at);
-            let start = place + at;
-            match octet_at(contents, start, inner, 0x02, most) {
-                NumberRead::Bad(fault) => NumberRead::Bad(fault),
-                NumberRead::Got { number, size } => match shut_at(
-                    contents,
-                    start,
-                    inner,
-                    size,
-                    at,
-                    end,
-                ) {
-                    SizeRead::Bad(fault) => NumberRead::Bad(fault),
-                    SizeRead::Got { size: whole } => NumberRead::Got {
-                        number: number,
-                        size: whole,
-                    },
-                },
-            }
-        }
-    }
-}
-
-// Who diagnosed, and why: A1 or A2.
-fn diagnostic_at(part: &[u8], place: usize, definite: bool) -> SourceRead
-    requires { ⌜ place + length (now part) ≤ 4096 ⌝ }
-    ensures { λ r. ⌜ r ≡ sourceGot (ask (here 7 diagnosticItem) definite place (now (part .entry))) ⌝ }
-{
-    if begins_with(part, 0xA1) {
-        match number_at(part, place, definite, 0xA1, 2) {
-            NumberRead::Bad(fault) => {
-                return SourceRead::Bad(fault);
-            }
-            NumberRead::Got { number, size } => {
-                return SourceRead::Got {
-                    source: Diagnostic::ByUser(number),
-                    size: size,
-                };
-            }
-        }
-    }
-    match number_at(part, place, definite, 0xA2, 2) {
-        NumberRead::Bad(fault) => SourceRead::Bad(fault),
-        NumberRead::Got { number, size } => SourceRead::Got {
-            source: Diagnostic::ByProvider(number),
-            size: size,
-        },
-    }
-}
-
-// A3 holding one of them.
-fn source_at(part: &[u8], place: usize, definite: bool) -> SourceRead
-    requires { ⌜ place + length (now part) ≤ 4096 ⌝ }
-    ensures { λ r. ⌜ r ≡ sourceGot (ask (here 6 (sourceItem deepestLevel)) definite place (now (part .entry))) ⌝ }
-{
-    match entry_at(part, definite, 0xA3) {
-        Entry::Bad(kind) => SourceRead::Bad(found(kind, place)),
-        Entry::Open {
-            at,
-            end,
-            definite: inner,
-        } => {
-            let contents = piece(part, at, end - at);
-            let start = place + at;
-            match diagnostic_at(contents, start, inner) {
-                SourceRead::Bad(fault) => SourceRead::Bad(fault),
-                SourceRead::Got { source, size } => match shut_at(
-                    contents,
-                    start,
-                    inner,
-                    size,
-                    at,
-                    end,
-                ) {
-                    SizeRead::Bad(fault) => SourceRead::Bad(fault),
-                    SizeRead::Got { size: whole } => SourceRead::Got {
-                        source: source,
-                        size: whole,
-                    },
-                },
-            }
-        }
-    }
-}
-
-// Whether contents are version 1.
-fn is_version(contents: &[u8]) -> bool
-    ensures { λ r. ⌜ r ≡ same version (now (contents .entry)) ⌝ }
-{
-    if contents.len() != 2 {
-        return false;
-    }
-    if contents[0] != 0x07 {
-        return false;
-    }
-    contents[1] == 0x80
-}
-
-// The version, if it stands here.
-fn version_at(part: &[u8], place: usize, definite: bool) -> SizeRead
-    ensures { λ r. ⌜ r ≡ sizeGot (skipped definite place (now (part .entry))) ⌝ }
-{
-    if begins_with(part, 0x80) {
-        match leaf_at(part, 1) {
-            Field::Bad(kind) => {
-                return SizeRead::Bad(found(kind, place));
-            }
-            Field::Contents { at, count } => {
-                if is_version(piece(part, at, count)) {
-                    let size = at + count;
-                    return SizeRead::Got { size: size };
-                }
-                return SizeRead::Bad(found(FaultKind::BadContents, place));
-            }
-        }
-    }
-    SizeRead::Got { size: 0 }
-}
-
-// The version, if it stands here, and the application context name.
-fn named_at(part: &[u8], place: usize, definite: bool) -> SpanRead
-    requires { ⌜ place + length (now part) ≤ 4096 ⌝ }
-    ensures { λ r. ⌜ r ≡ spanGot (namedOf definite place (now (part .entry))) ⌝ }
-{
-    match version_at(part, place, definite) {
-        SizeRead::Bad(fault) => SpanRead::Bad(fault),
-        SizeRead::Got { size: first } => match context_at(
-            after(part, first),
-            place + first,
-            definite,
-        ) {
-            SpanRead::Bad(fault) => SpanRead::Bad(fault),
-            SpanRead::Got { span, size } => {
-                let both = first + size;
-                SpanRead::Got {
-                    span: span,
-                    size: both,
-                }
-            }
-        },
-    }
-}
-
-// BE holding zero or more elements, each 28.
-fn kept_at(part: &[u8], place: usize, definite: bool) -> SpanRead
-    requires { ⌜ place + length (now part) ≤ 4096 ⌝ }
-    ensures { λ r. ⌜ r ≡ spanGot (ask (here 6 infoItem) definite place (now (part .entry))) ⌝ }
-{
-    match entry_at(part, definite, 0xBE) {
-        Entry::Bad(kind) => SpanRead::Bad(found(kind, place)),
-        Entry::Open {
-            at,
-            end,
-            definite: inner,
-        } => {
-            let start = place + at;
-            match walk_series(piece(part, at, end - at), start, 10, 0x28, inner) {
-                Walk::Fault { kind, place: spot } => SpanRead::Bad(found(kind, spot)),
-                Walk::Whole { size } => {
-                    let whole = whole_size(at, end, inner, size);
-                    SpanRead::Got {
-                        span: span_at(start, size),
-                        size: whole,
-                    }
-                }
-            }
-        }
-    }
-}
-
-// User information, if any, and nothing more.
-fn info_at(part: &[u8], place: usize, definite: bool) -> InfoRead
-    requires { ⌜ place + length (now part) ≤ 4096 ⌝ }
-    ensures { λ r. ⌜ r ≡ infoGot (ask (infoBody deepestLevel) definite place (now (part .entry))) ⌝ }
-{
-    match end_at(part, definite) {
-        EndRead::Ended => InfoRead::Got {
-            info: OptionalSpan::Absent,
-            size: 0,
-        },
-        EndRead::Unfinished => InfoRead::Bad(found(FaultKind::CutOff, place)),
-        EndRead::More => match kept_at(part, place, definite) {
-            SpanRead::Bad(fault) => InfoRead::Bad(fault),
-            SpanRead::Got { span, size } => match finish_at(
-                after(part, size),
-                place + size,
-                definite,
-                size,
-            ) {
-                SizeRead::Bad(fault) => InfoRead::Bad(fault),
-                SizeRead::Got { size: whole } => InfoRead::Got {
-                    info: OptionalSpan::Present(span),
-                    size: size,
-                },
-            },
-        },
-    }
-}
-
-// What 60 holds.
-fn asked_body_at(part: &[u8], place: usize, definite: bool) -> AskedRead
-    requires { ⌜ place + length (now part) ≤ 4096 ⌝ }
-    ensures { λ r. ⌜ r ≡ askedGot (ask askedBody definite place (now (part .entry))) ⌝ }
-{
-    match named_at(part, place, definite) {
-        SpanRead::Bad(fault) => AskedRead::Bad(fault),
-        SpanRead::Got { span, size } => match info_at(after(part, size), place + size, definite) {
-            InfoRead::Bad(fault) => AskedRead::Bad(fault),
-            InfoRead::Got { info, size: more } => {
-                let whole = size + more;
-                AskedRead::Got {
-                    name: span,
-                    info: info,
-                    size: whole,
-                }
-            }
-        },
-    }
-}
-
-// What 61 holds behind the name: result, diagnostic, user information.
-fn answer_at(part: &[u8], place: usize, definite: bool) -> AnswerRead
-    requires { ⌜ place + length (now part) ≤ 4096 ⌝ }
-    ensures { λ r. ⌜ r ≡ answerGot (ask answerBody definite place (now (part .entry))) ⌝ }
-{
-    match number_at(part, place, definite, 0xA2, 1) {
-        NumberRead::Bad(fault) => AnswerRead::Bad(fault),
-        NumberRead::Got { number, size } => {
-            let rest = after(part, size);
-            let next = place + size;
-            match source_at(rest, next, definite) {
-                SourceRead::Bad(fault) => AnswerRead::Bad(fault),
-                SourceRead::Got { source, size: more } => match info_at(
-                    after(rest, more),
-                    next + more,
-                    definite,
-                ) {
-                    InfoRead::Bad(fault) => AnswerRead::Bad(fault),
-                    InfoRead::Got { info, size: last } => {
-                        let whole = size + (more + last);
-                        AnswerRead::Got {
-                            result: number,
-                            source: source,
-                            info: info,
-                            size: whole,
-                        }
-                    }
-                },
-            }
-        }
-    }
-}
-
-// What 61 holds.
-fn answered_body_at(part: &[u8], place: usize, definite: bool) -> DialogueRead
-    requires { ⌜ place + length (now part) ≤ 4096 ⌝ }
-    ensures { λ r. ⌜ r ≡ dialogueGot (ask answeredBody definite place (now (part .entry))) ⌝ }
-{
-    match named_at(part, place, definite) {
-        SpanRead::Bad(fault) => DialogueRead::Bad(fault),
-        SpanRead::Got { span, size } => match answer_at(after(part, size), place + size, definite) {
-            AnswerRead::Bad(fault) => DialogueRead::Bad(fault),
-            AnswerRead::Got {
-                result,
-                source,
-                info,
-                size: more,
-            } => {
-                let whole = size + more;
-                DialogueRead::Got {
-                    dialogue: Dialogue::Response {
-                        name: span,
-                        result: result,
-                        diagnostic: source,
-                        info: info,
-                    },
-                    size: whole,
-                }
-            }
-        },
-    }
-}
-
-// What 64 holds.
-fn aborted_body_at(part: &[u8], place: usize, definite: bool) -> DialogueRead
-    requires { ⌜ place + length (now part) ≤ 4096 ⌝ }
-    ensures { λ r. ⌜ r ≡ dialogueGot (ask abortedBody definite place (now (part .entry))) ⌝ }
-{
-    match octet_at(part, place, definite, 0x80, 1) {
-        NumberRead::Bad(fault) => DialogueRead::Bad(fault),
-        NumberRead::Got { number, size } => match info_at(
-            after(part, size),
-            place + size,
-            definite,
-        ) {
-            InfoRead::Bad(fault) => DialogueRead::Bad(fault),
-            InfoRead::Got { info, size: more } => {
-                let whole = size + more;
-                DialogueRead::Got {
-                    dialogue: Dialogue::DialogueAbort {
-                        source: number,
-                        info: info,
-                    },
-                    size: whole,
-                }
-            }
-        },
-    }
-}
-
-// 60: a request, or a unidialogue.
-fn asked_at(part: &[u8], place: usize, definite: bool, structured: bool) -> DialogueRead
-    requires { ⌜ place + length (now part) ≤ 4096 ⌝ }
-    ensures { λ r. ⌜ r ≡ dialogueGot (ask (here 5 (askedItem deepestLevel (askedAs structured))) definite place (now (part .entry))) ⌝ }
-{
-    match entry_at(part, definite, 0x60) {
-        Entry::Bad(kind) => DialogueRead::Bad(found(kind, place)),
-        Entry::Open {
-            at,
-            end,
-            definite: inner,
-        } => match asked_body_at(piece(part, at, end - at), place + at, inner) {
-            AskedRead::Bad(fault) => DialogueRead::Bad(fault),
-            AskedRead::Got { name, info, size } => {
-                let whole = whole_size(at, end, inner, size);
-                if structured {
-                    return DialogueRead::Got {
-                        dialogue: Dialogue::Request {
-                            name: name,
-                            info: info,
-                        },
-                        size: whole,
-                    };
-                }
-                DialogueRead::Got {
-                    dialogue: Dialogue::Unidialogue {
-                        name: name,
-                        info: info,
-                    },
-                    size: whole,
-                }
-            }
-        },
-    }
-}
-
-// 61: a response.
-fn answered_at(part: &[u8], place: usize, definite: bool) -> DialogueRead
-    requires { ⌜ place + length (now part) ≤ 4096 ⌝ }
-    ensures { λ r. ⌜ r ≡ dialogueGot (ask (here 5 (answeredItem deepestLevel)) definite place (now (part .entry))) ⌝ }
-{
-    match entry_at(part, definite, 0x61) {
-        Entry::Bad(kind) => DialogueRead::Bad(found(kind, place)),
-        Entry::Open {
-            at,
-            end,
-            definite: inner,
-        } => match answered_body_at(piece(part, at, end - at), place + at, inner) {
-            DialogueRead::Bad(fault) => DialogueRead::Bad(fault),
-            DialogueRead::Got { dialogue, size } => {
-                let whole = whole_size(at, end, inner, size);
-                DialogueRead::Got {
-                    dialogue: dialogue,
-                    size: whole,
-                }
-            }
-        },
-    }
-}
-
-// 64: a dialogue abort.
-fn aborted_at(part: &[u8], place: usize, definite: bool) -> DialogueRead
-    requires { ⌜ place + length (now part) ≤ 4096 ⌝ }
-    ensures { λ r. ⌜ r ≡ dialogueGot (ask (here 5 (abortedItem deepestLevel)) definite place (now (part .entry))) ⌝ }
-{
-    match entry_at(part, definite, 0x64) {
-        Entry::Bad(kind) => DialogueRead::Bad(found(kind, place)),
-        Entry::Open {
-            at,
-            end,
-            definite: inner,
-        } => match aborted_body_at(piece(part, at, end - at), place + at, inner) {
-            DialogueRead::Bad(fault) => DialogueRead::Bad(fault),
-            DialogueRead::Got { dialogue, size } => {
-                let whole = whole_size(at, end, inner, size);
-                DialogueRead::Got {
-                    dialogue: dialogue,
-                    size: whole,
-                }
-            }
-        },
-    }
-}
-
-// The PDU of the structured dialogue, or of the other.
-fn pdu_at(part: &[u8], place: usize, definite: bool, structured: bool) -> DialogueRead
-    requires { ⌜ place + length (now part) ≤ 4096 ⌝ }
-    ensures { λ r. ⌜ r ≡ dialogueGot (ask (here 5 (pduItem structured)) definite place (now (part .entry))) ⌝ }
-{
-    if structured {
-        if begins_with(part, 0x60) {
-            return asked_at(part, place, definite, true);
-        }
-        if begins_with(part, 0x61) {
-            return answered_at(part, place, definite);
-        }
-        return aborted_at(part, place, definite);
-    }
-    asked_at(part, place, definite, false)
+// The PDU of a dialogue portion in its plain form, and any other portion.
+pub enum Plain {
+    Other,
+    Pdu(PduKind),
 }
 
 // A0 holding one PDU.
@@ -643,91 +79,14 @@ fn known_at(part: &[u8], place: usize, definite: bool, structured: bool) -> Dial
             let contents = piece(part, at, end - at);
             let start = place + at;
             match pdu_at(contents, start, inner, structured) {
-                DialogueRead::Bad(fault) => DialogueRead::Bad(fault),
-                DialogueRead::Got { dialogue, size } => match shut_at(
-                    contents,
-                    start,
-                    inner,
-                    size,
-                    at,
-                    end,
-                ) {
+                PduRead::Bad(fault) => DialogueRead::Bad(fault),
+                PduRead::Got { pdu, size } => match shut_at(contents, start, inner, size, at, end) {
                     SizeRead::Bad(fault) => DialogueRead::Bad(fault),
                     SizeRead::Got { size: whole } => DialogueRead::Got {
-                        dialogue: dialogue,
+                        dialogue: pdu,
                         size: whole,
                     },
                 },
-            }
-        }
-    }
-}
-
-// Any element, at level 5.
-fn element_at(part: &[u8], place: usize, definite: bool) -> SpanRead
-    requires { ⌜ place + length (now part) ≤ 4096 ⌝ }
-    ensures { λ r. ⌜ r ≡ spanGot (ask (here 5 (parameterItem deepestLevel 5)) definite place (now (part .entry))) ⌝ }
-{
-    match end_at(part, definite) {
-        EndRead::Ended => SpanRead::Bad(found(FaultKind::Missing, place)),
-        EndRead::Unfinished => SpanRead::Bad(found(FaultKind::CutOff, place)),
-        EndRead::More => match walk_element(part, place, 12, 0) {
-            Walk::Fault { kind, place: spot } => SpanRead::Bad(found(kind, spot)),
-            Walk::Whole { size } => SpanRead::Got {
-                span: span_at(place, size),
-                size: size,
-            },
-        },
-    }
-}
-
-// A0 holding one element.
-fn single_at(part: &[u8], place: usize, definite: bool) -> SpanRead
-    requires { ⌜ place + length (now part) ≤ 4096 ⌝ }
-    ensures { λ r. ⌜ r ≡ spanGot (ask (here 4 singleItem) definite place (now (part .entry))) ⌝ }
-{
-    match entry_at(part, definite, 0xA0) {
-        Entry::Bad(kind) => SpanRead::Bad(found(kind, place)),
-        Entry::Open {
-            at,
-            end,
-            definite: inner,
-        } => {
-            let contents = piece(part, at, end - at);
-            let start = place + at;
-            match element_at(contents, start, inner) {
-                SpanRead::Bad(fault) => SpanRead::Bad(fault),
-                SpanRead::Got { span, size } => match shut_at(
-                    contents,
-                    start,
-                    inner,
-                    size,
-                    at,
-                    end,
-                ) {
-                    SizeRead::Bad(fault) => SpanRead::Bad(fault),
-                    SizeRead::Got { size: whole } => SpanRead::Got {
-                        span: span,
-                        size: whole,
-                    },
-                },
-            }
-        }
-    }
-}
-
-// 81 with any contents.
-fn octets_at(part: &[u8], place: usize, definite: bool) -> SpanRead
-    requires { ⌜ place + length (now part) ≤ 4096 ⌝ }
-    ensures { λ r. ⌜ r ≡ spanGot (ask (here 4 octetsItem) definite place (now (part .entry))) ⌝ }
-{
-    match field_at(part, definite, 0x81) {
-        Field::Bad(kind) => SpanRead::Bad(found(kind, place)),
-        Field::Contents { at, count } => {
-            let size = at + count;
-            SpanRead::Got {
-                span: span_at(place + at, count),
-                size: size,
             }
         }
     }
@@ -921,8 +280,8 @@ fn close_6b(part: &[u8], place: usize, definite: bool, size: usize) -> SizeRead
     }
 }
 
-// The contents of 6B: 28, and nothing more. All faults in them are the dialogue's, but not a missing 28 or a missing end pair of 6B.
-pub fn dialogue_at(part: &[u8], place: usize, definite: bool) -> DialogueRead
+// The contents of 6B: 28, and nothing more.
+fn any_at(part: &[u8], place: usize, definite: bool) -> DialogueRead
     requires { ⌜ place + length (now part) ≤ 4096 ⌝ }
     ensures { λ r. ⌜ r ≡ dialogueGot (ask (onlyBody (inside6B deepestLevel) (aroundItem 0x28 (externalBody deepestLevel))) definite place (now (part .entry))) ⌝ }
 {
@@ -944,5 +303,118 @@ pub fn dialogue_at(part: &[u8], place: usize, definite: bool) -> DialogueRead
                 },
             },
         },
+    }
+}
+
+// Whether the lengths of 28, A0 and the PDU are short, and all reach the end of 6B.
+fn ends_together(part: &[u8]) -> bool
+    ensures { λ r. ⌜ (r ≡ true → EndsTogether (now (part .entry))) ⌝ }
+{
+    let size = part.len();
+    if size < 15 {
+        return false;
+    }
+    if size > 129 {
+        return false;
+    }
+    if part[1] as usize != size - 2 {
+        return false;
+    }
+    if part[12] as usize != size - 13 {
+        return false;
+    }
+    if part[14] as usize != size - 15 {
+        return false;
+    }
+    true
+}
+
+// Whether 28 holds a name that may be one of the two, and A0.
+fn names_known(part: &[u8]) -> bool
+    requires { ⌜ 15 ≤ length (now part) ⌝ }
+    ensures { λ r. ⌜ (r ≡ true → Known (now (part .entry))) ⌝ }
+{
+    if part[0] != 0x28 {
+        return false;
+    }
+    if part[2] != 0x06 {
+        return false;
+    }
+    if part[3] != 0x07 {
+        return false;
+    }
+    if part[11] != 0xA0 {
+        return false;
+    }
+    is_known(piece(part, 4, 7))
+}
+
+// The PDU that stands under a name with this sixth octet.
+fn pdu_of(octet: u8, tag: u8) -> Plain
+    ensures { λ r. ⌜ r ≡ pduOf octet tag ⌝ }
+{
+    if octet == 0x01 {
+        if tag == 0x60 {
+            return Plain::Pdu(PduKind::Request);
+        }
+        if tag == 0x61 {
+            return Plain::Pdu(PduKind::Response);
+        }
+        if tag == 0x64 {
+            return Plain::Pdu(PduKind::Abort);
+        }
+        return Plain::Other;
+    }
+    if octet == 0x02 {
+        if tag == 0x60 {
+            return Plain::Pdu(PduKind::Unidialogue);
+        }
+        return Plain::Other;
+    }
+    Plain::Other
+}
+
+// The PDU, if the contents of 6B are plain.
+fn plain_of(part: &[u8], definite: bool) -> Plain
+    ensures { λ r. ⌜ ((k : PduKind) → r ≡ PlainPdu k → (definite ≡ true) × Holds k (now (part .entry))) ⌝ }
+{
+    if definite {
+        if ends_together(part) {
+            if names_known(part) {
+                return pdu_of(part[9], part[13]);
+            }
+            return Plain::Other;
+        }
+        return Plain::Other;
+    }
+    Plain::Other
+}
+
+// The contents of 6B, which are plain: only the PDU's contents are left to read.
+fn plain_at(part: &[u8], place: usize, kind: PduKind) -> DialogueRead
+    requires { ⌜ place + length (now part) ≤ 4096 ⌝ }
+    requires { ⌜ Holds kind (now part) ⌝ }
+    ensures { λ r. ⌜ r ≡ dialogueGot (ask (onlyBody (inside6B deepestLevel) (aroundItem 0x28 (externalBody deepestLevel))) true place (now (part .entry))) ⌝ }
+{
+    match contents_at(after(part, 15), place + 15, true, kind) {
+        PduRead::Bad(fault) => DialogueRead::Bad(in_dialogue(fault)),
+        PduRead::Got { pdu, size } => {
+            let whole = part.len();
+            DialogueRead::Got {
+                dialogue: pdu,
+                size: whole,
+            }
+        }
+    }
+}
+
+// The same, the plain form first. All faults in 6B are the dialogue's, but not a missing 28 or a missing end pair of 6B.
+pub fn dialogue_at(part: &[u8], place: usize, definite: bool) -> DialogueRead
+    requires { ⌜ place + length (now part) ≤ 4096 ⌝ }
+    ensures { λ r. ⌜ r ≡ dialogueGot (ask (onlyBody (inside6B deepestLevel) (aroundItem 0x28 (externalBody deepestLevel))) definite place (now (part .entry))) ⌝ }
+{
+    match plain_of(part, definite) {
+        Plain::Other => any_at(part, place, definite),
+        Plain::Pdu(kind) => plain_at(part, place, kind),
     }
 }

@@ -193,6 +193,52 @@ fewest-test (x ∷ y ∷ r) o i l = let some : 1 < length (x ∷ y ∷ r) = omeg
         as-many c o i (omega arith)
     by-front false e = fewer c o i (omega (arith, width-fits (suc (length r)) z (omega arith) (front ∙ ap not e)))
 
+-- the numbers of one octet to four, octet by octet
+module _ (z : ℤ) (s : List ℕ) (a : ℕ) (is-a : a ≡ getD s 0 0) where
+  pub signed-one : z ≡ signedAt 255 a → length s ≡ 1 → z ≡ signedOf s
+  unfolding signedOf numberFrom topOf
+  signed-one e l = by-octets s is-a l
+    where
+      by-octets : (s : List ℕ) → a ≡ getD s 0 0 → length s ≡ 1 → z ≡ signedOf s
+      by-octets [] i l = absurd (omega (arith, l))
+      by-octets (x ∷ []) i l = e ∙ ap (signedAt 255) (i ∙ sym (zero-add x))
+      by-octets (x ∷ y ∷ r) i l = absurd (omega (arith, l))
+
+  module _ (b : ℕ) (is-b : b ≡ getD s 1 0) where
+    pub signed-two : z ≡ signedAt 65535 (a * 256 + b) → length s ≡ 2 → z ≡ signedOf s
+    unfolding signedOf numberFrom topOf
+    signed-two e l = by-octets s is-a is-b l
+      where
+        by-octets : (s : List ℕ) → a ≡ getD s 0 0 → b ≡ getD s 1 0 → length s ≡ 2 → z ≡ signedOf s
+        by-octets [] i j l = absurd (omega (arith, l))
+        by-octets (x ∷ []) i j l = absurd (omega (arith, l))
+        by-octets (x ∷ y ∷ []) i j l = let n : a * 256 + b ≡ (0 + x) * 256 + y = omega (arith, i, j) in e ∙ ap (signedAt 65535) n
+        by-octets (x ∷ y ∷ v ∷ r) i j l = absurd (omega (arith, l))
+
+    module _ (c : ℕ) (is-c : c ≡ getD s 2 0) where
+      pub signed-three : z ≡ signedAt 16777215 ((a * 256 + b) * 256 + c) → length s ≡ 3 → z ≡ signedOf s
+      unfolding signedOf numberFrom topOf
+      signed-three e l = by-octets s is-a is-b is-c l
+        where
+          by-octets : (s : List ℕ) → a ≡ getD s 0 0 → b ≡ getD s 1 0 → c ≡ getD s 2 0 → length s ≡ 3 → z ≡ signedOf s
+          by-octets [] i j k l = absurd (omega (arith, l))
+          by-octets (x ∷ []) i j k l = absurd (omega (arith, l))
+          by-octets (x ∷ y ∷ []) i j k l = absurd (omega (arith, l))
+          by-octets (x ∷ y ∷ v ∷ []) i j k l = let n : (a * 256 + b) * 256 + c ≡ ((0 + x) * 256 + y) * 256 + v = omega (arith, i, j, k) in e ∙ ap (signedAt 16777215) n
+          by-octets (x ∷ y ∷ v ∷ w ∷ r) i j k l = absurd (omega (arith, l))
+
+      pub signed-four : (d : ℕ) → d ≡ getD s 3 0 → z ≡ signedAt 4294967295 (((a * 256 + b) * 256 + c) * 256 + d) → length s ≡ 4 → z ≡ signedOf s
+      unfolding signedOf numberFrom topOf
+      signed-four d is-d e l = by-octets s is-a is-b is-c is-d l
+        where
+          by-octets : (s : List ℕ) → a ≡ getD s 0 0 → b ≡ getD s 1 0 → c ≡ getD s 2 0 → d ≡ getD s 3 0 → length s ≡ 4 → z ≡ signedOf s
+          by-octets [] i j k m l = absurd (omega (arith, l))
+          by-octets (x ∷ []) i j k m l = absurd (omega (arith, l))
+          by-octets (x ∷ y ∷ []) i j k m l = absurd (omega (arith, l))
+          by-octets (x ∷ y ∷ v ∷ []) i j k m l = absurd (omega (arith, l))
+          by-octets (x ∷ y ∷ v ∷ w ∷ []) i j k m l = let n : ((a * 256 + b) * 256 + c) * 256 + d ≡ (((0 + x) * 256 + y) * 256 + v) * 256 + w = omega (arith, i, j, k, m) in e ∙ ap (signedAt 4294967295) n
+          by-octets (x ∷ y ∷ v ∷ w ∷ u ∷ r) i j k m l = absurd (omega (arith, l))
+
 -- document 01's specimens
 specimens
     : (integerOf 4 (0x80 ∷ []) ≡ Value (negsuc 127)) × (integerOf 4 (0x00 ∷ 0x80 ∷ []) ≡ Value (pos 128)) × (integerOf 4 (0x00 ∷ 0x7F ∷ []) ≡ Wrong)

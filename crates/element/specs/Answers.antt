@@ -1,9 +1,9 @@
 -- What the functions of this layer answer: their contracts cite these, and the definition of reading rests on none of them.
 -- Assumes nothing: these are definitions.
-use Prim.Native.Nat.{ℕ}
+use Prim.Native.Nat.{ℕ, _-_}
 use mathlib.Core.{Bool.Bool, Bool.true, Bool.false, Bool.not, Bool.cond, List.List, List.[], Option.none, Option.some}
-use lib.{ListN.length, Dec.ltb, Dec.eqb}
-use Rattle.element.specs.{declared.FaultKind.FaultKind, declared.TagRead.TagRead, declared.IntegerRead.IntegerRead, declared.Walk.Walk, Element.codeZero, Primitive.signedOf, Primitive.integerOk, Fault.Text, Fault.fault, Head.tagOf, Ask.Got, Ask.got, Ask.bad, Ask.ask, Ask.askTag, Parts.Item, Parts.level, Parts.place, Parts.seriesBody, Walk.walkItem, Walk.walkTagItem}
+use lib.{ListN.length, ListN.getD, Dec.ltb, Dec.leb, Dec.eqb}
+use Rattle.element.specs.{declared.FaultKind.FaultKind, declared.TagRead.TagRead, declared.IntegerRead.IntegerRead, declared.Walk.Walk, Element.extendedOf, Element.codeZero, Primitive.signedOf, Primitive.integerOk, Fault.Text, Fault.fault, Head.tagOf, Ask.Got, Ask.got, Ask.bad, Ask.ask, Ask.askTag, Parts.Item, Parts.level, Parts.place, Parts.seriesBody, Walk.walkItem, Walk.walkTagItem}
 
 -- contents as an integer of 1 to `most` octets
 unfoldable pub integerOf : ℕ → List ℕ → IntegerRead
@@ -16,6 +16,15 @@ fronted left (TagRead.Tag a s) = cond (codeZero a) (TagRead.Fault FaultKind.Code
 
 unfoldable pub frontOf : ℕ → List ℕ → TagRead
 frontOf left part = fronted left (tagOf part)
+
+-- an element whose tag and length take an octet each, and whose contents are there
+unfoldable pub shortOf : List ℕ → Bool
+shortOf p =
+    cond (ltb (length p) 2) false
+    (cond (extendedOf (getD p 0 0)) false
+    (cond (codeZero (getD p 0 0)) false
+    (cond (leb 128 (getD p 1 0)) false
+    (leb (getD p 1 0) (length p - 2)))))
 
 -- What the walkers answer: the first fault and its place, or the octets taken. The tag wanted is 0 for any, since no tag is 0.
 

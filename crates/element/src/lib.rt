@@ -8,7 +8,7 @@ ghost use Rattle.base.specs.Number.{numberFrom};
 ghost use Rattle.element.specs.Form.{fewestOf};
 ghost use Rattle.element.specs.Element.{constructorOf, codeZero};
 ghost use Rattle.element.specs.Head.{endOf, tagOf, within, lengthOf};
-ghost use Rattle.element.specs.Answers.{frontOf, another, elementWalk, seriesWalk};
+ghost use Rattle.element.specs.Answers.{frontOf, shortOf, another, elementWalk, seriesWalk};
 use base::after;
 use base::piece;
 use base::wide;
@@ -244,6 +244,25 @@ pub fn front_at(part: &[u8], left: usize) -> TagRead
             }
         }
     }
+}
+
+// Whether an element stands here whose tag and length take an octet each, as those of most do.
+pub fn is_short(part: &[u8]) -> bool
+    ensures { λ r. ⌜ r ≡ shortOf (now (part .entry)) ⌝ }
+{
+    if part.len() < 2 {
+        return false;
+    }
+    if part[0] % 32 == 31 {
+        return false;
+    }
+    if is_code_zero(part[0]) {
+        return false;
+    }
+    if part[1] >= 128 {
+        return false;
+    }
+    wide(part[1]) <= part.len() - 2
 }
 
 // Whether a first octet is another than the wanted; 0 is any.

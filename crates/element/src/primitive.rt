@@ -2,13 +2,13 @@
 use base::wide;
 ghost use mathlib.Core.Path.{_≡_};
 ghost use mathlib.Core.Bool.{not, _&&_};
-ghost use Prim.Native.Nat.{_≤_};
-ghost use lib.ListN.{length};
+ghost use Prim.Native.Nat.{_≤_, _<_};
+ghost use lib.ListN.{length, getD};
 ghost use lib.Dec.{eqb};
 ghost use lib.Signed.{mag};
 ghost use Rattle.base.specs.Number.{signedAt, bitsAt};
 ghost use Rattle.base.specs.Value.{same};
-ghost use Rattle.element.specs.Primitive.{mostIntegerOctets, integerOctets, signedOf, identifierOk};
+ghost use Rattle.element.specs.Primitive.{mostIntegerOctets, integerOctets, signedOf, beginsAt, identifierOk};
 ghost use Rattle.element.specs.Answers.{integerOf};
 use crate::IntegerRead;
 
@@ -88,6 +88,27 @@ fn is_fewest(contents: &[u8]) -> bool
     true
 }
 
+// The number for which 1 to 4 octets stand.
+fn value_of(contents: &[u8]) -> i32
+    requires { ⌜ 1 ≤ length (now contents) ⌝ }
+    requires { ⌜ length (now contents) ≤ mostIntegerOctets ⌝ }
+    ensures { λ r. ⌜ r ≡ signedOf (now (contents .entry)) ⌝ }
+{
+    let one = wide(contents[0]) as u32;
+    if contents.len() == 1 {
+        return signed(255, one);
+    }
+    let two = one * 256 + wide(contents[1]) as u32;
+    if contents.len() == 2 {
+        return signed(65535, two);
+    }
+    let three = two * 256 + wide(contents[2]) as u32;
+    if contents.len() == 3 {
+        return signed(16777215, three);
+    }
+    signed(4294967295, three * 256 + wide(contents[3]) as u32)
+}
+
 // Contents as a signed integer of 1 to `most` octets.
 pub fn integer_at(contents: &[u8], most: usize) -> IntegerRead
     requires { ⌜ most ≤ mostIntegerOctets ⌝ }
@@ -102,25 +123,29 @@ pub fn integer_at(contents: &[u8], most: usize) -> IntegerRead
     if !is_fewest(contents) {
         return IntegerRead::Wrong;
     }
-    let mut number: u32 = 0;
-    let mut top: u32 = 0;
-    let mut at = 0;
-    while at < contents.len() {
-        number = number * 256 + wide(contents[at]) as u32;
-        top = top * 256 + 255;
-        at += 1;
-    }
-    IntegerRead::Value(signed(top, number))
+    IntegerRead::Value(value_of(contents))
 }
 
-// Whether an octet may stand where a number begins, or does not.
-fn goes_on(begins: bool, octet: u8) -> bool
-    ensures { λ r. ⌜ r ≡ not (begins && eqb octet 128) ⌝ }
+// Whether a number begins at a place of an object identifier: at the start, and behind an octet without bit H.
+fn begins_at(contents: &[u8], at: usize) -> bool
+    requires { ⌜ at ≤ length (now contents) ⌝ }
+    ensures { λ r. ⌜ r ≡ beginsAt at (now (contents .entry)) ⌝ }
 {
-    if begins {
-        return octet != 128;
+    if at == 0 {
+        return true;
     }
-    true
+    contents[at - 1] < 128
+}
+
+// Whether the octet at a place may stand there: no number begins with 80.
+fn goes_on(contents: &[u8], at: usize) -> bool
+    requires { ⌜ at < length (now contents) ⌝ }
+    ensures { λ r. ⌜ r ≡ not (eqb (getD (now (contents .entry)) at 0) 128 && beginsAt at (now (contents .entry))) ⌝ }
+{
+    if contents[at] != 128 {
+        return true;
+    }
+    !begins_at(contents, at)
 }
 
 // Whether contents are an object identifier.
@@ -133,15 +158,12 @@ pub fn identifier_ok(contents: &[u8]) -> bool
     if contents.len() > 16 {
         return false;
     }
-    let mut begins = true;
     let mut at = 0;
     while at < contents.len() {
-        let octet = contents[at];
-        if !goes_on(begins, octet) {
+        if !goes_on(contents, at) {
             return false;
         }
-        begins = octet < 128;
         at += 1;
     }
-    begins
+    begins_at(contents, at)
 }

@@ -1,7 +1,7 @@
 -- A primitive that must stand here, by what `field_at` told; the contents of integers, octets and null by the code's tests.
 -- Assumes nothing.
 use Prim.Native.Nat.{ℕ, _+_, _*_, _≤_, _<_}
-use mathlib.Core.Path.{_≡_, refl, sym, ap, _∙_}
+use mathlib.Core.Path.{_≡_, refl, sym, ap, ap₂, _∙_}
 use mathlib.Core.Bool.{Bool, true, false, cond, _&&_, and-eq-true-iff}
 use mathlib.Core.List.{List, [], _∷_}
 use mathlib.Core.Option.{Option, none}
@@ -10,7 +10,7 @@ use lib.ListN.{length, take, drop, getD, length-drop}
 use lib.Seq.{drop-cons, length-take-le}
 use lib.Dec.{leb, eqb}
 use lib.IntN.{ℤ}
-use borrow.Author.Tests.{leb-true, le-leb, lt-leb}
+use borrow.Author.Tests.{leb-true, le-leb, lt-leb, eqb-true, eqb-false}
 use Rattle.base.specs.Number.{numberFrom, topOf, signedAt}
 use Rattle.base.specs.Value.{Every, same}
 use Rattle.element.specs.declared.FaultKind.{FaultKind}
@@ -24,8 +24,8 @@ use Rattle.element.specs.Answers.{integerOf}
 use Rattle.element.proofs.Integers.{firstNine, fewest-test}
 use Rattle.tcap.specs.Productions.{single?, octetItem}
 use Rattle.tcap.specs.Meaning.{Code, local, global}
-use Rattle.asking.specs.declared.Field.{Field}
-use Rattle.asking.specs.Asked.{fieldOf}
+use Rattle.asking.specs.declared.{Field.Field, Octet.Octet}
+use Rattle.asking.specs.Asked.{fieldOf, onOctet, octetOf}
 use Rattle.asking.proofs.Sizes.{field-size}
 use Rattle.asking.proofs.Fronts.{fieldGot, front-field}
 use Rattle.fields.specs.Fields.{field}
@@ -147,23 +147,23 @@ module _ (t : ℕ) (leaf : constructorOf t ≡ false) (d : Bool) (p : ℕ) (part
     unfolding next
     held-fails h = field-holds t held (λ a. refl) leaf d p part r is u n e ∙ rw (leaf-fails p part t u n fits h)
 
-  pub id-holds : n ≡ 1 → getD part u 0 < 256 → field (integerItem t 1) d p part ≡ got (signedAt 255 (getD part u 0)) (u + n)
+  id-holds : n ≡ 1 → getD part u 0 < 256 → field (integerItem t 1) d p part ≡ got (signedAt 255 (getD part u 0)) (u + n)
   id-holds i h =
       let w = id-passes part u n within i h in
       held-passes (integerOk 1) (λ v. signedOf (v .1)) (w .0) ∙ ap (λ (z : ℤ). got z (u + n)) (w .1)
 
-  pub id-other : (n ≡ 1 → ⊥) → field (integerItem t 1) d p part ≡ bad (at FaultKind.BadContents p)
+  id-other : (n ≡ 1 → ⊥) → field (integerItem t 1) d p part ≡ bad (at FaultKind.BadContents p)
   id-other h = held-fails (integerOk 1) (λ v. signedOf (v .1)) (id-fails part u n within h)
 
-  pub octet-holds : (most : ℕ) → n ≡ 1 → getD part u 0 ≤ most → field (octetItem t most) d p part ≡ got (getD part u 0) (u + n)
+  octet-holds : (most : ℕ) → n ≡ 1 → getD part u 0 ≤ most → field (octetItem t most) d p part ≡ got (getD part u 0) (u + n)
   octet-holds most i h =
       let w = single-is part u n within most i in
       held-passes (single? most) (λ v. getD (v .1) 0 0) (w .0 ∙ le-leb (getD part u 0) most h) ∙ ap (λ (x : ℕ). got x (u + n)) (w .1)
 
-  pub octet-above : (most : ℕ) → n ≡ 1 → most < getD part u 0 → field (octetItem t most) d p part ≡ bad (at FaultKind.BadContents p)
+  octet-above : (most : ℕ) → n ≡ 1 → most < getD part u 0 → field (octetItem t most) d p part ≡ bad (at FaultKind.BadContents p)
   octet-above most i h = held-fails (single? most) (λ v. getD (v .1) 0 0) (single-is part u n within most i .0 ∙ lt-leb (getD part u 0) most h)
 
-  pub octet-other : (most : ℕ) → (n ≡ 1 → ⊥) → field (octetItem t most) d p part ≡ bad (at FaultKind.BadContents p)
+  octet-other : (most : ℕ) → (n ≡ 1 → ⊥) → field (octetItem t most) d p part ≡ bad (at FaultKind.BadContents p)
   octet-other most h = held-fails (single? most) (λ v. getD (v .1) 0 0) (single-fails part u n within most h)
 
   module _ (q : List ℕ) (cut : q ≡ take n (drop u part)) where
@@ -190,3 +190,58 @@ module _ (t : ℕ) (leaf : constructorOf t ≡ false) (d : Bool) (p : ℕ) (part
 
   pub null-other : (n ≡ 0 → ⊥) → field (mapItem {B = Option ℤ} (λ v. none) (leafItem t (same []))) d p part ≡ bad (at FaultKind.BadContents p)
   null-other h = held-fails (same []) (λ v. none) (null-fails part u n within h)
+
+-- A field of one octet, by what `octet_at` told
+
+record One (t : ℕ) (d : Bool) (part : List ℕ) (o s : ℕ) : Type 0 where
+  start : ℕ
+  count : ℕ
+  is-field : fieldOf t d part ≡ Field.Contents start count
+  one : count ≡ 1
+  octet : o ≡ getD part start 0
+  size : s ≡ start + count
+
+module _ (t : ℕ) (d : Bool) (part : List ℕ) where
+  one-count : (u n : ℕ) → fieldOf t d part ≡ Field.Contents u n → (o s : ℕ) (b : Bool) → eqb n 1 ≡ b → cond b (Octet.Got (getD part u 0) (u + n)) (Octet.Bad FaultKind.BadContents) ≡ Octet.Got o s → One t d part o s
+  one-count u n i o s true h g = record { start = u; count = n; is-field = i; one = eqb-true n 1 h; octet = cc; size = cc }
+  one-count u n i o s false h g = let z : _≡_ {A = ℕ} 0 1 = cc in absurd (omega arith)
+
+  one-field : (f : Field) → fieldOf t d part ≡ f → (o s : ℕ) → onOctet part f ≡ Octet.Got o s → One t d part o s
+  unfolding onOctet
+  one-field (Field.Bad k) i o s g = let z : _≡_ {A = ℕ} 0 1 = cc in absurd (omega arith)
+  one-field (Field.Contents u n) i o s g = one-count u n i o s (eqb n 1) refl g
+
+module _ (t : ℕ) (leaf : constructorOf t ≡ false) (d : Bool) (p : ℕ) (part : List ℕ) (r : Octet) (is : r ≡ octetOf t d part) where
+  told-one : (o s : ℕ) → r ≡ Octet.Got o s → One t d part o s
+  unfolding octetOf
+  told-one o s e = one-field t d part (fieldOf t d part) refl o s (sym is ∙ e)
+
+  module _ {A : Type 0} (x : Item A) (only : (a : ℕ) → x .mine a ≡ eqb a t) (other : (u n : ℕ) → fieldOf t d part ≡ Field.Contents u n → (n ≡ 1 → ⊥) → field x d p part ≡ bad (at FaultKind.BadContents p)) (k : FaultKind) where
+    none-count : (u n : ℕ) → fieldOf t d part ≡ Field.Contents u n → (b : Bool) → eqb n 1 ≡ b → cond b (Octet.Got (getD part u 0) (u + n)) (Octet.Bad FaultKind.BadContents) ≡ Octet.Bad k → field x d p part ≡ bad (at k p)
+    none-count u n i true h g = let z : _≡_ {A = ℕ} 0 1 = cc in absurd (omega arith)
+    none-count u n i false h g = let j : FaultKind.BadContents ≡ k = cc in rw (← j) (other u n i (eqb-false n 1 h))
+
+    none-field : (f : Field) → fieldOf t d part ≡ f → onOctet part f ≡ Octet.Bad k → field x d p part ≡ bad (at k p)
+    unfolding onOctet
+    none-field (Field.Bad j) i g = let q : j ≡ k = cc in field-refused t x only leaf d p part (fieldOf t d part) refl k (i ∙ ap (λ (z : FaultKind). Field.Bad z) q)
+    none-field (Field.Contents u n) i g = none-count u n i (eqb n 1) refl g
+
+    told-none : r ≡ Octet.Bad k → field x d p part ≡ bad (at k p)
+    unfolding octetOf
+    told-none e = none-field (fieldOf t d part) refl (sym is ∙ e)
+
+  pub id-refused : (k : FaultKind) → r ≡ Octet.Bad k → field (integerItem t 1) d p part ≡ bad (at k p)
+  id-refused k e = told-none (integerItem t 1) (λ a. refl) (λ u n i h. id-other t leaf d p part (fieldOf t d part) refl u n i h) k e
+
+  pub octet-refused : (most : ℕ) (k : FaultKind) → r ≡ Octet.Bad k → field (octetItem t most) d p part ≡ bad (at k p)
+  octet-refused most k e = told-none (octetItem t most) (λ a. refl) (λ u n i h. octet-other t leaf d p part (fieldOf t d part) refl u n i most h) k e
+
+  module _ (o s : ℕ) (e : r ≡ Octet.Got o s) where
+    pub id-told : o < 256 → field (integerItem t 1) d p part ≡ got (signedAt 255 o) s
+    id-told h = let w = told-one o s e in id-holds t leaf d p part (fieldOf t d part) refl (w .start) (w .count) (w .is-field) (w .one) (rw (← (w .octet)) h) ∙ ap₂ (λ (x n : ℕ). got (signedAt 255 x) n) (sym (w .octet)) (sym (w .size))
+
+    pub octet-told : (most : ℕ) → o ≤ most → field (octetItem t most) d p part ≡ got o s
+    octet-told most h = let w = told-one o s e in octet-holds t leaf d p part (fieldOf t d part) refl (w .start) (w .count) (w .is-field) most (w .one) (rw (← (w .octet)) h) ∙ ap₂ (λ (x n : ℕ). got x n) (sym (w .octet)) (sym (w .size))
+
+    pub octet-over : (most : ℕ) → most < o → field (octetItem t most) d p part ≡ bad (at FaultKind.BadContents p)
+    octet-over most h = let w = told-one o s e in octet-above t leaf d p part (fieldOf t d part) refl (w .start) (w .count) (w .is-field) most (w .one) (rw (← (w .octet)) h)

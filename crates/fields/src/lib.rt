@@ -20,10 +20,12 @@ ghost use Rattle.fields.specs.Fields.{field, idGot, octetGot, codeGot, n
 use asking::Closed;
 use asking::Fault;
 use asking::Field;
+use asking::Octet;
 use asking::begins_with;
 use asking::close_at;
 use asking::field_at;
 use asking::found;
+use asking::octet_at;
 use asking::span_at;
 use base::after;
 use base::piece;
@@ -90,17 +92,11 @@ pub fn octet_id(part: &[u8], place: usize, definite: bool, tag: u8) -> IdRead
     requires { ⌜ constructorOf tag ≡ false ⌝ }
     ensures { λ r. ⌜ r ≡ idGot (field (integerItem tag 1) definite place (now (part .entry))) ⌝ }
 {
-    match field_at(part, definite, tag) {
-        Field::Bad(kind) => IdRead::Bad(found(kind, place)),
-        Field::Contents { at, count } => {
-            if count != 1 {
-                return IdRead::Bad(found(FaultKind::BadContents, place));
-            }
-            let id = signed_octet(part[at]);
-            IdRead::Got {
-                id: id,
-                size: at + count,
-            }
+    match octet_at(part, definite, tag) {
+        Octet::Bad(kind) => IdRead::Bad(found(kind, place)),
+        Octet::Got { octet, size } => {
+            let id = signed_octet(octet);
+            IdRead::Got { id: id, size: size }
         }
     }
 }
@@ -110,19 +106,15 @@ pub fn octet_field(part: &[u8], place: usize, definite: bool, tag: u8, most: u8)
     requires { ⌜ constructorOf tag ≡ false ⌝ }
     ensures { λ r. ⌜ r ≡ octetGot (field (octetItem tag most) definite place (now (part .entry))) ⌝ }
 {
-    match field_at(part, definite, tag) {
-        Field::Bad(kind) => OctetRead::Bad(found(kind, place)),
-        Field::Contents { at, count } => {
-            if count != 1 {
-                return OctetRead::Bad(found(FaultKind::BadContents, place));
-            }
-            let octet = part[at];
+    match octet_at(part, definite, tag) {
+        Octet::Bad(kind) => OctetRead::Bad(found(kind, place)),
+        Octet::Got { octet, size } => {
             if octet > most {
                 return OctetRead::Bad(found(FaultKind::BadContents, place));
             }
             OctetRead::Got {
                 octet: octet,
-                size: at + count,
+                size: size,
             }
         }
     }
@@ -303,19 +295,6 @@ fn sole_at(part: &[u8], place: usize, definite: bool, left: usize) -> SpanRead
                 }
             }
         },
-    }
-}
-
-// One last element of any kind.
-pub fn element_at(part: &[u8], place: usize, definite: bool, left: usize) -> SpanRead
-    requires { ⌜ place + length (now part) ≤ 4096 ⌝ }
-    requires { ⌜ 1 ≤ left ⌝ }
-    ensures { λ r. ⌜ r ≡ spanGot (ask (onlyBody (level left) (walkItem left)) definite place (now (part .entry))) ⌝ }
-{
-    match element::end_at(part, definite) {
-        EndRead::Ended => SpanRead::Bad(found(FaultKind::Missing, place)),
-        EndRead::Unfinished => SpanRead::Bad(found(FaultKind::CutOff, place)),
-        EndRead::More => sole_at(part, place, definite, left),
     }
 }
 

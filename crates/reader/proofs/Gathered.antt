@@ -6,7 +6,7 @@ use mathlib.Core.Path.{_≡_, refl, sym, ap, ap₂, _∙_}
 use mathlib.Core.Bool.{Bool, true, false, cond}
 use mathlib.Core.List.{List, [], _∷_, _++_, map, append-nil}
 use mathlib.Core.Option.{Option, none, some}
-use lib.ListN.{length, take, drop, set, replicate, length-map, take-append-drop}
+use lib.ListN.{length, take, drop, set, replicate, length-map, length-drop, take-append-drop}
 use lib.Seq.{drop-drop, take-suc-set, append-snoc, drop-set-lt, length-take-le}
 use lib.Dec.{eqb}
 use borrow.Author.Tests.{eq-eqb, ne-eqb}
@@ -191,3 +191,12 @@ pub end-within : (rest part : List ℕ) (u e n : ℕ) (f : Bool) (q : List ℕ) 
 end-within rest part u e n f q r cut h i within at-end is told =
     let ended : endOf f (drop n part) ≡ EndRead.Ended = ap (endOf f) (sym at-end) ∙ sym is ∙ told in
     whole-within rest u e n f h i (rw cut at within, rw cut at ended)
+
+-- a piece ends where its part does, at the latest; what is left after some octets ends with it
+pub piece-bound : (part q : List ℕ) (u e : ℕ) → q ≡ take (e - u) (drop u part) → u ≤ e → e ≤ length part → u + length q ≤ length part
+piece-bound part q u e cut h i =
+    let n : length q ≡ e - u = ap length cut ∙ length-take-le (e - u) (drop u part) (omega (arith, length-drop u part)) in
+    omega (arith, n)
+
+pub after-bound : (part q : List ℕ) (i : ℕ) → q ≡ drop i part → i ≤ length part → i + length q ≤ length part
+after-bound part q i cut h = omega (arith, ap length cut ∙ length-drop i part)

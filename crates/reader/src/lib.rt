@@ -20,6 +20,7 @@ use asking::Fault;
 use asking::Owner;
 use base::after;
 use base::piece;
+use components::Opened;
 use contents::RowRead;
 use element::EndRead;
 use element::FaultKind;
@@ -276,14 +277,27 @@ fn gather(head: Head, frame: Frame, rest: &[u8], before: usize, portion: Portion
                 if count == 16 {
                     return refused_behind(orig, asking::found(FaultKind::Seventeenth, here));
                 }
-                match components::component_at(left, here, count) {
-                    RowRead::Bad(fault) => {
+                match components::header_at(left, here, count) {
+                    Opened::Bad(fault) => {
                         return refused_behind(orig, fault);
                     }
-                    RowRead::Got { row: next, size } => {
-                        rows[count] = next;
-                        count += 1;
-                        at += size;
+                    Opened::Open {
+                        first,
+                        at: from,
+                        end: to,
+                        definite: inner,
+                    } => {
+                        let inside = piece(left, from, to - from);
+                        match components::contents_at(inside, here + from, inner, first) {
+                            RowRead::Bad(fault) => {
+                                return refused_behind(orig, components::owned_by(fault, count));
+                            }
+                            RowRead::Got { row: next, size } => {
+                                rows[count] = next;
+                                count += 1;
+                                at += asking::whole_size(from, to, inner, size);
+                            }
+                        }
                     }
                 }
             }

@@ -1,62 +1,54 @@
 -- `entry_at` meets its contract. Assumes nothing.
 use mathlib.Core.Path.{sym, _∙_}
-use borrow.Author.Tests.{eq-eqb, ne-eqb}
-use Rattle.asking.proofs.Sizes.{next-size}
-use Rattle.asking.specs.Asked.{entryOf, entryNext}
+use native.Mathlib.Omega.{arith}
+use borrow.Author.Tests.{not-false}
+use Rattle.element.proofs.Short.{short-is}
+use Rattle.asking.proofs.Shorts.{short-entry}
 use borrow.Author.Needs.{needs}
 use Rattle.asking.proofs.entry_at.Statement.{statement}
 use Rattle.asking.proofs.entry_at.Tie as tie
 
-next-at-requires : tie.Need-next-at-requires
-next-at-requires c κs = search needs
+begins-with-requires : tie.Need-begins-with-requires
+begins-with-requires c κs = search needs
 
-enum-told : tie.Need-enum-told
-enum-told c = search needs
-
-enum-told-2 : tie.Need-enum-told-2
-enum-told-2 c = search needs
-
-enum-known-kind : tie.Need-enum-known-kind
-enum-known-kind c = search needs
-
-enum-known-first : tie.Need-enum-known-first
-enum-known-first c = search needs
+entry-asked-requires : tie.Need-entry-asked-requires
+entry-asked-requires c κs = search needs
 
 returns : tie.Need-returns
-unfolding entryOf entryNext
-returns c = rw (← (c .before .before .before .before .next-at .ensures), c .before .before .first .given .1, ne-eqb _ _ (c .if1 .taken))
+returns c = search needs
 
-inner-at-requires : tie.Need-inner-at-requires
-inner-at-requires c κs = next-size _ _ _ _ (sym (c .before .before .before .before .next-at .ensures) ∙ c .before .before .first .given .1) .1
+is-short-requires : tie.Need-is-short-requires
+is-short-requires c κs = search needs
+
+shared-slice-read-wide : tie.Need-shared-slice-read-wide
+shared-slice-read-wide c = omega (arith, short-is _ (sym (c .before .before .is-short .ensures) ∙ c .before .if2 .taken) .two)
+
+wide-requires : tie.Need-wide-requires
+wide-requires c κs = search needs
+
+add-t10 : tie.Need-add-t10
+add-t10 c = search needs
 
 returns-2 : tie.Need-returns-2
-unfolding entryOf entryNext
-returns-2 c = rw (← (c .before .before .next-at .ensures), c .enum-told .given .1)
+returns-2 c = short-entry _ _ _ (sym (c .before .before .before .before .before .begins-with .ensures) ∙ not-false (c .before .before .before .before .before .begins-with .result) (c .before .before .before .before .if1 .left)) (sym (c .before .before .before .is-short .ensures) ∙ c .before .before .if2 .taken) _ (c .wide .ensures .0)
+
+entry-asked-requires-2 : tie.Need-entry-asked-requires-2
+entry-asked-requires-2 c κs = search needs
 
 returns-3 : tie.Need-returns-3
-unfolding entryOf entryNext
-returns-3 c = rw (← (c .before .before .next-at .ensures), c .enum-told2 .given .1)
-
-returns-4 : tie.Need-returns-4
-unfolding entryOf entryNext
-returns-4 c = rw (← (c .before .before .before .next-at .ensures), c .before .kind .given .1)
-
-returns-5 : tie.Need-returns-5
-unfolding entryOf entryNext
-returns-5 c = rw (← (c .before .before .before .before .before .next-at .ensures), c .before .before .before .first .given .1, eq-eqb _ _ (c .before .if1 .left)) (c .inner-at .ensures)
+returns-3 c = search needs
 
 pub entry-at-spec : {M : Type 1} → statement M
 entry-at-spec =
     tie.close
     (tie.spec
-    next-at-requires
-    enum-told
-    enum-told-2
-    enum-known-kind
-    enum-known-first
+    begins-with-requires
+    entry-asked-requires
     returns
-    inner-at-requires
+    is-short-requires
+    shared-slice-read-wide
+    wide-requires
+    add-t10
     returns-2
-    returns-3
-    returns-4
-    returns-5)
+    entry-asked-requires-2
+    returns-3)

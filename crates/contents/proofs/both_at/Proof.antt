@@ -22,11 +22,19 @@ end-at-requires c κs = search needs
 enum-told : tie.Need-enum-told
 enum-told c = search needs
 
+returns : tie.Need-returns
+returns c =
+    got-both (_, ask-last-ended (levelAt deepestLevel 4) (bothItem deepestLevel) _ _ _ (sym (c .before .before .end-at .ensures) ∙ c .enum-told .given .1), refl)
+
 enum-told-2 : tie.Need-enum-told-2
 enum-told-2 c = search needs
 
 found-requires : tie.Need-found-requires
 found-requires c κs = search needs
+
+returns-2 : tie.Need-returns-2
+returns-2 c =
+    bad-both (_, ask-unfinished (lastBody (levelAt deepestLevel 4) (bothItem deepestLevel)) _ _ _ (sym (c .before .before .before .end-at .ensures) ∙ c .before .enum-told2 .given .1), c .found .ensures)
 
 enum-told-3 : tie.Need-enum-told-3
 enum-told-3 c = search needs
@@ -36,6 +44,11 @@ both-entry-requires c κs = search needs
 
 enum-known-fault : tie.Need-enum-known-fault
 enum-known-fault c = search needs
+
+returns-3 : tie.Need-returns-3
+returns-3 c =
+    let h = some-bad _ (both-bad _ _ (c .before .before .before .both-entry .ensures) _ (c .before .fault .given .1)) in
+    bad-both (failed-as (last-only 13 refl (bothItem deepestLevel) _ _ _ (more-not (sym (c .before .before .before .before .before .before .end-at .ensures) ∙ c .before .before .before .before .enum-told3 .given .1))) (failed-next _ (_, only-bad 13 refl (bothItem deepestLevel) _ _ _ _ (h .1), h .2)))
 
 enum-known-both : tie.Need-enum-known-both
 enum-known-both c = search needs
@@ -47,26 +60,13 @@ rest-after-requires c κs =
 enum-known-fault-2 : tie.Need-enum-known-fault-2
 enum-known-fault-2 c = search needs
 
-enum-told-4 : tie.Need-enum-told-4
-enum-told-4 c = search needs
-
-returns : tie.Need-returns
-returns c =
-    got-both (_, ask-last-ended (levelAt deepestLevel 4) (bothItem deepestLevel) _ _ _ (sym (c .before .before .end-at .ensures) ∙ c .enum-told .given .1), refl)
-
-returns-2 : tie.Need-returns-2
-returns-2 c =
-    bad-both (_, ask-unfinished (lastBody (levelAt deepestLevel 4) (bothItem deepestLevel)) _ _ _ (sym (c .before .before .before .end-at .ensures) ∙ c .before .enum-told2 .given .1), c .found .ensures)
-
-returns-3 : tie.Need-returns-3
-returns-3 c =
-    let h = some-bad _ (both-bad _ _ (c .before .before .before .both-entry .ensures) _ (c .before .fault .given .1)) in
-    bad-both (failed-as (last-only 13 refl (bothItem deepestLevel) _ _ _ (more-not (sym (c .before .before .before .before .before .before .end-at .ensures) ∙ c .before .before .before .before .enum-told3 .given .1))) (failed-next _ (_, only-bad 13 refl (bothItem deepestLevel) _ _ _ _ (h .1), h .2)))
-
 returns-4 : tie.Need-returns-4
 returns-4 c =
     let first = some-got _ bothField (both-got _ _ (c .before .before .before .before .before .before .before .both-entry .ensures) _ _ (c .before .before .before .before .before .both .given .1)) in
     bad-both (failed-as (last-only 13 refl (bothItem deepestLevel) _ _ _ (more-not (sym (c .before .before .before .before .before .before .before .before .before .before .end-at .ensures) ∙ c .before .before .before .before .before .before .before .before .enum-told3 .given .1))) (failed-next _ (only-more 13 refl (bothItem deepestLevel) _ _ _ _ _ (first .1) _ (c .before .before .before .rest-after .ensures) _ (c .before .fault2 .given .1))))
+
+enum-told-4 : tie.Need-enum-told-4
+enum-told-4 c = search needs
 
 returns-5 : tie.Need-returns-5
 returns-5 c =
@@ -79,17 +79,17 @@ both-at-spec =
     (tie.spec
     end-at-requires
     enum-told
+    returns
     enum-told-2
     found-requires
+    returns-2
     enum-told-3
     both-entry-requires
     enum-known-fault
+    returns-3
     enum-known-both
     rest-after-requires
     enum-known-fault-2
-    enum-told-4
-    returns
-    returns-2
-    returns-3
     returns-4
+    enum-told-4
     returns-5)

@@ -26,6 +26,11 @@ enum-known-kind c = search needs
 found-requires : tie.Need-found-requires
 found-requires c κs = search needs
 
+returns : tie.Need-returns
+unfolding constructorOf
+returns c =
+    bad-both (failed-next _ (_, entry-refused 0x30 refl (thenBody (levelAt deepestLevel 5) codeItem (onlyBody (levelAt deepestLevel 5) (parameterItem deepestLevel 5))) _ _ _ _ (c .before .before .before .before .entry-at .ensures) _ (c .before .before .kind .given .1), c .found .ensures))
+
 enum-known-at : tie.Need-enum-known-at
 enum-known-at c = search needs
 
@@ -46,22 +51,17 @@ held-at-requires c κs =
 enum-known-fault : tie.Need-enum-known-fault
 enum-known-fault c = search needs
 
+returns-2 : tie.Need-returns-2
+unfolding constructorOf
+returns-2 c =
+    bad-both (failed-next _ (entry-later 0x30 refl (thenBody (levelAt deepestLevel 5) codeItem (onlyBody (levelAt deepestLevel 5) (parameterItem deepestLevel 5))) _ _ _ _ (c .before .before .before .before .before .before .before .before .entry-at .ensures) _ _ _ (c .before .before .before .before .before .before .at .given .1) _ (c .before .before .before .before .piece .ensures) (some-bad _ (both-bad _ _ (c .before .before .before .held-at .ensures) _ (c .before .fault .given .1)))))
+
 enum-known-both : tie.Need-enum-known-both
 enum-known-both c = search needs
 
 whole-size-requires : tie.Need-whole-size-requires
 whole-size-requires c κs =
     omega (arith, c .before .before .before .before .before .before .before .before .before .before .pre, entry-room _ _ _ _ (c .before .before .before .before .before .before .before .before .entry-at .ensures) _ _ _ (c .before .before .before .before .before .before .at .given .1), fits-got _ _ _ held-fits (some-got _ bothField (both-got _ _ (c .before .before .before .held-at .ensures) _ _ (c .before .both .given .1))), simp (length-take, length-drop) at (ap length (c .before .before .before .before .piece .ensures)))
-
-returns : tie.Need-returns
-unfolding constructorOf
-returns c =
-    bad-both (failed-next _ (_, entry-refused 0x30 refl (thenBody (levelAt deepestLevel 5) codeItem (onlyBody (levelAt deepestLevel 5) (parameterItem deepestLevel 5))) _ _ _ _ (c .before .before .before .before .entry-at .ensures) _ (c .before .before .kind .given .1), c .found .ensures))
-
-returns-2 : tie.Need-returns-2
-unfolding constructorOf
-returns-2 c =
-    bad-both (failed-next _ (entry-later 0x30 refl (thenBody (levelAt deepestLevel 5) codeItem (onlyBody (levelAt deepestLevel 5) (parameterItem deepestLevel 5))) _ _ _ _ (c .before .before .before .before .before .before .before .before .entry-at .ensures) _ _ _ (c .before .before .before .before .before .before .at .given .1) _ (c .before .before .before .before .piece .ensures) (some-bad _ (both-bad _ _ (c .before .before .before .held-at .ensures) _ (c .before .fault .given .1)))))
 
 returns-3 : tie.Need-returns-3
 unfolding constructorOf
@@ -76,14 +76,14 @@ both-entry-spec =
     entry-at-requires
     enum-known-kind
     found-requires
+    returns
     enum-known-at
     add-here
     sub-piece
     piece-requires
     held-at-requires
     enum-known-fault
+    returns-2
     enum-known-both
     whole-size-requires
-    returns
-    returns-2
     returns-3)

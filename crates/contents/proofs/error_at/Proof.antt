@@ -27,6 +27,10 @@ octet-id-requires c κs = refl
 enum-known-fault : tie.Need-enum-known-fault
 enum-known-fault c = search needs
 
+returns : tie.Need-returns
+returns c =
+    bad-row (bound-first some idItem (codeBody deepestLevel) (λ v. error (v .0) (v .1 .0) (v .1 .1)) _ _ _ (id-bad _ _ (c .before .before .before .octet-id .ensures) _ (c .before .fault .given .1)))
+
 enum-known-id : tie.Need-enum-known-id
 enum-known-id c = search needs
 
@@ -39,7 +43,7 @@ after-requires c κs = fit-got _ _ _ _ _ (id-fit 0x02) (id-got _ _ (c .before .b
 
 code-body-requires : tie.Need-code-body-requires
 code-body-requires c κs =
-    omega (arith, c .before .before .before .before .before .before .pre, fit-got _ _ _ _ _ (id-fit 0x02) (id-got _ _ (c .before .before .before .before .octet-id .ensures) _ _ (c .before .before .id .given .1)), simp length-drop at (ap length (c .after .ensures)))
+    (omega (arith, c .before .before .before .before .before .before .pre, fit-got _ _ _ _ _ (id-fit 0x02) (id-got _ _ (c .before .before .before .before .octet-id .ensures) _ _ (c .before .before .id .given .1)), simp length-drop at (ap length (c .after .ensures))), omega arith)
 
 enum-known-fault-2 : tie.Need-enum-known-fault-2
 enum-known-fault-2 c = search needs
@@ -47,21 +51,17 @@ enum-known-fault-2 c = search needs
 with-id-requires : tie.Need-with-id-requires
 with-id-requires c κs = search needs
 
+returns-2 : tie.Need-returns-2
+returns-2 c =
+    let first = (id-got _ _ (c .before .before .before .before .before .before .before .before .before .octet-id .ensures) _ _ (c .before .before .before .before .before .before .before .id .given .1)) in
+    bad-row (bound-later some idItem (codeBody deepestLevel) (λ v. error (v .0) (v .1 .0) (v .1 .1)) _ _ _ first _ (c .before .before .before .before .before .after .ensures) _ (ap InvokeId.Id (toZ-ofZ {w = w8} {z = c .before .before .before .before .before .before .before .id .given .0 .0} (record { sfits = c .before .before .before .before .before .before .known-told2 .given .0 .1 }) ∙ first .2)) (c .with-id .ensures) (coded-bad _ _ (c .before .before .before .before .code-body .ensures) _ (c .before .before .fault2 .given .1)))
+
 enum-known-code : tie.Need-enum-known-code
 enum-known-code c = search needs
 
 add-t22 : tie.Need-add-t22
 add-t22 c =
-    omega (arith, c .before .before .before .before .before .before .before .before .before .before .pre, fit-got _ _ _ _ _ (id-fit 0x02) (id-got _ _ (c .before .before .before .before .before .before .before .before .octet-id .ensures) _ _ (c .before .before .before .before .before .before .id .given .1)), fits-got _ _ _ coded-fits (coded-got _ _ (c .before .before .before .code-body .ensures) _ _ _ (c .before .code .given .1)), simp length-drop at (ap length (c .before .before .before .before .after .ensures)))
-
-returns : tie.Need-returns
-returns c =
-    bad-row (bound-first some idItem (codeBody deepestLevel) (λ v. error (v .0) (v .1 .0) (v .1 .1)) _ _ _ (id-bad _ _ (c .before .before .before .octet-id .ensures) _ (c .before .fault .given .1)))
-
-returns-2 : tie.Need-returns-2
-returns-2 c =
-    let first = (id-got _ _ (c .before .before .before .before .before .before .before .before .before .octet-id .ensures) _ _ (c .before .before .before .before .before .before .before .id .given .1)) in
-    bad-row (bound-later some idItem (codeBody deepestLevel) (λ v. error (v .0) (v .1 .0) (v .1 .1)) _ _ _ first _ (c .before .before .before .before .before .after .ensures) _ (ap InvokeId.Id (toZ-ofZ {w = w8} {z = c .before .before .before .before .before .before .before .id .given .0 .0} (record { sfits = c .before .before .before .before .before .before .known-told2 .given .0 .1 }) ∙ first .2)) (c .with-id .ensures) (coded-bad _ _ (c .before .before .before .before .code-body .ensures) _ (c .before .before .fault2 .given .1)))
+    omega (arith, c .before .before .before .before .before .before .before .before .before .before .pre, fit-got _ _ _ _ _ (id-fit 0x02) (id-got _ _ (c .before .before .before .before .before .before .before .before .octet-id .ensures) _ _ (c .before .before .before .before .before .before .id .given .1)), fits-got _ _ _ (coded-fits 13) (coded-got _ _ (c .before .before .before .code-body .ensures) _ _ _ (c .before .code .given .1)), simp length-drop at (ap length (c .before .before .before .before .after .ensures)))
 
 returns-3 : tie.Need-returns-3
 returns-3 c =
@@ -74,14 +74,14 @@ error-at-spec =
     (tie.spec
     octet-id-requires
     enum-known-fault
+    returns
     enum-known-id
     add-here
     after-requires
     code-body-requires
     enum-known-fault-2
     with-id-requires
+    returns-2
     enum-known-code
     add-t22
-    returns
-    returns-2
     returns-3)

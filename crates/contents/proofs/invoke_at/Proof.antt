@@ -28,6 +28,10 @@ octet-id-requires c κs = refl
 enum-known-fault : tie.Need-enum-known-fault
 enum-known-fault c = search needs
 
+returns : tie.Need-returns
+returns c =
+    bad-row (bound-first some idItem (optBody (integerItem 0x80 1) (codeBody deepestLevel)) (λ v. invoke (v .0) (v .1 .0) (v .1 .1 .0) (v .1 .1 .1)) _ _ _ (id-bad _ _ (c .before .before .before .octet-id .ensures) _ (c .before .fault .given .1)))
+
 enum-known-id : tie.Need-enum-known-id
 enum-known-id c = search needs
 
@@ -48,21 +52,17 @@ enum-known-fault-2 c = search needs
 with-id-requires : tie.Need-with-id-requires
 with-id-requires c κs = search needs
 
+returns-2 : tie.Need-returns-2
+returns-2 c =
+    let first = (id-got _ _ (c .before .before .before .before .before .before .before .before .before .octet-id .ensures) _ _ (c .before .before .before .before .before .before .before .id .given .1)) in
+    bad-row (bound-later some idItem (optBody (integerItem 0x80 1) (codeBody deepestLevel)) (λ v. invoke (v .0) (v .1 .0) (v .1 .1 .0) (v .1 .1 .1)) _ _ _ first _ (c .before .before .before .before .before .after .ensures) _ (ap InvokeId.Id (toZ-ofZ {w = w8} {z = c .before .before .before .before .before .before .before .id .given .0 .0} (record { sfits = c .before .before .before .before .before .before .known-told2 .given .0 .1 }) ∙ first .2)) (c .with-id .ensures) (invoke-bad _ _ (c .before .before .before .before .invoke-rest .ensures) _ (c .before .before .fault2 .given .1)))
+
 enum-known-linked : tie.Need-enum-known-linked
 enum-known-linked c = search needs
 
 add-t23 : tie.Need-add-t23
 add-t23 c =
     omega (arith, c .before .before .before .before .before .before .before .before .before .before .pre, fit-got _ _ _ _ _ (id-fit 0x02) (id-got _ _ (c .before .before .before .before .before .before .before .before .octet-id .ensures) _ _ (c .before .before .before .before .before .before .id .given .1)), fits-got _ _ _ linked-fits (invoke-got _ _ (c .before .before .before .invoke-rest .ensures) _ _ _ _ (c .before .linked .given .1)), simp length-drop at (ap length (c .before .before .before .before .after .ensures)))
-
-returns : tie.Need-returns
-returns c =
-    bad-row (bound-first some idItem (optBody (integerItem 0x80 1) (codeBody deepestLevel)) (λ v. invoke (v .0) (v .1 .0) (v .1 .1 .0) (v .1 .1 .1)) _ _ _ (id-bad _ _ (c .before .before .before .octet-id .ensures) _ (c .before .fault .given .1)))
-
-returns-2 : tie.Need-returns-2
-returns-2 c =
-    let first = (id-got _ _ (c .before .before .before .before .before .before .before .before .before .octet-id .ensures) _ _ (c .before .before .before .before .before .before .before .id .given .1)) in
-    bad-row (bound-later some idItem (optBody (integerItem 0x80 1) (codeBody deepestLevel)) (λ v. invoke (v .0) (v .1 .0) (v .1 .1 .0) (v .1 .1 .1)) _ _ _ first _ (c .before .before .before .before .before .after .ensures) _ (ap InvokeId.Id (toZ-ofZ {w = w8} {z = c .before .before .before .before .before .before .before .id .given .0 .0} (record { sfits = c .before .before .before .before .before .before .known-told2 .given .0 .1 }) ∙ first .2)) (c .with-id .ensures) (invoke-bad _ _ (c .before .before .before .before .invoke-rest .ensures) _ (c .before .before .fault2 .given .1)))
 
 returns-3 : tie.Need-returns-3
 returns-3 c =
@@ -75,14 +75,14 @@ invoke-at-spec =
     (tie.spec
     octet-id-requires
     enum-known-fault
+    returns
     enum-known-id
     add-here
     after-requires
     invoke-rest-requires
     enum-known-fault-2
     with-id-requires
+    returns-2
     enum-known-linked
     add-t23
-    returns
-    returns-2
     returns-3)

@@ -27,12 +27,12 @@ code-body-requires c κs = search needs
 enum-known-fault : tie.Need-enum-known-fault
 enum-known-fault c = search needs
 
-enum-known-code : tie.Need-enum-known-code
-enum-known-code c = search needs
-
 returns-2 : tie.Need-returns-2
 returns-2 c =
     bad-invoke (failed-as (opt-absent 0x80 (integerItem 0x80 1) (λ a. refl) (codeBody deepestLevel) refl refl _ _ _ (sym (c .before .before .before .before .before .begins-with .ensures) ∙ c .before .before .before .before .if1 .left)) (failed-next _ (coded-bad _ _ (c .before .before .before .code-body .ensures) _ (c .before .fault .given .1))))
+
+enum-known-code : tie.Need-enum-known-code
+enum-known-code c = search needs
 
 returns-3 : tie.Need-returns-3
 returns-3 c =
@@ -47,6 +47,6 @@ invoke-rest-spec =
     returns
     code-body-requires
     enum-known-fault
-    enum-known-code
     returns-2
+    enum-known-code
     returns-3)

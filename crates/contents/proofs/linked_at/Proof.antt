@@ -27,6 +27,11 @@ octet-id-requires c κs = refl
 enum-known-fault : tie.Need-enum-known-fault
 enum-known-fault c = search needs
 
+returns : tie.Need-returns
+unfolding extendedOf codeZero
+returns c =
+    bad-invoke (rest-first (codeBody deepestLevel) (λ i v. (some i, v)) _ _ _ _ _ (opt-present 0x80 (integerItem 0x80 1) (λ a. refl) (codeBody deepestLevel) refl refl _ _ _ 1 (begins-next _ 0x80 _ refl refl refl (c .before .before .before .before .before .pre .1))) (id-bad _ _ (c .before .before .before .octet-id .ensures) _ (c .before .fault .given .1)))
+
 enum-known-id : tie.Need-enum-known-id
 enum-known-id c = search needs
 
@@ -39,27 +44,22 @@ after-requires c κs = fit-got _ _ _ _ _ (id-fit 0x80) (id-got _ _ (c .before .b
 
 code-body-requires : tie.Need-code-body-requires
 code-body-requires c κs =
-    omega (arith, c .before .before .before .before .before .before .pre .0, fit-got _ _ _ _ _ (id-fit 0x80) (id-got _ _ (c .before .before .before .before .octet-id .ensures) _ _ (c .before .before .id .given .1)), simp length-drop at (ap length (c .after .ensures)))
+    (omega (arith, c .before .before .before .before .before .before .pre .0, fit-got _ _ _ _ _ (id-fit 0x80) (id-got _ _ (c .before .before .before .before .octet-id .ensures) _ _ (c .before .before .id .given .1)), simp length-drop at (ap length (c .after .ensures))), omega arith)
 
 enum-known-fault-2 : tie.Need-enum-known-fault-2
 enum-known-fault-2 c = search needs
+
+returns-2 : tie.Need-returns-2
+unfolding extendedOf codeZero
+returns-2 c =
+    bad-invoke (rest-later (codeBody deepestLevel) (λ i v. (some i, v)) _ _ _ _ _ (opt-present 0x80 (integerItem 0x80 1) (λ a. refl) (codeBody deepestLevel) refl refl _ _ _ 1 (begins-next _ 0x80 _ refl refl refl (c .before .before .before .before .before .before .before .before .before .before .pre .1))) (id-got _ _ (c .before .before .before .before .before .before .before .before .octet-id .ensures) _ _ (c .before .before .before .before .before .before .id .given .1)) _ (c .before .before .before .before .after .ensures) (coded-bad _ _ (c .before .before .before .code-body .ensures) _ (c .before .fault2 .given .1)))
 
 enum-known-code : tie.Need-enum-known-code
 enum-known-code c = search needs
 
 add-t18 : tie.Need-add-t18
 add-t18 c =
-    omega (arith, c .before .before .before .before .before .before .before .before .before .before .pre .0, fit-got _ _ _ _ _ (id-fit 0x80) (id-got _ _ (c .before .before .before .before .before .before .before .before .octet-id .ensures) _ _ (c .before .before .before .before .before .before .id .given .1)), fits-got _ _ _ coded-fits (coded-got _ _ (c .before .before .before .code-body .ensures) _ _ _ (c .before .code .given .1)), simp length-drop at (ap length (c .before .before .before .before .after .ensures)))
-
-returns : tie.Need-returns
-unfolding extendedOf codeZero
-returns c =
-    bad-invoke (rest-first (codeBody deepestLevel) (λ i v. (some i, v)) _ _ _ _ _ (opt-present 0x80 (integerItem 0x80 1) (λ a. refl) (codeBody deepestLevel) refl refl _ _ _ 1 (begins-next _ 0x80 _ refl refl refl (c .before .before .before .before .before .pre .1))) (id-bad _ _ (c .before .before .before .octet-id .ensures) _ (c .before .fault .given .1)))
-
-returns-2 : tie.Need-returns-2
-unfolding extendedOf codeZero
-returns-2 c =
-    bad-invoke (rest-later (codeBody deepestLevel) (λ i v. (some i, v)) _ _ _ _ _ (opt-present 0x80 (integerItem 0x80 1) (λ a. refl) (codeBody deepestLevel) refl refl _ _ _ 1 (begins-next _ 0x80 _ refl refl refl (c .before .before .before .before .before .before .before .before .before .before .pre .1))) (id-got _ _ (c .before .before .before .before .before .before .before .before .octet-id .ensures) _ _ (c .before .before .before .before .before .before .id .given .1)) _ (c .before .before .before .before .after .ensures) (coded-bad _ _ (c .before .before .before .code-body .ensures) _ (c .before .fault2 .given .1)))
+    omega (arith, c .before .before .before .before .before .before .before .before .before .before .pre .0, fit-got _ _ _ _ _ (id-fit 0x80) (id-got _ _ (c .before .before .before .before .before .before .before .before .octet-id .ensures) _ _ (c .before .before .before .before .before .before .id .given .1)), fits-got _ _ _ (coded-fits 13) (coded-got _ _ (c .before .before .before .code-body .ensures) _ _ _ (c .before .code .given .1)), simp length-drop at (ap length (c .before .before .before .before .after .ensures)))
 
 returns-3 : tie.Need-returns-3
 unfolding extendedOf codeZero
@@ -73,13 +73,13 @@ linked-at-spec =
     (tie.spec
     octet-id-requires
     enum-known-fault
+    returns
     enum-known-id
     add-here
     after-requires
     code-body-requires
     enum-known-fault-2
+    returns-2
     enum-known-code
     add-t18
-    returns
-    returns-2
     returns-3)

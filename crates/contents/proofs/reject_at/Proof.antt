@@ -23,6 +23,10 @@ reject-id-at-requires c κs = search needs
 enum-known-fault : tie.Need-enum-known-fault
 enum-known-fault c = search needs
 
+returns : tie.Need-returns
+returns c =
+    bad-row (bound-first (λ i. i) idOrNullItem (onlyBody (levelAt deepestLevel 4) problemItem) (λ v. reject (v .0) (v .1)) _ _ _ (null-bad _ _ (c .before .before .before .reject-id-at .ensures) _ (c .before .fault .given .1)))
+
 enum-known-id : tie.Need-enum-known-id
 enum-known-id c = search needs
 
@@ -43,21 +47,17 @@ enum-known-fault-2 c = search needs
 with-id-requires : tie.Need-with-id-requires
 with-id-requires c κs = search needs
 
+returns-2 : tie.Need-returns-2
+returns-2 c =
+    let first = (null-got _ _ (c .before .before .before .before .before .before .before .before .before .reject-id-at .ensures) _ _ (c .before .before .before .before .before .before .before .id .given .1)) in
+    bad-row (bound-later (λ i. i) idOrNullItem (onlyBody (levelAt deepestLevel 4) problemItem) (λ v. reject (v .0) (v .1)) _ _ _ first _ (c .before .before .before .before .before .after .ensures) _ (first .2) (c .with-id .ensures) (problem-bad _ _ (c .before .before .before .before .sole-problem .ensures) _ (c .before .before .fault2 .given .1)))
+
 enum-known-problem : tie.Need-enum-known-problem
 enum-known-problem c = search needs
 
 add-t19 : tie.Need-add-t19
 add-t19 c =
     omega (arith, c .before .before .before .before .before .before .before .before .before .before .pre, fit-got _ _ _ _ _ null-fit (null-got _ _ (c .before .before .before .before .before .before .before .before .reject-id-at .ensures) _ _ (c .before .before .before .before .before .before .id .given .1)), fits-got _ _ _ sole-fits (problem-got _ _ (c .before .before .before .sole-problem .ensures) _ _ (c .before .problem .given .1)), simp length-drop at (ap length (c .before .before .before .before .after .ensures)))
-
-returns : tie.Need-returns
-returns c =
-    bad-row (bound-first (λ i. i) idOrNullItem (onlyBody (levelAt deepestLevel 4) problemItem) (λ v. reject (v .0) (v .1)) _ _ _ (null-bad _ _ (c .before .before .before .reject-id-at .ensures) _ (c .before .fault .given .1)))
-
-returns-2 : tie.Need-returns-2
-returns-2 c =
-    let first = (null-got _ _ (c .before .before .before .before .before .before .before .before .before .reject-id-at .ensures) _ _ (c .before .before .before .before .before .before .before .id .given .1)) in
-    bad-row (bound-later (λ i. i) idOrNullItem (onlyBody (levelAt deepestLevel 4) problemItem) (λ v. reject (v .0) (v .1)) _ _ _ first _ (c .before .before .before .before .before .after .ensures) _ (first .2) (c .with-id .ensures) (problem-bad _ _ (c .before .before .before .before .sole-problem .ensures) _ (c .before .before .fault2 .given .1)))
 
 returns-3 : tie.Need-returns-3
 returns-3 c =
@@ -69,14 +69,14 @@ reject-at-spec =
     (tie.spec
     reject-id-at-requires
     enum-known-fault
+    returns
     enum-known-id
     add-here
     after-requires
     sole-problem-requires
     enum-known-fault-2
     with-id-requires
+    returns-2
     enum-known-problem
     add-t19
-    returns
-    returns-2
     returns-3)

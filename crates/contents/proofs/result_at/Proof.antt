@@ -29,6 +29,10 @@ octet-id-requires c κs = refl
 enum-known-fault : tie.Need-enum-known-fault
 enum-known-fault c = search needs
 
+returns : tie.Need-returns
+returns c =
+    bad-row (bound-first some idItem (lastBody (levelAt deepestLevel 4) (bothItem deepestLevel)) (λ v. resultFor (c .before .before .before .before .before .args .last) (v .0) (v .1)) _ _ _ (id-bad _ _ (c .before .before .before .octet-id .ensures) _ (c .before .fault .given .1)))
+
 enum-known-id : tie.Need-enum-known-id
 enum-known-id c = search needs
 
@@ -49,6 +53,11 @@ enum-known-fault-2 c = search needs
 with-id-requires : tie.Need-with-id-requires
 with-id-requires c κs = search needs
 
+returns-2 : tie.Need-returns-2
+returns-2 c =
+    let first = (id-got _ _ (c .before .before .before .before .before .before .before .before .before .octet-id .ensures) _ _ (c .before .before .before .before .before .before .before .id .given .1)) in
+    bad-row (bound-later some idItem (lastBody (levelAt deepestLevel 4) (bothItem deepestLevel)) (λ v. resultFor (c .before .before .before .before .before .before .before .before .before .before .before .args .last) (v .0) (v .1)) _ _ _ first _ (c .before .before .before .before .before .after .ensures) _ (ap InvokeId.Id (toZ-ofZ {w = w8} {z = c .before .before .before .before .before .before .before .id .given .0 .0} (record { sfits = c .before .before .before .before .before .before .known-told2 .given .0 .1 }) ∙ first .2)) (c .with-id .ensures) (both-bad _ _ (c .before .before .before .before .both-at .ensures) _ (c .before .before .fault2 .given .1)))
+
 enum-known-both : tie.Need-enum-known-both
 enum-known-both c = search needs
 
@@ -58,15 +67,6 @@ result-kind-requires c κs = search needs
 add-t22 : tie.Need-add-t22
 add-t22 c =
     omega (arith, c .before .before .before .before .before .before .before .before .before .before .before .pre, fit-got _ _ _ _ _ (id-fit 0x02) (id-got _ _ (c .before .before .before .before .before .before .before .before .before .octet-id .ensures) _ _ (c .before .before .before .before .before .before .before .id .given .1)), fits-got _ _ _ both-fits (both-got _ _ (c .before .before .before .before .both-at .ensures) _ _ (c .before .before .both .given .1)), simp length-drop at (ap length (c .before .before .before .before .before .after .ensures)))
-
-returns : tie.Need-returns
-returns c =
-    bad-row (bound-first some idItem (lastBody (levelAt deepestLevel 4) (bothItem deepestLevel)) (λ v. resultFor (c .before .before .before .before .before .args .last) (v .0) (v .1)) _ _ _ (id-bad _ _ (c .before .before .before .octet-id .ensures) _ (c .before .fault .given .1)))
-
-returns-2 : tie.Need-returns-2
-returns-2 c =
-    let first = (id-got _ _ (c .before .before .before .before .before .before .before .before .before .octet-id .ensures) _ _ (c .before .before .before .before .before .before .before .id .given .1)) in
-    bad-row (bound-later some idItem (lastBody (levelAt deepestLevel 4) (bothItem deepestLevel)) (λ v. resultFor (c .before .before .before .before .before .before .before .before .before .before .before .args .last) (v .0) (v .1)) _ _ _ first _ (c .before .before .before .before .before .after .ensures) _ (ap InvokeId.Id (toZ-ofZ {w = w8} {z = c .before .before .before .before .before .before .before .id .given .0 .0} (record { sfits = c .before .before .before .before .before .before .known-told2 .given .0 .1 }) ∙ first .2)) (c .with-id .ensures) (both-bad _ _ (c .before .before .before .before .both-at .ensures) _ (c .before .before .fault2 .given .1)))
 
 returns-3 : tie.Need-returns-3
 returns-3 c =
@@ -79,15 +79,15 @@ result-at-spec =
     (tie.spec
     octet-id-requires
     enum-known-fault
+    returns
     enum-known-id
     add-here
     after-requires
     both-at-requires
     enum-known-fault-2
     with-id-requires
+    returns-2
     enum-known-both
     result-kind-requires
     add-t22
-    returns
-    returns-2
     returns-3)

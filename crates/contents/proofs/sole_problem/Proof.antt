@@ -15,6 +15,11 @@ problem-at-requires c κs = search needs
 enum-known-fault : tie.Need-enum-known-fault
 enum-known-fault c = search needs
 
+returns : tie.Need-returns
+returns c =
+    let h = (problem-bad _ _ (c .before .before .before .problem-at .ensures) _ (c .before .fault .given .1)) in
+    bad-problem (_, only-bad 13 refl problemItem _ _ _ _ (h .1), h .2)
+
 enum-known-problem : tie.Need-enum-known-problem
 enum-known-problem c = search needs
 
@@ -25,18 +30,13 @@ rest-after-requires c κs =
 enum-known-fault-2 : tie.Need-enum-known-fault-2
 enum-known-fault-2 c = search needs
 
-enum-told : tie.Need-enum-told
-enum-told c = search needs
-
-returns : tie.Need-returns
-returns c =
-    let h = (problem-bad _ _ (c .before .before .before .problem-at .ensures) _ (c .before .fault .given .1)) in
-    bad-problem (_, only-bad 13 refl problemItem _ _ _ _ (h .1), h .2)
-
 returns-2 : tie.Need-returns-2
 returns-2 c =
     let first = (problem-got _ _ (c .before .before .before .before .before .before .before .problem-at .ensures) _ _ (c .before .before .before .before .before .problem .given .1)) in
     bad-problem (only-more 13 refl problemItem _ _ _ _ _ (first .1) _ (c .before .before .before .rest-after .ensures) _ (c .before .fault2 .given .1))
+
+enum-told : tie.Need-enum-told
+enum-told c = search needs
 
 returns-3 : tie.Need-returns-3
 returns-3 c =
@@ -49,10 +49,10 @@ sole-problem-spec =
     (tie.spec
     problem-at-requires
     enum-known-fault
+    returns
     enum-known-problem
     rest-after-requires
     enum-known-fault-2
-    enum-told
-    returns
     returns-2
+    enum-told
     returns-3)

@@ -4,9 +4,11 @@ use native.Mathlib.Omega.{arith}
 use lib.ListN.{length, length-drop}
 use Rattle.tcap.specs.Record.{dialogueField}
 use Rattle.dialogue.specs.declared.{DialogueRead.DialogueRead}
-use Rattle.dialogue.proofs.Told.{read-got, read-bad}
-use Rattle.dialogue.proofs.Answers.{span-got, span-bad, dialogue-got, dialogue-bad}
-use Rattle.dialogue.proofs.Sized.{body-size, last-fits}
+use Rattle.association.proofs.Told.{read-got, read-bad}
+use Rattle.association.proofs.Answers.{span-got, span-bad}
+use Rattle.dialogue.proofs.Answers.{dialogue-got, dialogue-bad}
+use Rattle.association.proofs.Sized.{body-size}
+use Rattle.dialogue.proofs.Sized.{last-fits}
 use Rattle.dialogue.proofs.External.{name-room, external-fails, external-rest-fails, external-gives}
 use borrow.Author.Needs.{needs}
 use Rattle.dialogue.proofs.external_at.Statement.{statement}

@@ -4,11 +4,12 @@ use native.Mathlib.Omega.{arith}
 use Rattle.element.specs.Element.{constructorOf}
 use Rattle.asking.proofs.Sizes.{entry-size}
 use Rattle.dialogue.specs.declared.{DialogueRead.DialogueRead}
-use Rattle.dialogue.proofs.Told.{entry-fails, entry-contents, inner-fails, inner-unfinished, inner-gives, read-got, read-bad}
+use Rattle.association.proofs.Told.{entry-fails, entry-contents, inner-fails, inner-unfinished, inner-gives, read-got, read-bad}
 use Rattle.tcap.specs.Record.{dialogueField}
-use Rattle.dialogue.specs.Reads.{pduItem}
-use Rattle.dialogue.proofs.Answers.{dialogue-got, dialogue-bad}
-use Rattle.dialogue.proofs.Sized.{item-size, pdu-fits}
+use Rattle.pdus.specs.Pdus.{pduItem}
+use Rattle.pdus.proofs.Answers.{pdu-got, pdu-bad}
+use Rattle.association.proofs.Sized.{item-size}
+use Rattle.pdus.proofs.Sized.{pdu-fits}
 use borrow.Author.Needs.{needs}
 use Rattle.dialogue.proofs.known_at.Statement.{statement}
 use Rattle.dialogue.proofs.known_at.Tie as tie
@@ -40,12 +41,12 @@ pdu-at-requires c κs = omega (arith, entry-contents _ _ _ (c .before .before .b
 enum-known-fault : tie.Need-enum-known-fault
 enum-known-fault c = search needs
 
-enum-known-dialogue : tie.Need-enum-known-dialogue
-enum-known-dialogue c = search needs
+enum-known-pdu : tie.Need-enum-known-pdu
+enum-known-pdu c = search needs
 
 shut-at-requires : tie.Need-shut-at-requires
 unfolding constructorOf
-shut-at-requires c κs = omega (arith, entry-contents _ _ _ (c .before .before .before .before .before .before .before .before .entry-at .ensures) (c .before .before .before .before .before .before .at .given .1) (c .before .before .before .before .piece .ensures), item-size 12 _ _ _ (pdu-fits (c .before .before .before .before .before .before .before .before .before .before .args .structured)) (dialogue-got _ _ (c .before .before .before .pdu-at .ensures) (c .before .dialogue .given .1)))
+shut-at-requires c κs = omega (arith, entry-contents _ _ _ (c .before .before .before .before .before .before .before .before .entry-at .ensures) (c .before .before .before .before .before .before .at .given .1) (c .before .before .before .before .piece .ensures), item-size 12 _ _ _ (pdu-fits (c .before .before .before .before .before .before .before .before .before .before .args .structured)) (pdu-got _ _ (c .before .before .before .pdu-at .ensures) (c .before .pdu .given .1)))
 
 enum-known-fault-2 : tie.Need-enum-known-fault-2
 enum-known-fault-2 c = search needs
@@ -59,15 +60,15 @@ returns c = read-bad dialogueField DialogueRead.Got DialogueRead.Bad (entry-fail
 
 returns-2 : tie.Need-returns-2
 unfolding constructorOf
-returns-2 c = read-bad dialogueField DialogueRead.Got DialogueRead.Bad (inner-fails 13 refl 0xA0 refl 12 refl (pduItem (c .before .before .before .before .before .before .before .before .before .before .args .structured)) _ _ _ (c .before .before .before .before .before .before .before .before .entry-at .ensures) _ _ _ (c .before .before .before .before .before .before .at .given .1) (c .before .before .before .before .piece .ensures) (dialogue-bad (c .before .before .before .pdu-at .ensures) (c .before .fault .given .1)))
+returns-2 c = read-bad dialogueField DialogueRead.Got DialogueRead.Bad (inner-fails 13 refl 0xA0 refl 12 refl (pduItem (c .before .before .before .before .before .before .before .before .before .before .args .structured)) _ _ _ (c .before .before .before .before .before .before .before .before .entry-at .ensures) _ _ _ (c .before .before .before .before .before .before .at .given .1) (c .before .before .before .before .piece .ensures) (pdu-bad (c .before .before .before .pdu-at .ensures) (c .before .fault .given .1)))
 
 returns-3 : tie.Need-returns-3
 unfolding constructorOf
-returns-3 c = read-bad dialogueField DialogueRead.Got DialogueRead.Bad (inner-unfinished 13 refl 0xA0 refl 12 refl (pduItem (c .before .before .before .before .before .before .before .before .before .before .before .before .before .before .args .structured)) _ _ _ (c .before .before .before .before .before .before .before .before .before .before .before .before .entry-at .ensures) _ _ _ (c .before .before .before .before .before .before .before .before .before .before .at .given .1) (c .before .before .before .before .before .before .before .before .piece .ensures) _ _ (dialogue-got _ _ (c .before .before .before .before .before .before .before .pdu-at .ensures) (c .before .before .before .before .before .dialogue .given .1)) (c .before .before .before .shut-at .ensures) (c .before .fault2 .given .1))
+returns-3 c = read-bad dialogueField DialogueRead.Got DialogueRead.Bad (inner-unfinished 13 refl 0xA0 refl 12 refl (pduItem (c .before .before .before .before .before .before .before .before .before .before .before .before .before .before .args .structured)) _ _ _ (c .before .before .before .before .before .before .before .before .before .before .before .before .entry-at .ensures) _ _ _ (c .before .before .before .before .before .before .before .before .before .before .at .given .1) (c .before .before .before .before .before .before .before .before .piece .ensures) _ _ (pdu-got _ _ (c .before .before .before .before .before .before .before .pdu-at .ensures) (c .before .before .before .before .before .pdu .given .1)) (c .before .before .before .shut-at .ensures) (c .before .fault2 .given .1))
 
 returns-4 : tie.Need-returns-4
 unfolding constructorOf
-returns-4 c = read-got dialogueField DialogueRead.Got DialogueRead.Bad (inner-gives 13 refl 0xA0 refl 12 refl (pduItem (c .before .before .before .before .before .before .before .before .before .before .before .before .before .before .args .structured)) _ _ _ (c .before .before .before .before .before .before .before .before .before .before .before .before .entry-at .ensures) _ _ _ (c .before .before .before .before .before .before .before .before .before .before .at .given .1) (c .before .before .before .before .before .before .before .before .piece .ensures) _ (dialogue-got _ _ (c .before .before .before .before .before .before .before .pdu-at .ensures) (c .before .before .before .before .before .dialogue .given .1)) (c .before .before .before .shut-at .ensures) (c .before .whole .given .1))
+returns-4 c = read-got dialogueField DialogueRead.Got DialogueRead.Bad (inner-gives 13 refl 0xA0 refl 12 refl (pduItem (c .before .before .before .before .before .before .before .before .before .before .before .before .before .before .args .structured)) _ _ _ (c .before .before .before .before .before .before .before .before .before .before .before .before .entry-at .ensures) _ _ _ (c .before .before .before .before .before .before .before .before .before .before .at .given .1) (c .before .before .before .before .before .before .before .before .piece .ensures) _ (pdu-got _ _ (c .before .before .before .before .before .before .before .pdu-at .ensures) (c .before .before .before .before .before .pdu .given .1)) (c .before .before .before .shut-at .ensures) (c .before .whole .given .1))
 
 pub known-at-spec : {M : Type 1} → statement M
 known-at-spec =
@@ -82,7 +83,7 @@ known-at-spec =
     add-start
     pdu-at-requires
     enum-known-fault
-    enum-known-dialogue
+    enum-known-pdu
     shut-at-requires
     enum-known-fault-2
     enum-known-whole

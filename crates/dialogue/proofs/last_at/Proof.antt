@@ -3,9 +3,10 @@ use mathlib.Core.Path.{refl}
 use native.Mathlib.Omega.{arith}
 use Rattle.tcap.specs.Record.{dialogueField}
 use Rattle.dialogue.specs.declared.{DialogueRead.DialogueRead}
-use Rattle.dialogue.proofs.Told.{only-fails, only-unfinished, only-gives, read-got, read-bad}
+use Rattle.association.proofs.Told.{only-fails, only-unfinished, only-gives, read-got, read-bad}
 use Rattle.dialogue.proofs.Answers.{dialogue-got, dialogue-bad}
-use Rattle.dialogue.proofs.Sized.{item-size, held-fits}
+use Rattle.association.proofs.Sized.{item-size}
+use Rattle.dialogue.proofs.Sized.{held-fits}
 use Rattle.dialogue.proofs.External.{some-text}
 use borrow.Author.Needs.{needs}
 use Rattle.dialogue.proofs.last_at.Statement.{statement}

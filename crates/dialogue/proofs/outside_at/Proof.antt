@@ -8,10 +8,10 @@ use Rattle.tcap.specs.Meaning.{single, octets}
 use Rattle.tcap.specs.Record.{spanOf, dialogueField}
 use Rattle.asking.proofs.Fronts.{front-map}
 use Rattle.dialogue.specs.declared.{DialogueRead.DialogueRead}
-use Rattle.dialogue.specs.Reads.{singleItem, octetsItem}
-use Rattle.dialogue.proofs.Told.{fails-by, fails-next, gives-by, gives-as, read-got, read-bad}
-use Rattle.dialogue.proofs.Answers.{span-got, span-bad}
-use Rattle.dialogue.proofs.Peeked.{or-first, or-second}
+use Rattle.pdus.specs.Pdus.{singleItem, octetsItem}
+use Rattle.association.proofs.Told.{fails-by, fails-next, gives-by, gives-as, read-got, read-bad}
+use Rattle.association.proofs.Answers.{span-got, span-bad}
+use Rattle.association.proofs.Peeked.{or-first, or-second}
 use borrow.Author.Needs.{needs}
 use Rattle.dialogue.proofs.outside_at.Statement.{statement}
 use Rattle.dialogue.proofs.outside_at.Tie as tie

@@ -5,9 +5,10 @@ use Rattle.element.specs.Element.{constructorOf}
 use Rattle.tcap.specs.Record.{dialogueField}
 use Rattle.asking.proofs.Sizes.{entry-size}
 use Rattle.dialogue.specs.declared.{DialogueRead.DialogueRead}
-use Rattle.dialogue.proofs.Told.{entry-fails, entry-contents, contents-fail, contents-give, read-got, read-bad}
+use Rattle.association.proofs.Told.{entry-fails, entry-contents, contents-fail, contents-give, read-got, read-bad}
 use Rattle.dialogue.proofs.Answers.{dialogue-got, dialogue-bad}
-use Rattle.dialogue.proofs.Sized.{body-size, external-fits}
+use Rattle.association.proofs.Sized.{body-size}
+use Rattle.dialogue.proofs.Sized.{external-fits}
 use borrow.Author.Needs.{needs}
 use Rattle.dialogue.proofs.wrapped_at.Statement.{statement}
 use Rattle.dialogue.proofs.wrapped_at.Tie as tie

@@ -6,10 +6,11 @@ use mathlib.Core.Path.{_≡_, refl, sym, ap, _∙_}
 use borrow.Author.Needs.{needs}
 use lib.ListN.{length, drop, replicate, length-take, length-drop, length-set}
 use Rattle.tcap.specs.Record.{blankRow}
-use Rattle.fields.proofs.Fits.{fit-got}
+use Rattle.fields.proofs.Fits.{fit-got, fits-got}
 use Rattle.contents.proofs.Told.{row-bad, row-got}
 use Rattle.contents.proofs.Fitted.{component-fit}
-use Rattle.reader.proofs.Gathered.{Left, left-all, closedAs, refused-by, more-missing, more-unfinished, more-full, more-bad, more-got, handed-out, blank-step, end-within}
+use Rattle.components.proofs.Chosen.{body-fits, header-bad, header-open, header-room, header-later, header-got}
+use Rattle.reader.proofs.Gathered.{Left, left-all, closedAs, refused-by, more-missing, more-unfinished, more-full, more-bad, more-got, handed-out, blank-step, end-within, piece-bound, after-bound}
 use Rattle.reader.proofs.gather.Tie as tie
 
 abbrev Inv-loop : tie.InvT-loop
@@ -63,22 +64,37 @@ returns-4 c = rw (← (c .before .before .before .before .before .before .before
 returns-5 : tie.Need-returns-5 Inv-loop μ-loop
 returns-5 c = rw (← (c .before .before .before .before .before .before .before .before .before .before .before .piece .ensures)) (refused-by _ _ _ _ _ _ (c .before .before .before .before .before .before .before .loop .inv .3) _ (c .before .before .before .before .before .before .after .ensures) _ _ _ _ _ _ (c .refused-behind4 .ensures) (_, more-full _ _ _ _ _ _ (c .before .before .before .before .before .before .before .loop .inv .3) _ (c .before .before .before .before .before .before .after .ensures) _ (c .before .before .before .before .before .end-at .ensures) (c .before .before .before .enum-told4 .given .1) (c .before .before .if2 .taken), c .before .found3 .ensures))
 
-component-at-requires : tie.Need-component-at-requires Inv-loop μ-loop
-component-at-requires c κs = omega (arith, c .before .before .before .before .before .before .before .before .before .before .before .before .pre .0, c .before .before .before .before .before .before .before .before .before .before .before .before .pre .1, c .before .before .before .before .before .loop .inv .2, simp (length-take, length-drop) at (ap length (c .before .before .before .before .before .before .before .before .before .piece .ensures)), simp length-drop at (ap length (c .before .before .before .before .after .ensures)))
-
 returns-6 : tie.Need-returns-6 Inv-loop μ-loop
-returns-6 c = rw (← (c .before .before .before .before .before .before .before .before .before .before .before .before .before .before .piece .ensures)) (refused-by _ _ _ _ _ _ (c .before .before .before .before .before .before .before .before .before .before .loop .inv .3) _ (c .before .before .before .before .before .before .before .before .before .after .ensures) _ _ _ _ _ _ (c .refused-behind5 .ensures) (more-bad _ _ _ _ _ _ (c .before .before .before .before .before .before .before .before .before .before .loop .inv .3) _ (c .before .before .before .before .before .before .before .before .before .after .ensures) _ (c .before .before .before .before .before .before .before .before .end-at .ensures) (c .before .before .before .before .before .before .enum-told4 .given .1) (omega (arith, c .before .before .before .before .before .before .before .before .before .before .loop .inv .0, c .before .before .before .before .before .if2 .left)) (row-bad _ _ (c .before .before .before .before .component-at .ensures) _ (c .before .before .fault2 .given .1))))
+returns-6 c = rw (← (c .before .before .before .before .before .before .before .before .before .before .before .before .before .before .piece .ensures)) (refused-by _ _ _ _ _ _ (c .before .before .before .before .before .before .before .before .before .before .loop .inv .3) _ (c .before .before .before .before .before .before .before .before .before .after .ensures) _ _ _ _ _ _ (c .refused-behind5 .ensures) (more-bad _ _ _ _ _ _ (c .before .before .before .before .before .before .before .before .before .before .loop .inv .3) _ (c .before .before .before .before .before .before .before .before .before .after .ensures) _ (c .before .before .before .before .before .before .before .before .end-at .ensures) (c .before .before .before .before .before .before .enum-told4 .given .1) (omega (arith, c .before .before .before .before .before .before .before .before .before .before .loop .inv .0, c .before .before .before .before .before .if2 .left)) (header-bad _ _ _ _ (c .before .before .before .before .header-at .ensures) _ (c .before .before .fault2 .given .1))))
+
+sub-piece-2 : tie.Need-sub-piece-2 Inv-loop μ-loop
+sub-piece-2 c = header-room _ _ _ _ _ _ _ (header-open _ _ _ _ (c .before .before .before .header-at .ensures) _ _ _ _ (c .before .first .given .1)) .0
+
+piece-requires-2 : tie.Need-piece-requires-2 Inv-loop μ-loop
+piece-requires-2 c κs = omega (arith, header-room _ _ _ _ _ _ _ (header-open _ _ _ _ (c .before .before .before .header-at .ensures) _ _ _ _ (c .before .first .given .1)))
+
+add-contents-at : tie.Need-add-contents-at Inv-loop μ-loop
+add-contents-at c = omega (arith, c .before .before .before .before .before .before .before .before .before .before .before .before .before .before .before .before .before .pre .0, c .before .before .before .before .before .before .before .before .before .before .before .before .before .before .before .before .before .pre .1, c .before .before .before .before .before .before .before .before .before .before .loop .inv .2, simp (length-take, length-drop) at (ap length (c .before .before .before .before .before .before .before .before .before .before .before .before .before .before .piece .ensures)), simp length-drop at (ap length (c .before .before .before .before .before .before .before .before .before .after .ensures)), header-room _ _ _ _ _ _ _ (header-open _ _ _ _ (c .before .before .before .before .header-at .ensures) _ _ _ _ (c .before .before .first .given .1)))
+
+contents-at-requires : tie.Need-contents-at-requires Inv-loop μ-loop
+contents-at-requires c κs = omega (arith, c .before .before .before .before .before .before .before .before .before .before .before .before .before .before .before .before .before .pre .0, piece-bound _ _ _ _ (c .before .before .before .before .before .before .before .before .before .before .before .before .before .before .piece .ensures) (c .before .before .before .before .before .before .before .before .before .before .before .before .before .before .before .before .before .pre .1 .0) (c .before .before .before .before .before .before .before .before .before .before .before .before .before .before .before .before .before .pre .1 .1), after-bound _ _ _ (c .before .before .before .before .before .before .before .before .before .after .ensures) (c .before .before .before .before .before .before .before .before .before .before .loop .inv .2), piece-bound _ _ _ _ (c .piece2 .ensures) (header-room _ _ _ _ _ _ _ (header-open _ _ _ _ (c .before .before .before .before .header-at .ensures) _ _ _ _ (c .before .before .first .given .1)) .0) (header-room _ _ _ _ _ _ _ (header-open _ _ _ _ (c .before .before .before .before .header-at .ensures) _ _ _ _ (c .before .before .first .given .1)) .1))
+
+returns-7 : tie.Need-returns-7 Inv-loop μ-loop
+returns-7 c = rw (← (c .before .before .before .before .before .before .before .before .before .before .before .before .before .before .before .before .before .before .before .before .piece .ensures)) (refused-by _ _ _ _ _ _ (c .before .before .before .before .before .before .before .before .before .before .before .before .before .before .before .before .loop .inv .3) _ (c .before .before .before .before .before .before .before .before .before .before .before .before .before .before .before .after .ensures) _ _ _ _ _ _ (c .refused-behind6 .ensures) (more-bad _ _ _ _ _ _ (c .before .before .before .before .before .before .before .before .before .before .before .before .before .before .before .before .loop .inv .3) _ (c .before .before .before .before .before .before .before .before .before .before .before .before .before .before .before .after .ensures) _ (c .before .before .before .before .before .before .before .before .before .before .before .before .before .before .end-at .ensures) (c .before .before .before .before .before .before .before .before .before .before .before .before .enum-told4 .given .1) (omega (arith, c .before .before .before .before .before .before .before .before .before .before .before .before .before .before .before .before .loop .inv .0, c .before .before .before .before .before .before .before .before .before .before .before .if2 .left)) (header-later _ _ _ _ _ _ _ (header-open _ _ _ _ (c .before .before .before .before .before .before .before .before .before .before .header-at .ensures) _ _ _ _ (c .before .before .before .before .before .before .before .before .first .given .1)) _ (c .before .before .before .before .before .before .piece2 .ensures) (c .before .owned-by .ensures) (row-bad _ _ (c .before .before .before .before .before .contents-at .ensures) _ (c .before .before .before .fault3 .given .1)))))
+
+whole-size-requires-2 : tie.Need-whole-size-requires-2 Inv-loop μ-loop
+whole-size-requires-2 c κs = omega (arith, c .before .before .before .before .before .before .before .before .before .before .before .before .before .before .before .before .before .before .before .before .before .pre .0, piece-bound _ _ _ _ (c .before .before .before .before .before .before .before .before .before .before .before .before .before .before .before .before .before .before .piece .ensures) (c .before .before .before .before .before .before .before .before .before .before .before .before .before .before .before .before .before .before .before .before .before .pre .1 .0) (c .before .before .before .before .before .before .before .before .before .before .before .before .before .before .before .before .before .before .before .before .before .pre .1 .1), after-bound _ _ _ (c .before .before .before .before .before .before .before .before .before .before .before .before .before .after .ensures) (c .before .before .before .before .before .before .before .before .before .before .before .before .before .before .loop .inv .2), piece-bound _ _ _ _ (c .before .before .before .before .piece2 .ensures) (header-room _ _ _ _ _ _ _ (header-open _ _ _ _ (c .before .before .before .before .before .before .before .before .header-at .ensures) _ _ _ _ (c .before .before .before .before .before .before .first .given .1)) .0) (header-room _ _ _ _ _ _ _ (header-open _ _ _ _ (c .before .before .before .before .before .before .before .before .header-at .ensures) _ _ _ _ (c .before .before .before .before .before .before .first .given .1)) .1), fits-got _ _ _ (body-fits _) (row-got _ _ (c .before .before .before .contents-at .ensures) _ _ (c .before .next .given .1)))
 
 add-at : tie.Need-add-at Inv-loop μ-loop
-add-at c = omega (arith, c .before .before .before .before .before .before .before .before .before .before .before .before .before .before .before .before .pre .0, c .before .before .before .before .before .before .before .before .before .before .before .before .before .before .before .before .pre .1, c .before .before .before .before .before .before .before .before .before .loop .inv .2, fit-got _ _ _ _ _ component-fit (row-got _ _ (c .before .before .before .component-at .ensures) _ _ (c .before .next .given .1)), simp (length-take, length-drop) at (ap length (c .before .before .before .before .before .before .before .before .before .before .before .before .before .piece .ensures)), simp length-drop at (ap length (c .before .before .before .before .before .before .before .before .after .ensures)))
+add-at c = omega (arith, c .before .before .before .before .before .before .before .before .before .before .before .before .before .before .before .before .before .before .before .before .before .before .pre .0, c .before .before .before .before .before .before .before .before .before .before .before .before .before .before .before .before .before .before .before .before .before .before .pre .1, c .before .before .before .before .before .before .before .before .before .before .before .before .before .before .before .loop .inv .2, simp (length-take, length-drop) at (ap length (c .before .before .before .before .before .before .before .before .before .before .before .before .before .before .before .before .before .before .before .piece .ensures)), simp length-drop at (ap length (c .before .before .before .before .before .before .before .before .before .before .before .before .before .before .after .ensures)), fit-got _ _ _ _ _ component-fit (header-got _ _ _ _ _ _ _ (header-open _ _ _ _ (c .before .before .before .before .before .before .before .before .before .header-at .ensures) _ _ _ _ (c .before .before .before .before .before .before .before .first .given .1)) _ (c .before .before .before .before .before .piece2 .ensures) _ (c .whole-size2 .ensures) (row-got _ _ (c .before .before .before .before .contents-at .ensures) _ _ (c .before .before .next .given .1))))
 
 loop-again : tie.Need-loop-again Inv-loop μ-loop
 loop-again c = (
-  omega (arith, c .before .before .before .before .before .before .before .before .before .loop .inv .0, c .before .before .before .before .if2 .left),
-  rw length-set (c .before .before .before .before .before .before .before .before .before .loop .inv .1),
-  omega (arith, c .before .before .before .before .before .before .before .before .before .loop .inv .2, fit-got _ _ _ _ _ component-fit (row-got _ _ (c .before .before .before .component-at .ensures) _ _ (c .before .next .given .1)), simp length-drop at (ap length (c .before .before .before .before .before .before .before .before .after .ensures))),
-  more-got _ _ _ _ _ _ (c .before .before .before .before .before .before .before .before .before .loop .inv .3) _ (c .before .before .before .before .before .before .before .before .after .ensures) _ (c .before .before .before .before .before .before .before .end-at .ensures) (c .before .before .before .before .before .enum-told4 .given .1) (omega (arith, c .before .before .before .before .before .before .before .before .before .loop .inv .0, c .before .before .before .before .if2 .left)) _ _ (c .before .before .before .before .before .before .before .before .before .loop .inv .1) (row-got _ _ (c .before .before .before .component-at .ensures) _ _ (c .before .next .given .1)),
-  blank-step _ (c .before .before .before .before .before .before .before .before .before .loop .count) _ (omega (arith, c .before .before .before .before .before .before .before .before .before .loop .inv .0, c .before .before .before .before .if2 .left)) (c .before .before .before .before .before .before .before .before .before .loop .inv .4),
+  omega (arith, c .before .before .before .before .before .before .before .before .before .before .before .before .before .before .before .loop .inv .0, c .before .before .before .before .before .before .before .before .before .before .if2 .left),
+  rw length-set (c .before .before .before .before .before .before .before .before .before .before .before .before .before .before .before .loop .inv .1),
+  omega (arith, c .before .before .before .before .before .before .before .before .before .before .before .before .before .before .before .loop .inv .2, simp length-drop at (ap length (c .before .before .before .before .before .before .before .before .before .before .before .before .before .before .after .ensures)), fit-got _ _ _ _ _ component-fit (header-got _ _ _ _ _ _ _ (header-open _ _ _ _ (c .before .before .before .before .before .before .before .before .before .header-at .ensures) _ _ _ _ (c .before .before .before .before .before .before .before .first .given .1)) _ (c .before .before .before .before .before .piece2 .ensures) _ (c .whole-size2 .ensures) (row-got _ _ (c .before .before .before .before .contents-at .ensures) _ _ (c .before .before .next .given .1)))),
+  more-got _ _ _ _ _ _ (c .before .before .before .before .before .before .before .before .before .before .before .before .before .before .before .loop .inv .3) _ (c .before .before .before .before .before .before .before .before .before .before .before .before .before .before .after .ensures) _ (c .before .before .before .before .before .before .before .before .before .before .before .before .before .end-at .ensures) (c .before .before .before .before .before .before .before .before .before .before .before .enum-told4 .given .1) (omega (arith, c .before .before .before .before .before .before .before .before .before .before .before .before .before .before .before .loop .inv .0, c .before .before .before .before .before .before .before .before .before .before .if2 .left)) _ _ (c .before .before .before .before .before .before .before .before .before .before .before .before .before .before .before .loop .inv .1) (header-got _ _ _ _ _ _ _ (header-open _ _ _ _ (c .before .before .before .before .before .before .before .before .before .header-at .ensures) _ _ _ _ (c .before .before .before .before .before .before .before .first .given .1)) _ (c .before .before .before .before .before .piece2 .ensures) _ (c .whole-size2 .ensures) (row-got _ _ (c .before .before .before .before .contents-at .ensures) _ _ (c .before .before .next .given .1))),
+  blank-step _ (c .before .before .before .before .before .before .before .before .before .before .before .before .before .before .before .loop .count) _ (omega (arith, c .before .before .before .before .before .before .before .before .before .before .before .before .before .before .before .loop .inv .0, c .before .before .before .before .before .before .before .before .before .before .if2 .left)) (c .before .before .before .before .before .before .before .before .before .before .before .before .before .before .before .loop .inv .4),
 )
 
 blank-requires : tie.Need-blank-requires Inv-loop μ-loop
@@ -123,11 +139,26 @@ found-requires-3 c κs = search needs
 refused-behind-requires-4 : tie.Need-refused-behind-requires-4 Inv-loop μ-loop
 refused-behind-requires-4 c κs = search needs
 
+header-at-requires : tie.Need-header-at-requires Inv-loop μ-loop
+header-at-requires c κs = search needs
+
 enum-known-fault-2 : tie.Need-enum-known-fault-2 Inv-loop μ-loop
 enum-known-fault-2 c = search needs
 
 refused-behind-requires-5 : tie.Need-refused-behind-requires-5 Inv-loop μ-loop
 refused-behind-requires-5 c κs = search needs
+
+enum-known-first : tie.Need-enum-known-first Inv-loop μ-loop
+enum-known-first c = search needs
+
+enum-known-fault-3 : tie.Need-enum-known-fault-3 Inv-loop μ-loop
+enum-known-fault-3 c = search needs
+
+owned-by-requires : tie.Need-owned-by-requires Inv-loop μ-loop
+owned-by-requires c κs = search needs
+
+refused-behind-requires-6 : tie.Need-refused-behind-requires-6 Inv-loop μ-loop
+refused-behind-requires-6 c κs = search needs
 
 enum-known-next : tie.Need-enum-known-next Inv-loop μ-loop
 enum-known-next c = search needs
@@ -178,14 +209,24 @@ gather-spec =
     found-requires-3
     refused-behind-requires-4
     returns-5
-    component-at-requires
+    header-at-requires
     enum-known-fault-2
     refused-behind-requires-5
     returns-6
+    enum-known-first
+    sub-piece-2
+    piece-requires-2
+    add-contents-at
+    contents-at-requires
+    enum-known-fault-3
+    owned-by-requires
+    refused-behind-requires-6
+    returns-7
     enum-known-next
     mul-rows
     array-set-from-rows
     add-count
+    whole-size-requires-2
     add-at
     loop-less
     loop-again)

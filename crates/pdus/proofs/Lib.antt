@@ -1,0 +1,3 @@
+pub mod Sized
+pub mod Answers
+pub mod Chosen
