@@ -113,14 +113,11 @@ static void list_row(struct text *t, const uint8_t *msg, unsigned index,
         add_hex(t, msg, row->code.global);
         add(t, " ");
         break;
-    case PLAIN_CODE_PROBLEM:
-        add(t, "problem:%d:%d ", row->code.problem.type, row->code.problem.number);
-        break;
     default:
-        add(t, "? ");
+        add(t, "problem:%d:%d ", row->code_kind - PLAIN_CODE_PROBLEM, row->problem);
         break;
     }
-    if (row->parameter.len == 0)
+    if (!row->has_parameter)
         add(t, "-\n");
     else
         add(t, "%d+%d\n", row->parameter.place, row->parameter.len);
@@ -227,15 +224,15 @@ static void dump_row(struct text *t, const uint8_t *msg, const struct plain_row 
         dump_span(t, msg, row->code.global);
         add(t, "]");
         break;
-    case PLAIN_CODE_PROBLEM:
-        add(t, "[\"problem\", %d, %d]", row->code.problem.type, row->code.problem.number);
+    case PLAIN_CODE_NONE:
+        add(t, "null");
         break;
     default:
-        add(t, "null");
+        add(t, "[\"problem\", %d, %d]", row->code_kind - PLAIN_CODE_PROBLEM, row->problem);
         break;
     }
     add(t, ", \"param\": ");
-    if (row->parameter.len == 0)
+    if (!row->has_parameter)
         add(t, "null");
     else
         dump_span(t, msg, row->parameter);

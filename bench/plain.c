@@ -606,6 +606,7 @@ static inline const uint8_t *read_parameter(const struct reader *r, const uint8_
         p = walk_element(r, p, end, level);
         if (p == NULL)
             return NULL;
+        row->has_parameter = 1;
         row->parameter = span(r, from, p);
     }
     return finish(r, p, end, open);
@@ -638,16 +639,13 @@ static const uint8_t *read_problem(const struct reader *r, const uint8_t *p,
                                    const uint8_t *end, bool open, struct plain_row *row)
 {
     static const uint8_t most[4] = { 2, 7, 2, 4 };
-    unsigned type;
 
     if (p == end || *p < 0x80 || *p > 0x83)
         return unexpected(r, p, end, open);
-    type = *p - 0x80u;
-    p = read_octet(r, p, end, most[type], &row->code.problem.number);
+    row->code_kind = *p;
+    p = read_octet(r, p, end, most[*p - 0x80], &row->problem);
     if (p == NULL)
         return NULL;
-    row->code_kind = PLAIN_CODE_PROBLEM;
-    row->code.problem.type = (uint8_t)type;
     return finish(r, p, end, open);
 }
 
@@ -658,12 +656,7 @@ static const uint8_t *read_component(const struct reader *r, const uint8_t *p,
     const uint8_t kind = *p;
     const struct contents c = read_length(r, p, p + 1, end);
 
-    row->kind = kind;
-    row->has_invoke = 0;
-    row->has_linked = 0;
-    row->code_kind = PLAIN_CODE_NONE;
-    row->parameter.place = 0;
-    row->parameter.len = 0;
+    *row = (struct plain_row){ .kind = kind };
     if (c.at == NULL)
         return NULL;
     p = c.at;

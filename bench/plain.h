@@ -62,29 +62,30 @@ struct plain_dialogue {
     struct plain_span user_info;
 };
 
+/* What stands for a code is its tag; a problem's tag is 80 to 83. */
 enum plain_code_kind {
-    PLAIN_CODE_NONE,
-    PLAIN_CODE_LOCAL,
-    PLAIN_CODE_GLOBAL,
-    PLAIN_CODE_PROBLEM
+    PLAIN_CODE_NONE = 0,
+    PLAIN_CODE_LOCAL = 0x02,
+    PLAIN_CODE_GLOBAL = 0x06,
+    PLAIN_CODE_PROBLEM = 0x80
 };
 
+/* The first eight octets are those of the library's layout. What a row has not
+ * is 0. */
 struct plain_row {
     uint8_t kind;
-    int8_t invoke;
-    int8_t linked;
     uint8_t has_invoke;           /* 0: null, in a Reject only */
+    int8_t invoke;
     uint8_t has_linked;
+    int8_t linked;
     uint8_t code_kind;
-    struct plain_span parameter;  /* the whole element; length 0: absent */
+    uint8_t has_parameter;
+    uint8_t problem;
     union {
         int32_t local;
         struct plain_span global;
-        struct {
-            uint8_t type;         /* 0 to 3 for the tags 80 to 83 */
-            uint8_t number;
-        } problem;
     } code;
+    struct plain_span parameter;  /* the whole element */
 };
 
 /* Rows past the count are not written. */

@@ -45,9 +45,9 @@ many() {
 # every folder of crates/ is a crate that crates.txt lists
 listed() {
     for d in crates/*/; do
-        name=$(basename "$d")
-        grep -q "^$name:" crates.txt || {
-            echo "crates.txt does not list $name"
+        crate=$(basename "$d")
+        grep -q "^$crate:" crates.txt || {
+            echo "crates.txt does not list $crate"
             return 1
         }
     done

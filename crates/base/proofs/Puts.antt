@@ -59,7 +59,10 @@ put-nowhere {at} {s} p = p .holds ∙ sets-out [] at s (omega arith)
 pub put-none : (d : List ℕ) (at : ℕ) → length d ≤ farthest → at ≤ farthest → Put d at [] at d
 put-none d at w h = record { within = w; ends = omega arith; holds = refl }
 
--- one octet outside the buffer
+-- one octet within the buffer, and one outside it
+pub put-in : (d : List ℕ) (at x r : ℕ) → length d ≤ farthest → at < length d → r ≡ at + 1 → Put d at (x ∷ []) r (set d at x)
+put-in d at x r w h k = record { within = w; ends = omega arith; holds = refl }
+
 pub put-out : (d : List ℕ) (at x r : ℕ) → length d ≤ farthest → length d ≤ at → r ≡ min (at + 1) farthest → Put d at (x ∷ []) r d
 put-out d at x r w h k = record { within = w; ends = k; holds = sym (set-out d at x h) }
 

@@ -45,8 +45,53 @@ pub fn put_octet(out: &mut [u8], at: usize, octet: u8) -> usize
     at
 }
 
-// All octets of a part.
-pub fn put_part(out: &mut [u8], at: usize, part: &[u8]) -> usize
+// Two octets, and three, one after the other.
+fn put_pair(out: &mut [u8], at: usize, one: u8, two: u8) -> usize
+    ensures { λ r. ⌜ Put (now (out .entry)) at (one ∷ two ∷ []) r (now (out .exit)) ⌝ }
+{
+    let next = put_octet(out, at, one);
+    put_octet(out, next, two)
+}
+
+fn put_triple(out: &mut [u8], at: usize, one: u8, two: u8, three: u8) -> usize
+    ensures { λ r. ⌜ Put (now (out .entry)) at (one ∷ two ∷ three ∷ []) r (now (out .exit)) ⌝ }
+{
+    let next = put_octet(out, at, one);
+    put_pair(out, next, two, three)
+}
+
+// The same, with the room asked for once.
+pub fn put_two(out: &mut [u8], at: usize, one: u8, two: u8) -> usize
+    ensures { λ r. ⌜ Put (now (out .entry)) at (one ∷ two ∷ []) r (now (out .exit)) ⌝ }
+{
+    if out.len() <= at {
+        return put_pair(out, at, one, two);
+    }
+    if out.len() - at < 2 {
+        return put_pair(out, at, one, two);
+    }
+    out[at] = one;
+    out[at + 1] = two;
+    at + 2
+}
+
+pub fn put_three(out: &mut [u8], at: usize, one: u8, two: u8, three: u8) -> usize
+    ensures { λ r. ⌜ Put (now (out .entry)) at (one ∷ two ∷ three ∷ []) r (now (out .exit)) ⌝ }
+{
+    if out.len() <= at {
+        return put_triple(out, at, one, two, three);
+    }
+    if out.len() - at < 3 {
+        return put_triple(out, at, one, two, three);
+    }
+    out[at] = one;
+    out[at + 1] = two;
+    out[at + 2] = three;
+    at + 3
+}
+
+// All octets of a part, one after the other.
+fn put_each(out: &mut [u8], at: usize, part: &[u8]) -> usize
     ensures { λ r. ⌜ Put (now (out .entry)) at (now (part .entry)) r (now (out .exit)) ⌝ }
 {
     let mut i = 0;
@@ -56,4 +101,30 @@ pub fn put_part(out: &mut [u8], at: usize, part: &[u8]) -> usize
         i += 1;
     }
     o
+}
+
+// All octets of a part where there is room for them.
+fn copy_part(out: &mut [u8], at: usize, part: &[u8]) -> usize
+    requires { ⌜ at + length (now part) ≤ length (now out) ⌝ }
+    ensures { λ r. ⌜ Put (now (out .entry)) at (now (part .entry)) r (now (out .exit)) ⌝ }
+{
+    let mut i = 0;
+    while i < part.len() {
+        out[at + i] = part[i];
+        i += 1;
+    }
+    at + i
+}
+
+// All octets of a part, with the room asked for once.
+pub fn put_part(out: &mut [u8], at: usize, part: &[u8]) -> usize
+    ensures { λ r. ⌜ Put (now (out .entry)) at (now (part .entry)) r (now (out .exit)) ⌝ }
+{
+    if out.len() < at {
+        return put_each(out, at, part);
+    }
+    if out.len() - at < part.len() {
+        return put_each(out, at, part);
+    }
+    copy_part(out, at, part)
 }

@@ -183,7 +183,7 @@ fn is_known(contents: &[u8]) -> bool
 }
 
 // The kind of a name.
-fn name_kind(contents: &[u8]) -> NameKind
+pub fn name_kind(contents: &[u8]) -> NameKind
     ensures { λ r. ⌜ r ≡ kindOf (same structured (now (contents .entry))) (same unstructured (now (contents .entry))) ⌝ }
 {
     if contents.len() != 7 {

@@ -1,4 +1,7 @@
 // What the programs do with a reading: list it into a buffer, compare its listing with a text, and count the cases.
+pub mod cases;
+pub mod ids;
+
 ghost use mathlib.Core.Path.{_≡_};
 ghost use mathlib.Core.Bool.{true, cond};
 ghost use Prim.Native.Nat.{_+_, _≤_, min};

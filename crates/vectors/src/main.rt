@@ -1,127 +1,26 @@
 // Compares reading with the cases of read.bin. A case: message and listing, each after its length in two octets; the originating ID of a
 // refusal after its length in one, 0 for none; 0 or 1 for an invoke ID in the standard answer, and the ID in two's complement.
-ghost use mathlib.Core.Path.{_≡_};
-ghost use Prim.Native.Nat.{_+_, _*_, _≤_};
+ghost use Prim.Native.Nat.{_≤_};
 ghost use lib.ListN.{length};
-ghost use Rattle.io.specs.Counts.{Counts};
-ghost use Rattle.vectors.specs.Expected.{Tells, StringIs, OrigIs, IdIs, AnswerIs, OutcomeIs, ReadingIs};
-use base::piece;
-use base::wide;
-use check::same;
-use element::primitive::signed_octet;
-use libc::STDOUT_FILENO;
+ghost use Rattle.report.specs.Expected.{Tells};
+ghost use Rattle.vectors.specs.Expected.{AnswerIs, OutcomeIs, ReadingIs};
 use reader::read;
 use report::Tally;
-use report::counted;
+use report::cases::MOST_CASES;
+use report::cases::Verdict;
+use report::cases::left_after;
+use report::cases::next_short_string;
+use report::cases::next_string;
+use report::cases::told;
+use report::cases::verdict_of;
+use report::ids::same_id;
+use report::ids::same_orig;
 use report::print_tally;
 use report::same_listing;
 use tcap::Answer;
-use tcap::InvokeId;
-use tcap::OptionalOrig;
 use tcap::Outcome;
 use tcap::Reading;
 use tcap::Refusal;
-use tcap::Span;
-
-// A proved loop has to end, and nothing says that a file does.
-const MOST_CASES: u64 = 100000;
-
-// How many cases that differ are named.
-const MOST_NAMED: u64 = 10;
-
-enum Verdict {
-    Same,
-    Differs,
-    Ended,
-}
-
-fn number_of(high: u8, low: u8) -> usize
-    ensures { λ r. ⌜ r ≡ high * 256 + low ⌝ }
-{
-    wide(high) * 256 + wide(low)
-}
-
-// How many octets came to the front of a buffer: all that were asked for, or none.
-fn next_octets(fd: i32, count: usize, buffer: &mut [u8]) -> usize
-    ensures { λ r. ⌜ Counts r (now (buffer .exit)) ⌝ }
-{
-    if buffer.len() < count {
-        return 0;
-    }
-    let got = io::read_full(fd, &mut buffer[..count]);
-    if got < count {
-        return 0;
-    }
-    count
-}
-
-fn next_string(fd: i32, buffer: &mut [u8]) -> usize
-    ensures { λ r. ⌜ Counts r (now (buffer .exit)) ⌝ }
-{
-    let mut head = [0u8; 2];
-    let got = io::read_full(fd, &mut head);
-    if got < 2 {
-        return 0;
-    }
-    let count = number_of(head[0], head[1]);
-    next_octets(fd, count, buffer)
-}
-
-fn next_short_string(fd: i32, buffer: &mut [u8]) -> usize
-    ensures { λ r. ⌜ Counts r (now (buffer .exit)) ⌝ }
-{
-    let mut head = [0u8; 1];
-    let got = io::read_full(fd, &mut head);
-    if got < 1 {
-        return 0;
-    }
-    let count = wide(head[0]);
-    next_octets(fd, count, buffer)
-}
-
-fn same_string(message: &[u8], string: Span, expected: &[u8]) -> bool
-    ensures { λ r. ⌜ Tells r (StringIs (now (message .entry)) string (now (expected .entry))) ⌝ }
-{
-    let place = string.place as usize;
-    let len = string.len as usize;
-    if message.len() < place {
-        return false;
-    }
-    if message.len() - place < len {
-        return false;
-    }
-    same(piece(message, place, len), expected)
-}
-
-fn same_orig(message: &[u8], orig: OptionalOrig, expected: &[u8]) -> bool
-    ensures { λ r. ⌜ Tells r (OrigIs (now (message .entry)) orig (now (expected .entry))) ⌝ }
-{
-    match orig {
-        OptionalOrig::NoOrig => expected.len() == 0,
-        OptionalOrig::Orig(own) => {
-            if expected.len() == 0 {
-                return false;
-            }
-            let id = own.0;
-            let octets = id.octets;
-            same_string(message, octets, expected)
-        }
-    }
-}
-
-fn same_id(id: InvokeId, given: u8, octet: u8) -> bool
-    ensures { λ r. ⌜ Tells r (IdIs id given octet) ⌝ }
-{
-    match id {
-        InvokeId::Null => given == 0,
-        InvokeId::Id(value) => {
-            if given != 1 {
-                return false;
-            }
-            value == signed_octet(octet)
-        }
-    }
-}
 
 fn same_answer(answer: Answer, given: u8, octet: u8) -> bool
     ensures { λ r. ⌜ Tells r (AnswerIs answer given octet) ⌝ }
@@ -193,19 +92,7 @@ fn compare_next(fd: i32) -> Verdict {
         id[0],
         id[1],
     );
-    if equal {
-        Verdict::Same
-    } else {
-        Verdict::Differs
-    }
-}
-
-fn name_case(tally: Tally) {
-    if tally.differ < MOST_NAMED {
-        io::write_all(STDOUT_FILENO, b"case ");
-        io::print_decimal(STDOUT_FILENO, tally.compared);
-        io::write_all(STDOUT_FILENO, b" differs\n");
-    }
+    verdict_of(equal)
 }
 
 fn compare_all(fd: i32) -> Tally {
@@ -216,19 +103,8 @@ fn compare_all(fd: i32) -> Tally {
     let mut left = MOST_CASES;
     while left > 0 {
         let verdict = compare_next(fd);
-        match verdict {
-            Verdict::Same => {
-                tally = counted(tally, true);
-            }
-            Verdict::Differs => {
-                name_case(tally);
-                tally = counted(tally, false);
-            }
-            Verdict::Ended => {
-                return tally;
-            }
-        }
-        left -= 1;
+        tally = told(tally, verdict);
+        left = left_after(left, verdict);
     }
     tally
 }

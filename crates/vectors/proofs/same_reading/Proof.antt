@@ -2,7 +2,8 @@
 use borrow.Author.Needs.{needs}
 use mathlib.Core.Path.{refl}
 use borrow.Author.Tests.{not-true, not-false}
-use Rattle.vectors.proofs.Telling.{denies, fails, also, accepted, refused}
+use Rattle.report.proofs.Telling.{denies, fails, also}
+use Rattle.vectors.proofs.Telling.{accepted, refused}
 use Rattle.vectors.specs.Expected.{ReadingIs}
 use Rattle.vectors.proofs.same_reading.Statement.{statement}
 use Rattle.vectors.proofs.same_reading.Tie as tie

@@ -1,7 +1,7 @@
 -- Both IDs, one after the other. Assumes nothing.
 use borrow.Author.Needs.{needs}
 use borrow.Author.Tests.{not-true, not-false}
-use Rattle.vectors.proofs.Telling.{denies, fails, also}
+use Rattle.report.proofs.Telling.{denies, fails, also}
 use Rattle.vectors.specs.Expected.{OutcomeIs}
 use Rattle.vectors.proofs.same_refusal.Statement.{statement}
 use Rattle.vectors.proofs.same_refusal.Tie as tie

@@ -1,0 +1,125 @@
+#!/bin/sh
+# Counts the instructions of a call of read, write and steer: the library's beside
+# those of plain C.
+#
+#   count_calls.sh ARCHIVE CASES
+#
+# CASES is a case file (tests/c/cases.h); of it the calls are taken whose message
+# is readable or was written, by the message's length. A count is the difference
+# between a run of n and one of 2n rounds, less the same for functions that only
+# return, over n and the calls. Counted by qemu-x86_64 with the plug-in icount.c,
+# or on an x86-64 machine without that by valgrind.
+#
+# ROUNDS (4) and LEVELS (-O2 -O3) of plain C may be set.
+set -eu
+
+if [ $# -ne 2 ]; then
+    echo "usage: count_calls.sh ARCHIVE CASES" >&2
+    exit 2
+fi
+archive=$1
+cases=$2
+here=$(cd "$(dirname "$0")" && pwd)
+root=$(dirname "$here")
+rounds=${ROUNDS:-4}
+levels=${LEVELS:--O2 -O3}
+tmp=$(mktemp -d)
+trap 'rm -rf "$tmp"' EXIT
+
+build() {
+    sh "$root/tools/cc.sh" cc -std=c99 -Wall -Wextra -I"$root/include" -I"$here" -I"$root/tests/c" "$@"
+}
+
+# The loop is the same under every implementation.
+build -O2 -DNOTHING -o "$tmp/nothing" "$here/count_calls.c"
+build -O2 -DREAD=goldenskep_read -DWRITE=goldenskep_write -DSTEER=goldenskep_steer \
+    -o "$tmp/library" "$here/count_calls.c" "$archive"
+programs=library
+for level in $levels; do
+    for name in plain plain_read plain_write plain_steer; do
+        build "$level" -c -o "$tmp/$name$level.o" "$here/$name.c"
+    done
+    build -O2 -DREAD=plain_read_layout -DWRITE=plain_write_layout -DSTEER=plain_steer_layout \
+        -o "$tmp/plain$level" "$here/count_calls.c" "$tmp/plain$level.o" "$tmp/plain_read$level.o" \
+        "$tmp/plain_write$level.o" "$tmp/plain_steer$level.o"
+    programs="$programs plain$level"
+done
+
+# Which counter is there?
+counter=none
+if command -v qemu-x86_64 >/dev/null && ${HOSTCC:-cc} -O2 -shared -fPIC -o "$tmp/icount.so" "$here/icount.c" &&
+    sh "$root/tools/cc.sh" count "$tmp/icount.so" "$tmp/nothing" 2>&1 | grep -q '^instructions'; then
+    counter=plugin
+elif command -v valgrind >/dev/null && [ "$(uname -m)" = x86_64 ]; then
+    counter=valgrind
+else
+    echo "neither qemu-x86_64 with plug-ins nor an x86-64 valgrind" >&2
+    exit 2
+fi
+
+# instructions PROGRAM ROUNDS CALL [CLASS]: of one whole run. The number of rounds
+# has always eight digits, so that taking it in costs the same in both runs.
+instructions() {
+    program=$1
+    times=$(printf '%08d' "$2")
+    shift 2
+    if [ $counter = plugin ]; then
+        sh "$root/tools/cc.sh" count "$tmp/icount.so" "$program" "$cases" "$times" "$@" 2>"$tmp/log" >"$tmp/round" || true
+        sed -n 's/^instructions //p' "$tmp/log"
+    else
+        valgrind --tool=callgrind --callgrind-out-file=/dev/null \
+            "$program" "$cases" "$times" "$@" 2>"$tmp/log" >"$tmp/round" || true
+        sed -n 's/^==.*Collected : //p' "$tmp/log"
+    fi
+}
+
+# difference PROGRAM CALL [CLASS]: the instructions of $rounds rounds.
+difference() {
+    program=$1
+    shift
+    once=$(instructions "$program" "$rounds" "$@")
+    twice=$(instructions "$program" $((2 * rounds)) "$@")
+    if [ -z "$once" ] || [ -z "$twice" ]; then
+        cat "$tmp/log" >&2
+        exit 1
+    fi
+    echo $((twice - once))
+}
+
+printf '%-6s %6s %7s %7s' call octets calls mean
+for program in $programs; do
+    printf ' %10s' "$program"
+done
+echo "  library / plain"
+for call in r:read w:write s:steer; do
+    for class in 20 60 120 250 all; do
+        if [ $class = all ]; then
+            arguments=${call%%:*}
+        else
+            arguments="${call%%:*} $class"
+        fi
+        none=$(difference "$tmp/nothing" $arguments)
+        set --
+        differ=0
+        for program in $programs; do
+            set -- "$@" "$(difference "$tmp/$program" $arguments)"
+            read -r count _ octets _ wrong _ <"$tmp/round"
+            differ=$((differ + wrong))
+        done
+        awk -v call="${call##*:}" -v class=$class -v count="$count" -v octets="$octets" -v differ=$differ \
+            -v none="$none" -v rounds="$rounds" -v all="$*" 'BEGIN {
+            if (count == 0) {
+                printf "%-6s %6s no calls\n", call, class
+                exit
+            }
+            printf "%-6s %6s %7d %7.1f", call, class, count, octets / count
+            n = split(all, each, " ")
+            for (i = 1; i <= n; i++)
+                printf " %10.1f", (each[i] - none) / rounds / count
+            printf " "
+            for (i = 2; i <= n; i++)
+                printf " %.2f", (each[1] - none) / (each[i] - none)
+            print (differ > 0 ? "  " differ " DIFFER" : "")
+        }'
+    done
+done

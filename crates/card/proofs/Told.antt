@@ -1,0 +1,61 @@
+-- The answer to a refused message tells its place, its cause or problem and its component whole: the fields are wide enough. Assumes nothing.
+use Prim.Native.Nat.{ℕ, _+_, _/_, _%_, _^_, _≤_, _<_}
+use native.Mathlib.Omega.{arith}
+use mathlib.Core.Path.{_≡_, refl, sym, ap, _∙_}
+use mathlib.Core.Logic.{_⊎_, inl, inr}
+use mathlib.Core.Bool.{Bool, true, false}
+use mathlib.Core.List.{List}
+use mathlib.Core.Option.{some}
+use lib.ListN.{length}
+use lib.Dec.{leb}
+use borrow.Author.Tests.{leb-true}
+use Rattle.element.specs.Fault.{Owner, Text}
+use Rattle.element.specs.Ask.{check}
+use Rattle.element.proofs.Laid.{stands-here, here-within}
+use Rattle.tcap.specs.declared.{OptionalOrig.OptionalOrig, Answer.Answer, Refusal.Refusal, Outcome.Outcome}
+use Rattle.tcap.specs.WellFormed.{mostOctets, mostComponents, deepestLevel}
+use Rattle.tcap.specs.Reading.{locatedUpTo, refusalOf, answered, readingUpTo, reading}
+use Rattle.tcap.proofs.Refusals.{Standard, unknownType, tooMany, inside6B, unknownComponent, mistypedComponent, badComponent, mistypedElsewhere, badElsewhere, OrigRead, refused-carries}
+use Rattle.layout.specs.Layout.{origSpan}
+use Rattle.card.specs.Answer.{refusalBits}
+use Rattle.card.proofs.Fields.{causeOf, componentOf, place-field, orig-place-field, cause-field, component-field}
+
+standard-small : {n : ℕ} {o : Owner} {a : Answer} → Standard n o a → (causeOf a ≤ 4) × (componentOf a < mostComponents)
+standard-small (unknownType e) = omega arith
+standard-small (tooMany e) = omega arith
+standard-small inside6B = omega arith
+standard-small (unknownComponent e k) = omega arith
+standard-small (mistypedComponent e k) = omega arith
+standard-small (badComponent l h k) = omega arith
+standard-small (mistypedElsewhere e) = omega arith
+standard-small (badElsewhere e f) = omega arith
+
+orig-within : (m : List ℕ) (o : OptionalOrig) → OrigRead m o → origSpan o .place + origSpan o .len ≤ length m
+unfolding origSpan
+orig-within m o (inl e) = rw e (omega arith)
+orig-within m o (inr (t, e, s)) = rw e (here-within (stands-here (some 0x48, t) s) .0)
+
+refusal-of : (f g : Refusal) → Outcome.Refused f ≡ Outcome.Refused g → f ≡ g
+refusal-of f g e = cc
+
+-- a message over 255 octets is refused at 255, and no ID is sought
+module _ (m : List ℕ) (f : Refusal) (h : reading m .outcome ≡ Outcome.Refused f) where
+  by-length : (b : Bool) → leb (length m) mostOctets ≡ b → (f .place ≤ mostOctets) × (origSpan (f .orig) .place ≤ mostOctets)
+  unfolding reading readingUpTo locatedUpTo answered refusalOf check origSpan
+  by-length true e = let c = refused-carries m f h .0 in (omega (arith, c .place, leb-true (length m) mostOctets e), omega (arith, orig-within m (f .orig) (c .origId), leb-true (length m) mostOctets e))
+  by-length false e = rw (← (refusal-of _ f (rw e at h))) (omega arith, omega arith)
+
+  small : (f .place ≤ mostOctets) × (origSpan (f .orig) .place ≤ mostOctets)
+  small = by-length (leb (length m) mostOctets) refl
+
+  pub told-place : refusalBits f / 2 ^ 8 % 2 ^ 16 ≡ f .place
+  told-place = omega (arith, place-field f, small .0)
+
+  pub told-orig : refusalBits f / 2 ^ 24 % 2 ^ 16 ≡ origSpan (f .orig) .place
+  told-orig = omega (arith, orig-place-field f, small .1)
+
+  pub told-cause : refusalBits f / 2 ^ 45 % 2 ^ 3 ≡ causeOf (f .answer)
+  told-cause = omega (arith, cause-field f, standard-small (refused-carries m f h .0 .answer) .0)
+
+  pub told-component : refusalBits f / 2 ^ 48 % 2 ^ 7 ≡ componentOf (f .answer)
+  told-component = omega (arith, component-field f, standard-small (refused-carries m f h .0 .answer) .1)

@@ -1,0 +1,119 @@
+// The calls for C, on octets and numbers: docs/LAYOUT.md.
+ghost use mathlib.Core.Path.{_≡_};
+ghost use Rattle.card.specs.Answer.{origBits, sendBits, refusalBits, listedBits, readAnswer, readRoom, listAnswer, listRoom, layoutBits};
+use listing::Listed;
+use tcap::Answer;
+use tcap::InvokeId;
+use tcap::OptionalOrig;
+use tcap::Outcome;
+use tcap::Refusal;
+ghost use Prim.Native.Nat.{_+_, _*_, _%_, _^_, _<_};
+ghost use Rattle.layout.specs.Layout.{idFlag, idOctet};
+
+// The field of a transaction ID, by the place and length of its octets.
+fn orig_bits(orig: OptionalOrig) -> u64
+    ensures { λ r. ⌜ r ≡ origBits orig ⌝ }
+{
+    match orig {
+        OptionalOrig::NoOrig => 0,
+        OptionalOrig::Orig(own) => {
+            let id = own.0;
+            let octets = id.octets;
+            let place = octets.place;
+            let len = octets.len;
+            (place % 65536) as u64 * 16777216 + (len % 16) as u64 * 1099511627776
+        }
+    }
+}
+
+// The fields of an invoke ID, if it was read.
+fn id_bits(id: InvokeId) -> u64
+    ensures { λ r. ⌜ (r ≡ idFlag id * 2 ^ 55 + idOctet id % 2 ^ 8 * 2 ^ 56) ⌝ }
+{
+    match id {
+        InvokeId::Null => 0,
+        InvokeId::Id(value) => {
+            36028797018963968 + pack::number::octet_of(value) as u64 * 72057594037927936
+        }
+    }
+}
+
+// What to send.
+fn send_bits(answer: Answer) -> u64
+    ensures { λ r. ⌜ r ≡ sendBits answer ⌝ }
+{
+    match answer {
+        Answer::AbortCause(cause) => (cause % 8) as u64 * 35184372088832,
+        Answer::RejectProblem {
+            problem,
+            component,
+            id,
+        } => {
+            let named = (component % 128) as u64 * 281474976710656;
+            let low = 17592186044416 + (problem % 8) as u64 * 35184372088832 + named;
+            low + id_bits(id)
+        }
+    }
+}
+
+fn refusal_bits(refusal: Refusal) -> u64
+    ensures { λ r. ⌜ r ≡ refusalBits refusal ⌝ }
+{
+    let kind = refusal.kind;
+    let orig = refusal.orig;
+    let answer = refusal.answer;
+    let number = reader::number_of(kind);
+    let found = number as u64 + (refusal.place % 65536) as u64 * 256;
+    let from = orig_bits(orig);
+    let sent = send_bits(answer);
+    found + from + sent
+}
+
+// Reads a message into the room for a record: 0, or the refusal. Too little room is 25, before all else, and a refusal leaves the room alone.
+#[no_mangle]
+pub extern "C" fn goldenskep_read(message: &[u8], room: &mut [u8]) -> u64
+    ensures { λ r. ⌜ r ≡ readAnswer (now (message .entry)) (now (room .entry)) ⌝ }
+    ensures { λ _. ⌜ now (room .exit) ≡ readRoom (now (message .entry)) (now (room .entry)) ⌝ }
+{
+    if room.len() < 428 {
+        return 25;
+    }
+    let reading = reader::read(message);
+    let outcome = reading.outcome;
+    match outcome {
+        Outcome::Accepted => {
+            let held = reading.message;
+            pack::put_record(room, held);
+            0
+        }
+        Outcome::Refused(refusal) => refusal_bits(refusal),
+    }
+}
+
+fn listed_bits(listed: Listed) -> u64
+    ensures { λ r. ⌜ r ≡ listedBits listed ⌝ }
+{
+    match listed {
+        Listed::Length(size) => (size % 65536) as u64 * 256,
+        Listed::TooLong => 25,
+    }
+}
+
+// Lists the reading of a message as text: its length, or 25 and the buffer left alone.
+#[no_mangle]
+pub extern "C" fn goldenskep_list(message: &[u8], out: &mut [u8]) -> u64
+    ensures { λ r. ⌜ r ≡ listAnswer (now (message .entry)) (now (out .entry)) ⌝ }
+    ensures { λ _. ⌜ now (out .exit) ≡ listRoom (now (message .entry)) (now (out .entry)) ⌝ }
+{
+    let reading = reader::read(message);
+    let listed = listing::list_reading(message, reading, out);
+    listed_bits(listed)
+}
+
+// Version, rule size and record size, to be held against the header.
+#[no_mangle]
+pub extern "C" fn goldenskep_layout() -> u32
+    ensures { λ r. ⌜ r ≡ layoutBits ⌝ }
+{
+    layout::VERSION * 16777216 + layout::RULE_SIZE * 65536 + layout::RECORD_SIZE
+}

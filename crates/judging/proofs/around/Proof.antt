@@ -1,0 +1,50 @@
+-- `around` meets its contract. Assumes nothing.
+use borrow.Author.Needs.{needs}
+use native.Mathlib.Omega.{arith}
+use mathlib.Core.Path.{ap}
+use Rattle.judging.specs.Judged.{wrapped}
+use Rattle.judging.specs.declared.Judged.{Judged}
+use Rattle.judging.proofs.Joining.{size-short, size-long, size-most}
+use Rattle.judging.proofs.around.Statement.{statement}
+use Rattle.judging.proofs.around.Tie as tie
+
+enum-known-contents : tie.Need-enum-known-contents
+enum-known-contents c = search needs
+
+enum-known-contents-2 : tie.Need-enum-known-contents-2
+enum-known-contents-2 c = search needs
+
+add-t6 : tie.Need-add-t6
+add-t6 c = search needs
+
+returns : tie.Need-returns
+unfolding wrapped
+returns c = rw (c .before .before .contents2 .given .1) (ap Judged.Fine (omega (arith, size-short (c .before .before .contents2 .given .0 .0) (omega arith))))
+
+add-t7 : tie.Need-add-t7
+add-t7 c = search needs
+
+returns-2 : tie.Need-returns-2
+unfolding wrapped
+returns-2 c = rw (c .before .before .before .contents2 .given .1) (ap Judged.Fine (omega (arith, size-long (c .before .before .before .contents2 .given .0 .0) (omega arith) (omega arith))))
+
+returns-3 : tie.Need-returns-3
+unfolding wrapped
+returns-3 c = rw (c .before .contents .given .1)
+
+returns-4 : tie.Need-returns-4
+unfolding wrapped
+returns-4 c = rw (c .before .before .before .contents2 .given .1) (ap Judged.Fine (omega (arith, size-most (c .before .before .before .contents2 .given .0 .0) (omega arith))))
+
+pub around-spec : {M : Type 1} → statement M
+around-spec =
+    tie.close
+    (tie.spec
+    enum-known-contents
+    enum-known-contents-2
+    add-t6
+    returns
+    add-t7
+    returns-2
+    returns-3
+    returns-4)

@@ -1,0 +1,30 @@
+-- `result_judged` meets its contract. Assumes nothing.
+use borrow.Author.Needs.{needs}
+use mathlib.Core.Bool.{and-true}
+use Rattle.judging.specs.Verdict.{rowPartsFit, rowRanges, rowLies, rowShaped}
+use Rattle.judging.specs.Forms.{contentsForm}
+use Rattle.judging.proofs.Joining.{join, then-size}
+use Rattle.judging.proofs.result_judged.Statement.{statement}
+use Rattle.judging.proofs.result_judged.Tie as tie
+
+id-judged-requires : tie.Need-id-judged-requires
+id-judged-requires c κs = search needs
+
+returned-judged-requires : tie.Need-returned-judged-requires
+returned-judged-requires c κs = search needs
+
+both-requires : tie.Need-both-requires
+both-requires c κs = search needs
+
+returns : tie.Need-returns
+unfolding rowPartsFit rowRanges rowLies rowShaped contentsForm
+returns c = rw (c .both .ensures, c .before .before .id-judged .ensures, c .before .returned-judged .ensures) (simp (join, then-size, and-true))
+
+pub result-judged-spec : {M : Type 1} → statement M
+result-judged-spec =
+    tie.close
+    (tie.spec
+    id-judged-requires
+    returned-judged-requires
+    both-requires
+    returns)

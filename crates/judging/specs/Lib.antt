@@ -1,0 +1,3 @@
+pub mod Verdict
+pub mod Forms
+pub mod Judged

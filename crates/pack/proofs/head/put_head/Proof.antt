@@ -1,0 +1,50 @@
+-- Field after field; the count's lower 32 bits are its four octets. Assumes nothing.
+use borrow.Author.Needs.{needs}
+use native.Mathlib.Omega.{arith}
+use Rattle.base.specs.Number.{octetsIn}
+use Rattle.base.proofs.Puts.{put-then}
+use Rattle.layout.specs.Layout.{spanOctets, headOctets}
+use Rattle.pack.proofs.Rooms.{put-room, octets-cut}
+use Rattle.pack.proofs.head.put_head.Statement.{statement}
+use Rattle.pack.proofs.head.put_head.Tie as tie
+
+put-choices-requires : tie.Need-put-choices-requires
+put-choices-requires c κs = search needs
+
+cast-put-number : tie.Need-cast-put-number
+cast-put-number c = search needs
+
+put-number-requires : tie.Need-put-number-requires
+put-number-requires c κs = omega (arith, put-room (c .before .before .before .put-choices .ensures) 40 (c .before .before .before .before .before .before .pre))
+
+put-orig-requires : tie.Need-put-orig-requires
+unfolding octetsIn
+put-orig-requires c κs = omega (arith, put-room (c .before .before .before .put-number .ensures) 36 (put-room (c .before .before .before .before .before .before .before .put-choices .ensures) 40 (c .before .before .before .before .before .before .before .before .before .before .pre)))
+
+put-dest-requires : tie.Need-put-dest-requires
+unfolding spanOctets octetsIn
+put-dest-requires c κs = omega (arith, put-room (c .before .before .before .put-orig .ensures) 28 (put-room (c .before .before .before .before .before .before .before .put-number .ensures) 36 (put-room (c .before .before .before .before .before .before .before .before .before .before .before .put-choices .ensures) 40 (c .before .before .before .before .before .before .before .before .before .before .before .before .before .before .pre))))
+
+put-dialogue-requires : tie.Need-put-dialogue-requires
+unfolding spanOctets octetsIn
+put-dialogue-requires c κs = put-room (c .before .before .before .put-dest .ensures) 20 (put-room (c .before .before .before .before .before .before .before .put-orig .ensures) 28 (put-room (c .before .before .before .before .before .before .before .before .before .before .before .put-number .ensures) 36 (put-room (c .before .before .before .before .before .before .before .before .before .before .before .before .before .before .before .put-choices .ensures) 40 (c .before .before .before .before .before .before .before .before .before .before .before .before .before .before .before .before .before .before .pre))))
+
+same-length : tie.Need-same-length
+same-length c = search needs
+
+returns : tie.Need-returns
+unfolding headOctets
+returns c = put-then (put-then (put-then (put-then (c .before .before .before .before .before .before .before .before .before .before .before .before .before .before .before .before .before .before .put-choices .ensures) (rw octets-cut at (c .before .before .before .before .before .before .before .before .before .before .before .before .before .before .put-number .ensures))) (c .before .before .before .before .before .before .before .before .before .before .put-orig .ensures)) (c .before .before .before .before .before .before .put-dest .ensures)) (c .before .before .put-dialogue .ensures)
+
+pub put-head-spec : {M : Type 1} → statement M
+put-head-spec =
+    tie.close
+    (tie.spec
+    put-choices-requires
+    cast-put-number
+    put-number-requires
+    put-orig-requires
+    put-dest-requires
+    put-dialogue-requires
+    same-length
+    returns)

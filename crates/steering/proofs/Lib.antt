@@ -1,0 +1,5 @@
+pub mod Codes
+pub mod Rules
+pub mod Steps
+pub mod Promises
+pub mod Layouts

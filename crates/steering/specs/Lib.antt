@@ -1,0 +1,3 @@
+pub mod Steering
+pub mod Layout
+pub mod Meant

@@ -1,0 +1,89 @@
+// Rules as octets, as a program in C passes them: 12 octets a rule, in the layout of docs/LAYOUT.md.
+ghost use mathlib.Core.Path.{_≡_};
+ghost use Prim.Native.Nat.{_≤_};
+ghost use lib.ListN.{length};
+ghost use Rattle.base.specs.Number.{numberFrom};
+ghost use Rattle.steering.specs.Steering.{firstFit};
+ghost use Rattle.steering.specs.Layout.{ruleSize, kindIn, codeIn, ruleOf, rulesIn};
+use crate::Choice;
+use crate::FirstCode;
+use crate::Rule;
+use crate::RuleCode;
+use crate::rule_fits;
+use base::after;
+use base::piece;
+use base::wide;
+use element::primitive::signed;
+
+const RULE_SIZE: usize = 12;
+
+// Neither any kind nor one of the five.
+const NO_KIND: u8 = 255;
+
+// The largest number of four octets.
+const TOP: u32 = 4294967295;
+
+// Four octets as a number.
+fn number_in(four: &[u8]) -> u32
+    requires { ⌜ length (now four) ≡ 4 ⌝ }
+    ensures { λ r. ⌜ r ≡ numberFrom 0 (now (four .entry)) ⌝ }
+{
+    let high = wide(four[0]) * 256 + wide(four[1]);
+    let low = wide(four[2]) * 256 + wide(four[3]);
+    (high * 65536 + low) as u32
+}
+
+// Octets whose flag is neither 0 nor 1 are no rule: they get a kind that fits nothing.
+fn kind_in(kind: u8, flag: u8) -> u8
+    ensures { λ r. ⌜ r ≡ kindIn kind flag ⌝ }
+{
+    if flag <= 1 {
+        return kind;
+    }
+    NO_KIND
+}
+
+// Flag 0 asks for any code, and the four octets are not used.
+fn code_in(flag: u8, four: &[u8]) -> RuleCode
+    requires { ⌜ length (now four) ≡ 4 ⌝ }
+    ensures { λ r. ⌜ r ≡ codeIn flag (now (four .entry)) ⌝ }
+{
+    if flag == 0 {
+        return RuleCode::Any;
+    }
+    let bits = number_in(four);
+    RuleCode::Local(signed(TOP, bits))
+}
+
+// The rule that octets begin with.
+pub fn rule_of(octets: &[u8]) -> Rule
+    requires { ⌜ ruleSize ≤ length (now octets) ⌝ }
+    ensures { λ r. ⌜ r ≡ ruleOf (now (octets .entry)) ⌝ }
+{
+    let flag = octets[1];
+    let kind = kind_in(octets[0], flag);
+    let code = code_in(flag, piece(octets, 4, 4));
+    let link = number_in(piece(octets, 8, 4));
+    Rule {
+        kind: kind,
+        code: code,
+        link: link,
+    }
+}
+
+// What `first_fit` answers, over rules as octets.
+pub fn first_in(octets: &[u8], tag: u8, first: FirstCode) -> Choice
+    ensures { λ r. ⌜ r ≡ firstFit (rulesIn (now (octets .entry))) tag first ⌝ }
+{
+    let mut left = octets.len() / RULE_SIZE;
+    let mut at = 0;
+    while left > 0 {
+        let rule = rule_of(after(octets, at));
+        if rule_fits(rule, tag, first) {
+            return Choice::Link(rule.link);
+        }
+        left -= 1;
+        at += RULE_SIZE;
+    }
+    Choice::NoRule
+}

@@ -1,0 +1,51 @@
+-- By the variant of the answer. Assumes nothing.
+use Rattle.report.proofs.Telling.{denies, also, by-number}
+use Rattle.steerings.specs.Expected.{SteeredIs}
+use borrow.Author.Needs.{needs}
+use Rattle.steerings.proofs.same_steered.Statement.{statement}
+use Rattle.steerings.proofs.same_steered.Tie as tie
+
+enum-told : tie.Need-enum-told
+enum-told c = search needs
+
+enum-known-steered : tie.Need-enum-known-steered
+enum-known-steered c = search needs
+
+same-link-requires : tie.Need-same-link-requires
+same-link-requires c κs = search needs
+
+enum-known-steered-2 : tie.Need-enum-known-steered-2
+enum-known-steered-2 c = search needs
+
+returns : tie.Need-returns
+unfolding SteeredIs
+returns c = rw (c .before .before .before .steered2 .given .1) (denies (λ p. c .if1 .taken (p .0)))
+
+same-refusal-requires : tie.Need-same-refusal-requires
+same-refusal-requires c κs = search needs
+
+returns-2 : tie.Need-returns-2
+unfolding SteeredIs
+returns-2 c = rw (c .before .enum-told .given .1) (by-number _ _)
+
+returns-3 : tie.Need-returns-3
+unfolding SteeredIs
+returns-3 c = rw (c .before .before .steered .given .1) (c .same-link .ensures)
+
+returns-4 : tie.Need-returns-4
+unfolding SteeredIs
+returns-4 c = rw (c .before .before .before .before .steered2 .given .1) (also (c .before .if1 .left) (c .same-refusal .ensures))
+
+pub same-steered-spec : {M : Type 1} → statement M
+same-steered-spec =
+    tie.close
+    (tie.spec
+    enum-told
+    enum-known-steered
+    same-link-requires
+    enum-known-steered-2
+    returns
+    same-refusal-requires
+    returns-2
+    returns-3
+    returns-4)

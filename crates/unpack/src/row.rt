@@ -1,0 +1,221 @@
+// A row from its 24 octets, and whether they are one.
+ghost use mathlib.Core.Path.{_≡_};
+ghost use mathlib.Core.Bool.{_&&_};
+ghost use Prim.Native.Nat.{_≤_};
+ghost use lib.ListN.{length, getD};
+ghost use Rattle.tcap.specs.declared.ComponentKind.{ComponentKind as ComponentKinds};
+ghost use Rattle.layout.specs.Layout.{isFlag, idIn, linkedIn, isCodeTag, codeAt, parameterAt, isProblemTag, problemIn, isCoded, isReturned, returnedIn, isKind, kindIn, isRow, rowIn};
+use crate::number::number_at;
+use crate::number::optional_at;
+use crate::number::span_at;
+use element::primitive::signed;
+use element::primitive::signed_octet;
+use tcap::Code;
+use tcap::ComponentKind;
+use tcap::InvokeId;
+use tcap::LinkedId;
+use tcap::Problem;
+use tcap::Returned;
+use tcap::Row;
+
+fn id_in(flag: u8, octet: u8) -> InvokeId
+    ensures { λ r. ⌜ r ≡ idIn flag octet ⌝ }
+{
+    if flag == 0 {
+        return InvokeId::Null;
+    }
+    InvokeId::Id(signed_octet(octet))
+}
+
+fn linked_in(flag: u8, octet: u8) -> LinkedId
+    ensures { λ r. ⌜ r ≡ linkedIn flag octet ⌝ }
+{
+    if flag == 0 {
+        return LinkedId::Unlinked;
+    }
+    LinkedId::Linked(signed_octet(octet))
+}
+
+fn code_at(part: &[u8]) -> Code
+    requires { ⌜ 24 ≤ length (now part) ⌝ }
+    ensures { λ r. ⌜ r ≡ codeAt (now (part .entry)) ⌝ }
+{
+    if part[5] == 0x02 {
+        return Code::Local(signed(4294967295, number_at(part, 8)));
+    }
+    let span = span_at(part, 8);
+    Code::Global(span)
+}
+
+fn problem_in(tag: u8, number: u8) -> Problem
+    ensures { λ r. ⌜ r ≡ problemIn tag number ⌝ }
+{
+    if tag == 0x80 {
+        return Problem::General(number);
+    }
+    if tag == 0x81 {
+        return Problem::OfInvoke(number);
+    }
+    if tag == 0x82 {
+        return Problem::OfResult(number);
+    }
+    Problem::OfError(number)
+}
+
+fn returned_in(part: &[u8]) -> Returned
+    requires { ⌜ 24 ≤ length (now part) ⌝ }
+    ensures { λ r. ⌜ r ≡ returnedIn (now (part .entry)) ⌝ }
+{
+    if part[5] == 0 {
+        return Returned::Bare;
+    }
+    let code = code_at(part);
+    let parameter = span_at(part, 16);
+    Returned::Both {
+        code: code,
+        parameter: parameter,
+    }
+}
+
+fn invoke_in(part: &[u8]) -> ComponentKind
+    requires { ⌜ 24 ≤ length (now part) ⌝ }
+    ensures { λ r. ⌜ r ≡ ComponentKinds.Invoke (linkedIn (getD (now (part .entry)) 3 0) (getD (now (part .entry)) 4 0)) (codeAt (now (part .entry))) (parameterAt (now (part .entry))) ⌝ }
+{
+    let linked = linked_in(part[3], part[4]);
+    let code = code_at(part);
+    let parameter = optional_at(part, part[6], 16);
+    ComponentKind::Invoke {
+        linked: linked,
+        code: code,
+        parameter: parameter,
+    }
+}
+
+fn error_in(part: &[u8]) -> ComponentKind
+    requires { ⌜ 24 ≤ length (now part) ⌝ }
+    ensures { λ r. ⌜ r ≡ ComponentKinds.ReturnError (codeAt (now (part .entry))) (parameterAt (now (part .entry))) ⌝ }
+{
+    let code = code_at(part);
+    let parameter = optional_at(part, part[6], 16);
+    ComponentKind::ReturnError {
+        code: code,
+        parameter: parameter,
+    }
+}
+
+fn kind_in(tag: u8, part: &[u8]) -> ComponentKind
+    requires { ⌜ 24 ≤ length (now part) ⌝ }
+    ensures { λ r. ⌜ r ≡ kindIn tag (now (part .entry)) ⌝ }
+{
+    if tag == 0xA1 {
+        return invoke_in(part);
+    }
+    if tag == 0xA2 {
+        let returned = returned_in(part);
+        return ComponentKind::ResultLast(returned);
+    }
+    if tag == 0xA3 {
+        return error_in(part);
+    }
+    if tag == 0xA4 {
+        let problem = problem_in(part[5], part[7]);
+        return ComponentKind::Reject(problem);
+    }
+    let returned = returned_in(part);
+    ComponentKind::ResultNotLast(returned)
+}
+
+// The row that the octets stand for, whether they are one or not.
+pub fn row_in(part: &[u8]) -> Row
+    requires { ⌜ 24 ≤ length (now part) ⌝ }
+    ensures { λ r. ⌜ r ≡ rowIn (now (part .entry)) ⌝ }
+{
+    let id = id_in(part[1], part[2]);
+    let kind = kind_in(part[0], part);
+    Row { id: id, kind: kind }
+}
+
+fn is_code_tag(tag: u8) -> bool
+    ensures { λ r. ⌜ r ≡ isCodeTag tag ⌝ }
+{
+    if tag == 0x02 {
+        return true;
+    }
+    tag == 0x06
+}
+
+fn is_coded(part: &[u8]) -> bool
+    requires { ⌜ 24 ≤ length (now part) ⌝ }
+    ensures { λ r. ⌜ r ≡ isCoded (now (part .entry)) ⌝ }
+{
+    if is_code_tag(part[5]) {
+        return part[6] <= 1;
+    }
+    false
+}
+
+// Both or neither.
+fn is_returned(part: &[u8]) -> bool
+    requires { ⌜ 24 ≤ length (now part) ⌝ }
+    ensures { λ r. ⌜ r ≡ isReturned (now (part .entry)) ⌝ }
+{
+    if part[5] == 0 {
+        return part[6] == 0;
+    }
+    if is_code_tag(part[5]) {
+        return part[6] == 1;
+    }
+    false
+}
+
+fn is_invoke(part: &[u8]) -> bool
+    requires { ⌜ 24 ≤ length (now part) ⌝ }
+    ensures { λ r. ⌜ r ≡ (isFlag (getD (now (part .entry)) 3 0) && isCoded (now (part .entry))) ⌝ }
+{
+    if part[3] > 1 {
+        return false;
+    }
+    is_coded(part)
+}
+
+fn is_problem_tag(tag: u8) -> bool
+    ensures { λ r. ⌜ r ≡ isProblemTag tag ⌝ }
+{
+    if tag < 0x80 {
+        return false;
+    }
+    tag <= 0x83
+}
+
+fn is_kind(tag: u8, part: &[u8]) -> bool
+    requires { ⌜ 24 ≤ length (now part) ⌝ }
+    ensures { λ r. ⌜ r ≡ isKind tag (now (part .entry)) ⌝ }
+{
+    if tag == 0xA1 {
+        return is_invoke(part);
+    }
+    if tag == 0xA2 {
+        return is_returned(part);
+    }
+    if tag == 0xA3 {
+        return is_coded(part);
+    }
+    if tag == 0xA4 {
+        return is_problem_tag(part[5]);
+    }
+    if tag == 0xA7 {
+        return is_returned(part);
+    }
+    false
+}
+
+// Whether every octet that chooses has a listed value.
+pub fn is_row(part: &[u8]) -> bool
+    requires { ⌜ 24 ≤ length (now part) ⌝ }
+    ensures { λ r. ⌜ r ≡ isRow (now (part .entry)) ⌝ }
+{
+    if part[1] > 1 {
+        return false;
+    }
+    is_kind(part[0], part)
+}

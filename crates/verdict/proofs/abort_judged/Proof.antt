@@ -1,0 +1,36 @@
+-- `abort_judged` meets its contract. Assumes nothing.
+use borrow.Author.Needs.{needs}
+use native.Mathlib.Nat.{zero-add}
+use mathlib.Core.Bool.{and-true}
+use Rattle.judging.specs.Verdict.{dialogueRanges, dialogueLies, dialogueShaped}
+use Rattle.judging.specs.Forms.{dialogueForm}
+use Rattle.judging.proofs.Joining.{join, wrap, then-size, around-size, leaf-size}
+use Rattle.verdict.proofs.Dialogues.{seven, three, perhaps-size}
+use Rattle.verdict.proofs.abort_judged.Statement.{statement}
+use Rattle.verdict.proofs.abort_judged.Tie as tie
+
+octet-judged-requires : tie.Need-octet-judged-requires
+octet-judged-requires c κs = search needs
+
+info-judged-requires : tie.Need-info-judged-requires
+info-judged-requires c κs = search needs
+
+both-requires : tie.Need-both-requires
+both-requires c κs = search needs
+
+pdu-judged-requires : tie.Need-pdu-judged-requires
+pdu-judged-requires c κs = search needs
+
+returns : tie.Need-returns
+unfolding dialogueRanges dialogueLies dialogueShaped dialogueForm
+returns c = rw (c .pdu-judged .ensures, c .before .both .ensures, c .before .before .before .octet-judged .ensures, c .before .before .info-judged .ensures, seven) (simp (join, wrap, around-size, then-size, leaf-size, perhaps-size, zero-add, and-true, three))
+
+pub abort-judged-spec : {M : Type 1} → statement M
+abort-judged-spec =
+    tie.close
+    (tie.spec
+    octet-judged-requires
+    info-judged-requires
+    both-requires
+    pdu-judged-requires
+    returns)

@@ -1,0 +1,40 @@
+-- `dest_judged` meets its contract. Assumes nothing.
+use borrow.Author.Needs.{needs}
+use Rattle.element.specs.Form.{shortest}
+use Rattle.judging.specs.Judged.{rankOf, judged}
+use Rattle.judging.specs.Verdict.{destRanges, destLies}
+use Rattle.judging.specs.Forms.{destForm}
+use Rattle.judging.proofs.Joining.{wrap, leaf-size}
+use Rattle.verdict.proofs.dest_judged.Statement.{statement}
+use Rattle.verdict.proofs.dest_judged.Tie as tie
+
+enum-told : tie.Need-enum-told
+enum-told c = search needs
+
+enum-known-dest : tie.Need-enum-known-dest
+enum-known-dest c = search needs
+
+sized-judged-requires : tie.Need-sized-judged-requires
+sized-judged-requires c κs = search needs
+
+around-requires : tie.Need-around-requires
+around-requires c κs = search needs
+
+returns : tie.Need-returns
+unfolding rankOf judged destRanges destLies destForm shortest
+returns c = rw (c .enum-told .given .1)
+
+returns-2 : tie.Need-returns-2
+unfolding destRanges destLies destForm
+returns-2 c = rw (c .before .before .before .before .dest .given .1, c .around .ensures, c .before .sized-judged .ensures, wrap, leaf-size)
+
+pub dest-judged-spec : {M : Type 1} → statement M
+dest-judged-spec =
+    tie.close
+    (tie.spec
+    enum-told
+    enum-known-dest
+    sized-judged-requires
+    around-requires
+    returns
+    returns-2)

@@ -1,0 +1,40 @@
+-- `info_judged` meets its contract. Assumes nothing.
+use borrow.Author.Needs.{needs}
+use Rattle.element.specs.Form.{shortest}
+use Rattle.judging.specs.Judged.{rankOf, judged}
+use Rattle.judging.specs.Verdict.{optionLies, infoShaped}
+use Rattle.judging.specs.Forms.{infoForm}
+use Rattle.judging.proofs.Joining.{wrap, around-size, exact-size}
+use Rattle.verdict.proofs.info_judged.Statement.{statement}
+use Rattle.verdict.proofs.info_judged.Tie as tie
+
+enum-told : tie.Need-enum-told
+enum-told c = search needs
+
+enum-known-info : tie.Need-enum-known-info
+enum-known-info c = search needs
+
+series-judged-requires : tie.Need-series-judged-requires
+series-judged-requires c κs = search needs
+
+around-requires : tie.Need-around-requires
+around-requires c κs = search needs
+
+returns : tie.Need-returns
+unfolding rankOf judged optionLies infoShaped infoForm shortest
+returns c = rw (c .enum-told .given .1)
+
+returns-2 : tie.Need-returns-2
+unfolding optionLies infoShaped infoForm
+returns-2 c = rw (c .before .before .before .info .given .1, c .around .ensures, c .before .series-judged .ensures, wrap, around-size, exact-size)
+
+pub info-judged-spec : {M : Type 1} → statement M
+info-judged-spec =
+    tie.close
+    (tie.spec
+    enum-told
+    enum-known-info
+    series-judged-requires
+    around-requires
+    returns
+    returns-2)

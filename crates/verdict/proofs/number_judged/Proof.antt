@@ -1,0 +1,23 @@
+-- `number_judged` meets its contract. Assumes nothing.
+use borrow.Author.Needs.{needs}
+use Rattle.judging.proofs.Joining.{wrap}
+use Rattle.verdict.proofs.Dialogues.{five}
+use Rattle.verdict.proofs.number_judged.Statement.{statement}
+use Rattle.verdict.proofs.number_judged.Tie as tie
+
+octet-judged-requires : tie.Need-octet-judged-requires
+octet-judged-requires c κs = search needs
+
+around-requires : tie.Need-around-requires
+around-requires c κs = search needs
+
+returns : tie.Need-returns
+returns c = rw (c .around .ensures, c .before .octet-judged .ensures, wrap, five)
+
+pub number-judged-spec : {M : Type 1} → statement M
+number-judged-spec =
+    tie.close
+    (tie.spec
+    octet-judged-requires
+    around-requires
+    returns)

@@ -1,0 +1,40 @@
+-- `orig_judged` meets its contract. Assumes nothing.
+use borrow.Author.Needs.{needs}
+use Rattle.element.specs.Form.{shortest}
+use Rattle.judging.specs.Judged.{rankOf, judged}
+use Rattle.judging.specs.Verdict.{origRanges, origLies}
+use Rattle.judging.specs.Forms.{origForm}
+use Rattle.judging.proofs.Joining.{wrap, leaf-size}
+use Rattle.verdict.proofs.orig_judged.Statement.{statement}
+use Rattle.verdict.proofs.orig_judged.Tie as tie
+
+enum-told : tie.Need-enum-told
+enum-told c = search needs
+
+enum-known-orig : tie.Need-enum-known-orig
+enum-known-orig c = search needs
+
+sized-judged-requires : tie.Need-sized-judged-requires
+sized-judged-requires c κs = search needs
+
+around-requires : tie.Need-around-requires
+around-requires c κs = search needs
+
+returns : tie.Need-returns
+unfolding rankOf judged origRanges origLies origForm shortest
+returns c = rw (c .enum-told .given .1)
+
+returns-2 : tie.Need-returns-2
+unfolding origRanges origLies origForm
+returns-2 c = rw (c .before .before .before .before .orig .given .1, c .around .ensures, c .before .sized-judged .ensures, wrap, leaf-size)
+
+pub orig-judged-spec : {M : Type 1} → statement M
+orig-judged-spec =
+    tie.close
+    (tie.spec
+    enum-told
+    enum-known-orig
+    sized-judged-requires
+    around-requires
+    returns
+    returns-2)

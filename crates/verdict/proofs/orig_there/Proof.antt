@@ -1,0 +1,28 @@
+-- `orig_there` meets its contract. Assumes nothing.
+use borrow.Author.Needs.{needs}
+use Rattle.judging.specs.Verdict.{origThere}
+use Rattle.verdict.proofs.orig_there.Statement.{statement}
+use Rattle.verdict.proofs.orig_there.Tie as tie
+
+enum-told : tie.Need-enum-told
+enum-told c = search needs
+
+enum-known-orig : tie.Need-enum-known-orig
+enum-known-orig c = search needs
+
+returns : tie.Need-returns
+unfolding origThere
+returns c = rw (c .enum-told .given .1)
+
+returns-2 : tie.Need-returns-2
+unfolding origThere
+returns-2 c = rw (c .before .orig .given .1)
+
+pub orig-there-spec : {M : Type 1} → statement M
+orig-there-spec =
+    tie.close
+    (tie.spec
+    enum-told
+    enum-known-orig
+    returns
+    returns-2)

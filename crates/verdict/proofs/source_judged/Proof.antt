@@ -1,0 +1,47 @@
+-- `source_judged` meets its contract. Assumes nothing.
+use borrow.Author.Needs.{needs}
+use Rattle.judging.specs.Verdict.{sourceRanges}
+use Rattle.judging.proofs.Joining.{wrap, around-size}
+use Rattle.judging.proofs.Leaves.{octet-size}
+use Rattle.verdict.proofs.Dialogues.{five}
+use Rattle.verdict.proofs.source_judged.Statement.{statement}
+use Rattle.verdict.proofs.source_judged.Tie as tie
+
+enum-known-diagnostic : tie.Need-enum-known-diagnostic
+enum-known-diagnostic c = search needs
+
+number-judged-requires : tie.Need-number-judged-requires
+number-judged-requires c κs = search needs
+
+around-requires : tie.Need-around-requires
+around-requires c κs = search needs
+
+enum-known-diagnostic-2 : tie.Need-enum-known-diagnostic-2
+enum-known-diagnostic-2 c = search needs
+
+number-judged-requires-2 : tie.Need-number-judged-requires-2
+number-judged-requires-2 c κs = search needs
+
+around-requires-2 : tie.Need-around-requires-2
+around-requires-2 c κs = search needs
+
+returns : tie.Need-returns
+unfolding sourceRanges
+returns c = rw (c .before .before .before .diagnostic .given .1, c .around .ensures, c .before .number-judged .ensures, wrap, around-size, around-size, octet-size, five)
+
+returns-2 : tie.Need-returns-2
+unfolding sourceRanges
+returns-2 c = rw (c .before .before .before .diagnostic2 .given .1, c .around2 .ensures, c .before .number-judged2 .ensures, wrap, around-size, around-size, octet-size, five)
+
+pub source-judged-spec : {M : Type 1} → statement M
+source-judged-spec =
+    tie.close
+    (tie.spec
+    enum-known-diagnostic
+    number-judged-requires
+    around-requires
+    enum-known-diagnostic-2
+    number-judged-requires-2
+    around-requires-2
+    returns
+    returns-2)

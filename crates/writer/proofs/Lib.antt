@@ -1,0 +1,10 @@
+pub mod Parts
+pub mod Making
+pub mod Testing
+pub mod Meant
+pub mod Formed
+pub mod Promises
+pub mod Fitting
+pub mod Answers
+pub mod Specimens
+pub mod Told

@@ -1,0 +1,55 @@
+// The writer: a record over the material beside it, into the shortest message, or the refusal.
+ghost use mathlib.Core.Path.{_≡_};
+ghost use Rattle.writer.specs.Writing.{faultAt, Writes};
+use judging::Judged;
+use tcap::Record;
+
+// Why a record is not written; document 01 numbers these 24, 23, 21, 22 and 25.
+pub enum WriteFault {
+    WrongParts,
+    OutOfRange,
+    OutOfMaterial,
+    Unshaped,
+    NoRoom,
+}
+
+// How many octets were written, or why none were.
+pub enum Written {
+    Length(usize),
+    Refused(WriteFault),
+}
+
+// The refusal by its rank: what comes first over the whole record ranks highest.
+fn fault_at(rank: u8) -> WriteFault
+    ensures { λ r. ⌜ r ≡ faultAt rank ⌝ }
+{
+    if rank == 4 {
+        return WriteFault::WrongParts;
+    }
+    if rank == 3 {
+        return WriteFault::OutOfRange;
+    }
+    if rank == 2 {
+        return WriteFault::OutOfMaterial;
+    }
+    WriteFault::Unshaped
+}
+
+// The shortest message of a record, from the front of the buffer; a refusal leaves the buffer as it was.
+pub fn write(held: Record, material: &[u8], out: &mut [u8]) -> Written
+    ensures { λ w. ⌜ Writes held (now (material .entry)) (now (out .entry)) w (now (out .exit)) ⌝ }
+{
+    match verdict::record_judged(held, material) {
+        Judged::Bad(rank) => Written::Refused(fault_at(rank)),
+        Judged::Fine(size) => {
+            if size > 255 {
+                return Written::Refused(WriteFault::NoRoom);
+            }
+            if size > out.len() {
+                return Written::Refused(WriteFault::NoRoom);
+            }
+            putting::put_record(out, held, material);
+            Written::Length(size)
+        }
+    }
+}

@@ -1,0 +1,53 @@
+/* Counting checks, and octets from hex; C and C++. */
+#ifndef CHECK_H
+#define CHECK_H
+
+#include <stdint.h>
+#include <stdio.h>
+#include <string.h>
+
+static unsigned long checks_passed, checks_failed;
+
+#define CHECK(condition) check_((condition) != 0, #condition, __FILE__, __LINE__)
+
+static inline void check_(int passed, const char *condition, const char *file, int line)
+{
+    if (passed) {
+        checks_passed++;
+    } else {
+        checks_failed++;
+        printf("%s:%d: %s\n", file, line, condition);
+    }
+}
+
+/* The last line, and the exit status. */
+static inline int checks_end(void)
+{
+    printf("%lu passed, %lu failed\n", checks_passed, checks_failed);
+    return checks_failed != 0 || checks_passed == 0;
+}
+
+static inline int hex_digit(char c)
+{
+    if (c >= '0' && c <= '9')
+        return c - '0';
+    if (c >= 'A' && c <= 'F')
+        return c - 'A' + 10;
+    return -1;
+}
+
+/* Octets written in hex, perhaps with spaces: how many. */
+static inline size_t octets_of(const char *hex, uint8_t *to, size_t room)
+{
+    size_t n = 0;
+
+    for (; *hex != '\0' && n < room; hex++) {
+        if (*hex == ' ')
+            continue;
+        to[n++] = (uint8_t)(hex_digit(hex[0]) * 16 + hex_digit(hex[1]));
+        hex++;
+    }
+    return n;
+}
+
+#endif

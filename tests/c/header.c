@@ -1,0 +1,467 @@
+/* goldenskep.h: its constants, accessors and builders, with the library behind
+ * them. C99, and C++11 (header.cpp). */
+#include "goldenskep.h"
+#include "check.h"
+
+#ifdef __cplusplus
+#define LANGUAGE "C++"
+#else
+#define LANGUAGE "C"
+#endif
+
+static uint8_t record[GOLDENSKEP_RECORD_SIZE];
+static uint8_t material[256];
+static size_t used;
+static uint8_t message[GOLDENSKEP_MAX_MESSAGE];
+static size_t length;
+
+/* Appends the octets of hex to the material. */
+static struct goldenskep_span lay(const char *hex)
+{
+    uint8_t octets[256];
+
+    return goldenskep_append(material, sizeof material, &used, octets,
+                             octets_of(hex, octets, sizeof octets));
+}
+
+static void begin_record(int kind)
+{
+    used = 0;
+    memset(record, 0xEE, sizeof record);
+    goldenskep_record_init(record, kind);
+}
+
+/* Writes the record: the status. */
+static unsigned write_record(void)
+{
+    uint64_t answer = goldenskep_write(record, sizeof record, material, used, message, sizeof message);
+
+    length = goldenskep_answer_is_done(answer) ? goldenskep_answer_length(answer) : 0;
+    return goldenskep_answer_status(answer);
+}
+
+/* Is the message just these octets? */
+static int is_message(const char *hex)
+{
+    uint8_t octets[256];
+    size_t n = octets_of(hex, octets, sizeof octets);
+
+    return n == length && memcmp(octets, message, n) == 0;
+}
+
+/* Reads the message that was written: 1 if done. */
+static int read_back(void)
+{
+    memset(record, 0, sizeof record);
+    return goldenskep_read(message, length, record, sizeof record) == GOLDENSKEP_DONE;
+}
+
+/* Do the octets of a span, in the message, read so? */
+static int is_string(struct goldenskep_span span, const char *hex)
+{
+    uint8_t octets[256];
+    size_t n = octets_of(hex, octets, sizeof octets);
+
+    return span.length == n && span.place + n <= length && memcmp(message + span.place, octets, n) == 0;
+}
+
+static void check_layout(void)
+{
+    CHECK(GOLDENSKEP_RECORD_SIZE == 428);
+    CHECK(GOLDENSKEP_RULE_SIZE == 12);
+    CHECK(GOLDENSKEP_LAYOUT == 0x010C01ACu);
+    CHECK(goldenskep_layout() == GOLDENSKEP_LAYOUT);
+    CHECK(goldenskep_header_fits() == 1);
+}
+
+static void check_answer(void)
+{
+    /* Every field at its largest, and all others 0. */
+    CHECK(goldenskep_answer_status(0xFFu) == 255);
+    CHECK(goldenskep_answer_place(0xFFFF00u) == 65535);
+    CHECK(goldenskep_answer_length(0xFFFF00u) == 65535);
+    CHECK(goldenskep_answer_orig(UINT64_C(0xFFFF000000)).place == 65535);
+    CHECK(goldenskep_answer_orig(UINT64_C(0xFFFF000000)).length == 0);
+    CHECK(goldenskep_answer_orig(UINT64_C(0xF0000000000)).length == 15);
+    CHECK(goldenskep_answer_has_orig(UINT64_C(0x10000000000)) == 1);
+    CHECK(goldenskep_answer_has_orig(~UINT64_C(0xF0000000000)) == 0);
+    CHECK(goldenskep_answer_is_reject(UINT64_C(1) << 44) == 1);
+    CHECK(goldenskep_answer_is_reject(~(UINT64_C(1) << 44)) == 0);
+    CHECK(goldenskep_answer_cause(UINT64_C(7) << 45) == 7);
+    CHECK(goldenskep_answer_cause(~(UINT64_C(7) << 45)) == 0);
+    CHECK(goldenskep_answer_problem(UINT64_C(7) << 45) == 7);
+    CHECK(goldenskep_answer_component(UINT64_C(127) << 48) == 127);
+    CHECK(goldenskep_answer_component(~(UINT64_C(127) << 48)) == 0);
+    CHECK(goldenskep_answer_has_invoke_id(UINT64_C(1) << 55) == 1);
+    CHECK(goldenskep_answer_has_invoke_id(~(UINT64_C(1) << 55)) == 0);
+    CHECK(goldenskep_answer_invoke_id(UINT64_C(0x7F) << 56) == 127);
+    CHECK(goldenskep_answer_invoke_id(UINT64_C(0x80) << 56) == -128);
+    CHECK(goldenskep_answer_invoke_id(UINT64_C(0xFF) << 56) == -1);
+    CHECK(goldenskep_answer_link(UINT64_C(0xFFFFFFFF00000000)) == 4294967295u);
+    CHECK(goldenskep_answer_link(UINT64_C(0xFFFFFFFF)) == 0);
+    CHECK(goldenskep_answer_is_done(UINT64_C(0xFFFFFFFFFFFFFF00)));
+    CHECK(!goldenskep_answer_is_done(GOLDENSKEP_NO_RULE));
+    CHECK(!goldenskep_answer_is_unreadable(0) && goldenskep_answer_is_unreadable(1));
+    CHECK(goldenskep_answer_is_unreadable(13) && !goldenskep_answer_is_unreadable(14));
+    CHECK(!goldenskep_answer_is_unreadable(GOLDENSKEP_REFUSED_ROOM));
+    CHECK(!goldenskep_answer_is_unreadable(GOLDENSKEP_NO_RULE));
+}
+
+/* A refusal of each sort, from the library. */
+static void check_refusals(void)
+{
+    uint8_t octets[300];
+    uint64_t answer;
+    size_t n;
+
+    n = octets_of("62 00", octets, sizeof octets);
+    memset(record, 0xEE, sizeof record);
+    answer = goldenskep_read(octets, n, record, sizeof record);
+    CHECK(goldenskep_answer_status(answer) == GOLDENSKEP_REFUSED_UNEXPECTED);
+    CHECK(goldenskep_answer_place(answer) == 2);
+    CHECK(!goldenskep_answer_has_orig(answer));
+    CHECK(!goldenskep_answer_is_reject(answer));
+    CHECK(goldenskep_answer_cause(answer) == GOLDENSKEP_CAUSE_INCORRECT);
+    CHECK(record[0] == 0xEE && record[GOLDENSKEP_RECORD_SIZE - 1] == 0xEE);
+
+    /* Component 1, whose code is missing, has invoke ID -2. */
+    n = octets_of("62 13 48 02 05 06 6C 0D A1 06 02 01 01 02 01 2D A1 03 02 01 FE", octets, sizeof octets);
+    answer = goldenskep_read(octets, n, record, sizeof record);
+    CHECK(goldenskep_answer_status(answer) == GOLDENSKEP_REFUSED_UNEXPECTED);
+    CHECK(goldenskep_answer_place(answer) == 21);
+    CHECK(goldenskep_answer_has_orig(answer));
+    CHECK(goldenskep_answer_orig(answer).place == 4 && goldenskep_answer_orig(answer).length == 2);
+    CHECK(goldenskep_answer_is_reject(answer));
+    CHECK(goldenskep_answer_problem(answer) == GOLDENSKEP_MISTYPED_COMPONENT);
+    CHECK(goldenskep_answer_component(answer) == 1);
+    CHECK(goldenskep_answer_has_invoke_id(answer));
+    CHECK(goldenskep_answer_invoke_id(answer) == -2);
+    CHECK(goldenskep_steer(octets, n, NULL, 0) == answer);
+
+    memset(octets, 0, sizeof octets);
+    answer = goldenskep_read(octets, 256, record, sizeof record);
+    CHECK(goldenskep_answer_status(answer) == GOLDENSKEP_REFUSED_TOO_LONG);
+    CHECK(goldenskep_answer_place(answer) == 255);
+    CHECK(goldenskep_answer_cause(answer) == GOLDENSKEP_CAUSE_BADLY_FORMATTED);
+
+    CHECK(goldenskep_read(NULL, 0, record, GOLDENSKEP_RECORD_SIZE - 1) == GOLDENSKEP_REFUSED_ROOM);
+    CHECK(goldenskep_read(NULL, 0, NULL, 0) == GOLDENSKEP_REFUSED_ROOM);
+    CHECK(goldenskep_write(NULL, 0, NULL, 0, NULL, 0) == GOLDENSKEP_REFUSED_PARTS);
+    CHECK(goldenskep_answer_status(goldenskep_steer(NULL, 0, NULL, 0)) == GOLDENSKEP_REFUSED_CUT_OFF);
+    CHECK(goldenskep_list(NULL, 0, NULL, 0) == GOLDENSKEP_REFUSED_ROOM);
+}
+
+/* An Invoke with linked ID 2: every octet of its record, and there and back. */
+static void check_linked_invoke(void)
+{
+    static const char *const octets = "62 13 48 01 05 6C 0E A1 0C 02 01 01 80 01 02 02 01 2D 04 01 07";
+    uint8_t wanted[GOLDENSKEP_RECORD_SIZE];
+    int k;
+
+    begin_record(GOLDENSKEP_BEGIN);
+    goldenskep_record_set_orig(record, lay("05"));
+    k = goldenskep_add_invoke(record, 1, 45);
+    CHECK(k == 0);
+    goldenskep_row_set_linked_id(record, 0, 2);
+    goldenskep_row_set_parameter(record, 0, lay("04 01 07"));
+
+    memset(wanted, 0, sizeof wanted);
+    octets_of("62010000 00000001 00000000 00000001", wanted, 16);
+    octets_of("A101010102020100 0000002D 00000000 00000001 00000003", wanted + 44, 24);
+    CHECK(memcmp(record, wanted, sizeof wanted) == 0);
+    CHECK(write_record() == GOLDENSKEP_DONE);
+    CHECK(is_message(octets));
+
+    CHECK(read_back());
+    octets_of("62010000 00000001 00000004 00000001", wanted, 16);
+    octets_of("A101010102020100 0000002D 00000000 00000012 00000003", wanted + 44, 24);
+    CHECK(memcmp(record, wanted, sizeof wanted) == 0);
+    CHECK(goldenskep_record_kind(record) == GOLDENSKEP_BEGIN);
+    CHECK(goldenskep_record_has_orig(record));
+    CHECK(is_string(goldenskep_record_orig(record), "05"));
+    CHECK(!goldenskep_record_has_dest(record));
+    CHECK(goldenskep_record_dialogue(record) == GOLDENSKEP_DIALOGUE_NONE);
+    CHECK(goldenskep_record_count(record) == 1);
+    CHECK(goldenskep_row_kind(record, 0) == GOLDENSKEP_INVOKE);
+    CHECK(goldenskep_row_has_invoke_id(record, 0) && goldenskep_row_invoke_id(record, 0) == 1);
+    CHECK(goldenskep_row_has_linked_id(record, 0) && goldenskep_row_linked_id(record, 0) == 2);
+    CHECK(goldenskep_row_code_kind(record, 0) == GOLDENSKEP_CODE_LOCAL);
+    CHECK(goldenskep_row_local_code(record, 0) == 45);
+    CHECK(goldenskep_row_has_parameter(record, 0));
+    CHECK(goldenskep_row_parameter(record, 0).place == 18);
+    CHECK(is_string(goldenskep_row_parameter(record, 0), "04 01 07"));
+
+    /* A message is material for its own record. */
+    goldenskep_row_clear_linked_id(record, 0);
+    memcpy(material, message, length);
+    used = length;
+    CHECK(write_record() == GOLDENSKEP_DONE);
+    CHECK(is_message("62 10 48 01 05 6C 0B A1 09 02 01 01 02 01 2D 04 01 07"));
+    goldenskep_row_clear_parameter(record, 0);
+    CHECK(write_record() == GOLDENSKEP_DONE);
+    CHECK(is_message("62 0D 48 01 05 6C 08 A1 06 02 01 01 02 01 2D"));
+    goldenskep_row_clear_code(record, 0);
+    CHECK(write_record() == GOLDENSKEP_REFUSED_PARTS);
+}
+
+static void check_components(void)
+{
+    begin_record(GOLDENSKEP_CONTINUE);
+    goldenskep_record_set_orig(record, lay("01 02 03 04"));
+    goldenskep_record_set_dest(record, lay("0A 0B"));
+    CHECK(goldenskep_add_invoke(record, -128, -2147483647 - 1) == 0);
+    CHECK(goldenskep_add_invoke(record, 127, 0) == 1);
+    goldenskep_row_set_global_code(record, 1, lay("2A 03"));
+    goldenskep_row_set_linked_id(record, 1, -1);
+    CHECK(goldenskep_add_result_last(record, 3) == 2);
+    CHECK(goldenskep_add_result_not_last(record, 4) == 3);
+    goldenskep_row_set_local_code(record, 3, 128);
+    goldenskep_row_set_parameter(record, 3, lay("30 00"));
+    CHECK(goldenskep_add_error(record, 5, -129) == 4);
+    CHECK(goldenskep_add_reject(record, GOLDENSKEP_PROBLEM_INVOKE, 7) == 5);
+    CHECK(goldenskep_add_reject(record, GOLDENSKEP_PROBLEM_ERROR, 4) == 6);
+    goldenskep_row_set_invoke_id(record, 6, -6);
+    CHECK(write_record() == GOLDENSKEP_DONE);
+    CHECK(is_message("65 4D 48 04 01 02 03 04 49 02 0A 0B 6C 41 A1 09 02 01 80 02 04 80 00 00 00"
+                     "A1 0A 02 01 7F 80 01 FF 06 02 2A 03 A2 03 02 01 03"
+                     "A7 0B 02 01 04 30 06 02 02 00 80 30 00 A3 07 02 01 05 02 02 FF 7F"
+                     "A4 05 05 00 81 01 07 A4 06 02 01 FA 83 01 04"));
+    CHECK(read_back());
+    CHECK(goldenskep_record_kind(record) == GOLDENSKEP_CONTINUE);
+    CHECK(is_string(goldenskep_record_orig(record), "01 02 03 04"));
+    CHECK(goldenskep_record_has_dest(record) && is_string(goldenskep_record_dest(record), "0A 0B"));
+    CHECK(goldenskep_record_count(record) == 7);
+    CHECK(goldenskep_row_invoke_id(record, 0) == -128);
+    CHECK(goldenskep_row_local_code(record, 0) == -2147483647 - 1);
+    CHECK(!goldenskep_row_has_linked_id(record, 0) && !goldenskep_row_has_parameter(record, 0));
+    CHECK(goldenskep_row_invoke_id(record, 1) == 127 && goldenskep_row_linked_id(record, 1) == -1);
+    CHECK(goldenskep_row_code_kind(record, 1) == GOLDENSKEP_CODE_GLOBAL);
+    CHECK(is_string(goldenskep_row_global_code(record, 1), "2A 03"));
+    CHECK(goldenskep_row_kind(record, 2) == GOLDENSKEP_RESULT_LAST);
+    CHECK(goldenskep_row_code_kind(record, 2) == GOLDENSKEP_CODE_NONE);
+    CHECK(!goldenskep_row_has_parameter(record, 2));
+    CHECK(goldenskep_row_kind(record, 3) == GOLDENSKEP_RESULT_NOT_LAST);
+    CHECK(goldenskep_row_local_code(record, 3) == 128);
+    CHECK(is_string(goldenskep_row_parameter(record, 3), "30 00"));
+    CHECK(goldenskep_row_kind(record, 4) == GOLDENSKEP_ERROR);
+    CHECK(goldenskep_row_local_code(record, 4) == -129);
+    CHECK(goldenskep_row_kind(record, 5) == GOLDENSKEP_REJECT);
+    CHECK(!goldenskep_row_has_invoke_id(record, 5));
+    CHECK(goldenskep_row_problem_type(record, 5) == GOLDENSKEP_PROBLEM_INVOKE);
+    CHECK(goldenskep_row_problem(record, 5) == 7);
+    CHECK(goldenskep_row_has_invoke_id(record, 6) && goldenskep_row_invoke_id(record, 6) == -6);
+    CHECK(goldenskep_row_problem_type(record, 6) == GOLDENSKEP_PROBLEM_ERROR);
+    CHECK(goldenskep_row_problem(record, 6) == 4);
+    goldenskep_row_set_null_invoke_id(record, 6);
+    CHECK(!goldenskep_row_has_invoke_id(record, 6) && goldenskep_row_invoke_id(record, 6) == 0);
+    goldenskep_row_set_problem(record, 6, GOLDENSKEP_PROBLEM_RESULT, 2);
+    memcpy(material, message, length);
+    used = length;
+    CHECK(write_record() == GOLDENSKEP_DONE);
+    CHECK(length == 78 && memcmp(message + 73, "\x05\x00\x82\x01\x02", 5) == 0);
+
+    /* Sixteen go in and are written, a seventeenth does not. */
+    begin_record(GOLDENSKEP_UNIDIRECTIONAL);
+    CHECK(write_record() == GOLDENSKEP_REFUSED_PARTS);
+    for (int k = 0; k < 16; k++)
+        CHECK(goldenskep_add_result_last(record, (int8_t)k) == k);
+    CHECK(goldenskep_add_invoke(record, 1, 1) == -1);
+    CHECK(goldenskep_add_result_last(record, 1) == -1);
+    CHECK(goldenskep_add_result_not_last(record, 1) == -1);
+    CHECK(goldenskep_add_error(record, 1, 1) == -1);
+    CHECK(goldenskep_add_reject(record, GOLDENSKEP_PROBLEM_GENERAL, 0) == -1);
+    CHECK(goldenskep_record_count(record) == 16);
+    CHECK(write_record() == GOLDENSKEP_DONE && length == 84);
+    CHECK(read_back() && goldenskep_row_invoke_id(record, 15) == 15);
+}
+
+static void check_dialogues(void)
+{
+    begin_record(GOLDENSKEP_ABORT);
+    goldenskep_record_set_dest(record, lay("05"));
+    goldenskep_record_set_cause(record, GOLDENSKEP_CAUSE_RESOURCE_LIMITATION);
+    CHECK(write_record() == GOLDENSKEP_DONE);
+    CHECK(is_message("67 06 49 01 05 4A 01 04"));
+    CHECK(read_back());
+    CHECK(goldenskep_record_dialogue(record) == GOLDENSKEP_DIALOGUE_CAUSE);
+    CHECK(goldenskep_record_cause(record) == GOLDENSKEP_CAUSE_RESOURCE_LIMITATION);
+
+    begin_record(GOLDENSKEP_BEGIN);
+    goldenskep_record_set_orig(record, lay("05"));
+    goldenskep_record_set_request(record, lay("04 00 00 01 00 01 03"));
+    CHECK(write_record() == GOLDENSKEP_DONE);
+    CHECK(is_message("62 1F 48 01 05 6B 1A 28 18 06 07 00 11 86 05 01 01 01 A0 0D 60 0B A1 09 06 07"
+                     "04 00 00 01 00 01 03"));
+    CHECK(read_back());
+    CHECK(goldenskep_record_dialogue(record) == GOLDENSKEP_DIALOGUE_REQUEST);
+    CHECK(is_string(goldenskep_record_name(record), "04 00 00 01 00 01 03"));
+    CHECK(!goldenskep_record_has_user_info(record));
+
+    begin_record(GOLDENSKEP_END);
+    goldenskep_record_set_dest(record, lay("05"));
+    goldenskep_record_set_response(record, lay("2A"), 1, GOLDENSKEP_DIAGNOSTIC_PROVIDER, 2);
+    goldenskep_record_set_user_info(record, lay("28 00 28 02 05 00"));
+    CHECK(write_record() == GOLDENSKEP_DONE);
+    CHECK(is_message("64 2D 49 01 05 6B 28 28 26 06 07 00 11 86 05 01 01 01 A0 1B 61 19 A1 03 06 01 2A"
+                     "A2 03 02 01 01 A3 05 A2 03 02 01 02 BE 06 28 00 28 02 05 00"));
+    CHECK(read_back());
+    CHECK(goldenskep_record_dialogue(record) == GOLDENSKEP_DIALOGUE_RESPONSE);
+    CHECK(goldenskep_record_result(record) == 1);
+    CHECK(goldenskep_record_diagnostic_source(record) == GOLDENSKEP_DIAGNOSTIC_PROVIDER);
+    CHECK(goldenskep_record_diagnostic(record) == 2);
+    CHECK(goldenskep_record_has_user_info(record));
+    CHECK(is_string(goldenskep_record_user_info(record), "28 00 28 02 05 00"));
+    goldenskep_record_clear_user_info(record);
+    CHECK(!goldenskep_record_has_user_info(record));
+    CHECK(goldenskep_record_user_info(record).place == 0 && goldenskep_record_user_info(record).length == 0);
+
+    begin_record(GOLDENSKEP_ABORT);
+    goldenskep_record_set_dest(record, lay("05"));
+    goldenskep_record_set_dialogue_abort(record, 1);
+    goldenskep_record_set_user_info(record, goldenskep_span(0, 0));
+    CHECK(write_record() == GOLDENSKEP_DONE);
+    CHECK(is_message("67 19 49 01 05 6B 14 28 12 06 07 00 11 86 05 01 01 01 A0 07 64 05 80 01 01 BE 00"));
+    CHECK(read_back());
+    CHECK(goldenskep_record_dialogue(record) == GOLDENSKEP_DIALOGUE_ABORT);
+    CHECK(goldenskep_record_abort_source(record) == 1);
+    CHECK(goldenskep_record_has_user_info(record) && goldenskep_record_user_info(record).length == 0);
+
+    begin_record(GOLDENSKEP_UNIDIRECTIONAL);
+    goldenskep_record_set_unidialogue(record, lay("2A 03"));
+    goldenskep_add_result_last(record, 1);
+    CHECK(write_record() == GOLDENSKEP_DONE);
+    CHECK(is_message("61 1E 6B 15 28 13 06 07 00 11 86 05 01 02 01 A0 08 60 06 A1 04 06 02 2A 03"
+                     "6C 05 A2 03 02 01 01"));
+    CHECK(read_back());
+    CHECK(goldenskep_record_dialogue(record) == GOLDENSKEP_DIALOGUE_UNI);
+    CHECK(is_string(goldenskep_record_name(record), "2A 03"));
+
+    begin_record(GOLDENSKEP_END);
+    goldenskep_record_set_dest(record, lay("05"));
+    goldenskep_record_set_element(record, lay("2A"), lay("04 00"));
+    CHECK(write_record() == GOLDENSKEP_DONE);
+    CHECK(is_message("64 0E 49 01 05 6B 09 28 07 06 01 2A A0 02 04 00"));
+    CHECK(read_back());
+    CHECK(goldenskep_record_dialogue(record) == GOLDENSKEP_DIALOGUE_ELEMENT);
+    CHECK(is_string(goldenskep_record_name(record), "2A"));
+    CHECK(is_string(goldenskep_record_element(record), "04 00"));
+
+    begin_record(GOLDENSKEP_END);
+    goldenskep_record_set_dest(record, lay("05"));
+    goldenskep_record_set_octets(record, lay("2A"), lay("FF FF"));
+    CHECK(write_record() == GOLDENSKEP_DONE);
+    CHECK(is_message("64 0E 49 01 05 6B 09 28 07 06 01 2A 81 02 FF FF"));
+    CHECK(read_back());
+    CHECK(goldenskep_record_dialogue(record) == GOLDENSKEP_DIALOGUE_OCTETS);
+    CHECK(is_string(goldenskep_record_octets(record), "FF FF"));
+    goldenskep_record_clear_dialogue(record);
+    CHECK(goldenskep_record_dialogue(record) == GOLDENSKEP_DIALOGUE_NONE);
+    CHECK(goldenskep_record_name(record).place == 0 && goldenskep_record_octets(record).place == 0);
+}
+
+/* What the builders leave to the writer to refuse. */
+static void check_write_refusals(void)
+{
+    uint8_t octets[2] = { 1, 2 };
+    struct goldenskep_span span;
+
+    begin_record(GOLDENSKEP_BEGIN);
+    CHECK(write_record() == GOLDENSKEP_REFUSED_PARTS);
+    goldenskep_record_set_orig(record, goldenskep_span(0, 5));
+    CHECK(write_record() == GOLDENSKEP_REFUSED_RANGE);
+    goldenskep_record_set_orig(record, goldenskep_span(0, 1));
+    CHECK(write_record() == GOLDENSKEP_REFUSED_PAST_MATERIAL);
+    goldenskep_record_set_orig(record, lay("05"));
+    CHECK(write_record() == GOLDENSKEP_DONE && length == 5);
+    CHECK(goldenskep_write(record, sizeof record, material, used, message, 4) == GOLDENSKEP_REFUSED_ROOM);
+    goldenskep_add_invoke(record, 1, 1);
+    goldenskep_row_set_parameter(record, 0, lay("04 02 07"));
+    CHECK(write_record() == GOLDENSKEP_REFUSED_MALFORMED);
+    goldenskep_record_set_kind(record, GOLDENSKEP_END);
+    CHECK(goldenskep_record_kind(record) == GOLDENSKEP_END);
+    CHECK(write_record() == GOLDENSKEP_REFUSED_PARTS);
+    goldenskep_record_clear_orig(record);
+    CHECK(!goldenskep_record_has_orig(record) && goldenskep_record_orig(record).length == 0);
+    goldenskep_record_set_dest(record, goldenskep_span(0, 1));
+    goldenskep_row_clear_parameter(record, 0);
+    CHECK(write_record() == GOLDENSKEP_DONE);
+    goldenskep_record_clear_dest(record);
+    CHECK(!goldenskep_record_has_dest(record));
+
+    /* What no longer fits the material is not appended, and refused if used. */
+    used = sizeof material - 1;
+    span = goldenskep_append(material, sizeof material, &used, octets, 2);
+    CHECK(used == sizeof material - 1);
+    goldenskep_record_set_dest(record, span);
+    CHECK(write_record() == GOLDENSKEP_REFUSED_PAST_MATERIAL);
+    span = goldenskep_append(material, sizeof material, &used, octets, 1);
+    CHECK(used == sizeof material && span.place == sizeof material - 1 && span.length == 1);
+    span = goldenskep_append(material, sizeof material, &used, NULL, 0);
+    CHECK(used == sizeof material && span.place == sizeof material && span.length == 0);
+}
+
+static void check_rules(void)
+{
+    uint8_t rules[3 * GOLDENSKEP_RULE_SIZE];
+    uint8_t wanted[3 * GOLDENSKEP_RULE_SIZE];
+    uint8_t octets[32];
+    size_t n;
+
+    memset(rules, 0xEE, sizeof rules);
+    goldenskep_rule_set_code(rules, 0, GOLDENSKEP_BEGIN, 45, 3);
+    goldenskep_rule_set_code(rules, 1, GOLDENSKEP_ANY, -2, 4294967295u);
+    goldenskep_rule_set(rules, 2, GOLDENSKEP_END, 9);
+    octets_of("62010000 0000002D 00000003 00010000 FFFFFFFE FFFFFFFF 64000000 00000000 00000009",
+              wanted, sizeof wanted);
+    CHECK(memcmp(rules, wanted, sizeof wanted) == 0);
+    CHECK(goldenskep_rule_kind(rules, 0) == GOLDENSKEP_BEGIN && goldenskep_rule_kind(rules, 1) == GOLDENSKEP_ANY);
+    CHECK(goldenskep_rule_has_code(rules, 1) && !goldenskep_rule_has_code(rules, 2));
+    CHECK(goldenskep_rule_code(rules, 0) == 45 && goldenskep_rule_code(rules, 1) == -2);
+    CHECK(goldenskep_rule_link(rules, 1) == 4294967295u && goldenskep_rule_link(rules, 2) == 9);
+
+    n = octets_of("62 13 48 01 05 6C 0E A1 0C 02 01 01 80 01 02 02 01 2D 04 01 07", octets, sizeof octets);
+    CHECK(goldenskep_answer_is_done(goldenskep_steer(octets, n, rules, sizeof rules)));
+    CHECK(goldenskep_answer_link(goldenskep_steer(octets, n, rules, sizeof rules)) == 3);
+    CHECK(goldenskep_steer(octets, n, rules + GOLDENSKEP_RULE_SIZE, 2 * GOLDENSKEP_RULE_SIZE) == GOLDENSKEP_NO_RULE);
+    octets[17] = 0xFE;
+    CHECK(goldenskep_answer_link(goldenskep_steer(octets, n, rules, sizeof rules)) == 4294967295u);
+    n = octets_of("64 0A 49 01 05 6C 05 A2 03 02 01 01", octets, sizeof octets);
+    CHECK(goldenskep_answer_link(goldenskep_steer(octets, n, rules, sizeof rules)) == 9);
+    /* A rule that is not whole is none. */
+    CHECK(goldenskep_steer(octets, n, rules, sizeof rules - 1) == GOLDENSKEP_NO_RULE);
+    CHECK(goldenskep_steer(octets, n, NULL, 0) == GOLDENSKEP_NO_RULE);
+}
+
+static void check_words(void)
+{
+    static const unsigned statuses[] = { 0, 1, 2, 3, 4, 5, 6, 7, 8, 9, 10, 11, 12, 13, 21, 22, 23, 24, 25, 64 };
+    const unsigned count = sizeof statuses / sizeof statuses[0];
+
+    for (unsigned i = 0; i < count; i++) {
+        CHECK(strcmp(goldenskep_status_words(statuses[i]), "unknown status") != 0);
+        for (unsigned j = 0; j < i; j++)
+            CHECK(strcmp(goldenskep_status_words(statuses[i]), goldenskep_status_words(statuses[j])) != 0);
+    }
+    CHECK(strcmp(goldenskep_status_words(14), "unknown status") == 0);
+    for (unsigned i = 0; i < 5; i++)
+        CHECK(strcmp(goldenskep_cause_words(i), "unknown cause") != 0);
+    CHECK(strcmp(goldenskep_cause_words(5), "unknown cause") == 0);
+    for (unsigned i = 0; i < 3; i++)
+        CHECK(strcmp(goldenskep_problem_words(i), "unknown problem") != 0);
+    CHECK(strcmp(goldenskep_problem_words(3), "unknown problem") == 0);
+}
+
+int main(void)
+{
+    printf("goldenskep.h in %s\n", LANGUAGE);
+    check_layout();
+    check_answer();
+    check_refusals();
+    check_linked_invoke();
+    check_components();
+    check_dialogues();
+    check_write_refusals();
+    check_rules();
+    check_words();
+    return checks_end();
+}

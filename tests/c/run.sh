@@ -1,0 +1,218 @@
+#!/bin/sh
+# Every test in C of an archive of the library: run.sh ARCHIVE [CASES...]
+#
+# CASES are case files (cases.h). Without any, SEED (1) and COUNT (2000) make one
+# by tests/model/cases.py and, if VECTORS names the folder of the vectors, another
+# by tests/model/vector_cases.py. A program that makes many checks counts as one.
+# The last line is 'N passed, M failed'.
+set -u
+if [ $# -lt 1 ]; then
+    echo "usage: run.sh ARCHIVE [CASES...]" >&2
+    exit 2
+fi
+archive=$1
+shift
+here=$(cd "$(dirname "$0")" && pwd) || exit 2
+root=$(cd "$here/../.." && pwd) || exit 2
+tools=$root/tools/cc.sh
+tmp=$(mktemp -d) || exit 2
+trap 'rm -rf "$tmp"' EXIT
+passed=0
+failed=0
+
+finish() {
+    echo "$passed passed, $failed failed"
+    [ "$failed" -eq 0 ]
+    exit
+}
+
+# count NAME STATUS: one check, its output in $tmp/out
+count() {
+    if [ "$2" -eq 0 ]; then
+        passed=$((passed + 1))
+        echo "ok: $1$(tail -n 1 "$tmp/out" | sed 's/^/: /')"
+    else
+        failed=$((failed + 1))
+        cat "$tmp/out"
+        echo "FAILED: $1"
+    fi
+}
+
+# one NAME COMMAND...
+one() {
+    name=$1
+    shift
+    "$@" >"$tmp/out" 2>&1
+    count "$name" $?
+}
+
+# quiet NAME COMMAND...: the same for a command that says nothing if all is well
+quiet() {
+    name=$1
+    shift
+    "$@" >"$tmp/out" 2>&1
+    status=$?
+    [ $status -eq 0 ] && [ -s "$tmp/out" ] && status=1
+    count "$name" $status
+}
+
+# builds NAME COMMAND...: no check of its own, but a failure if it fails
+builds() {
+    name=$1
+    shift
+    "$@" >"$tmp/out" 2>&1 || count "$name is built" 1
+}
+
+strict="-std=c99 -Wall -Wextra -Wpedantic -Werror -O2"
+plus="-std=c++11 -Wall -Wextra -Werror -O2 -fno-exceptions -fno-rtti"
+wrap="-Wl,--wrap=goldenskep_read,--wrap=goldenskep_write,--wrap=goldenskep_steer,--wrap=goldenskep_list"
+
+cc() {
+    sh "$tools" cc -I"$root/include" -I"$root/bench" "$@"
+}
+
+run() {
+    sh "$tools" run "$@"
+}
+
+missing=$(sh "$tools" missing)
+command -v python3 >/dev/null || missing="$missing python3"
+if [ -n "$missing" ]; then
+    echo "not installed (Debian's names):" $missing
+fi
+if [ ! -f "$archive" ]; then
+    echo "FAILED: there is no $archive"
+    failed=1
+    finish
+fi
+
+# ---- the archive ----
+
+sh "$root/tests/symbols.sh" "$archive" >"$tmp/out" 2>&1
+sed '$d' "$tmp/out"
+last=$(tail -n 1 "$tmp/out")
+p=$(echo "$last" | sed -n 's/^\([0-9]*\) passed, \([0-9]*\) failed$/\1/p')
+f=$(echo "$last" | sed -n 's/^\([0-9]*\) passed, \([0-9]*\) failed$/\2/p')
+if [ -z "$p" ] || [ -z "$f" ]; then
+    echo "FAILED: symbols.sh has no count: $last"
+    p=0
+    f=1
+fi
+passed=$((passed + p))
+failed=$((failed + f))
+
+quiet "it links into a shared library, without relocations in code" \
+    sh "$tools" shared "$archive" -o "$tmp/all.so"
+
+# ---- the header ----
+
+quiet "the header is C99" cc $strict -c -o "$tmp/c.o" "$here/header.c"
+quiet "the header is C++11" sh "$tools" c++ $plus -I"$root/include" -c -o "$tmp/cpp.o" "$here/header.cpp"
+for other in clang gcc; do
+    if command -v $other >/dev/null; then
+        quiet "the header is C99 for this machine's $other" \
+            $other $strict -I"$root/include" -fsyntax-only "$here/header.c"
+    fi
+done
+for other in clang++ g++; do
+    if command -v $other >/dev/null; then
+        quiet "the header is C++11 for this machine's $other" \
+            $other $plus -I"$root/include" -fsyntax-only "$here/header.cpp"
+    fi
+done
+for kind in c cpp; do
+    builds "the header's test ($kind)" cc -o "$tmp/header_$kind" "$tmp/$kind.o" "$archive"
+    one "the header's test ($kind)" run "$tmp/header_$kind"
+done
+
+# ---- examples ----
+
+# example NAME ARGS...: what it writes is held to examples/NAME.expected
+example() {
+    name=$1
+    shift
+    run "$tmp/$name" "$@" >"$tmp/written" 2>"$tmp/out" &&
+        diff "$root/examples/$name.expected" "$tmp/written" >>"$tmp/out"
+    count "example $name" $?
+}
+
+for name in steer answer change; do
+    builds "example $name" cc $strict -o "$tmp/$name" "$root/examples/$name.c" "$archive"
+done
+example steer "$root/examples/rules.txt" "$root/examples/messages.hex"
+example answer "$root/examples/messages.hex"
+sed -n 's/^[0-9]* send //p' "$tmp/written" >"$tmp/sent"
+run "$tmp/answer" "$tmp/sent" >"$tmp/out" 2>&1 && [ -s "$tmp/out" ] && ! grep -v ' readable$' "$tmp/out" >/dev/null
+count "what example answer sends is readable" $?
+example change 0 "30 03 04 01 08" "$root/examples/messages.hex"
+echo "begin 45 3" >"$tmp/rules"
+echo "64 0A 49 01 05 6C 05 A2 03 02 01 01" >"$tmp/message"
+[ "$(run "$tmp/steer" "$tmp/rules" <"$tmp/message" 2>"$tmp/out")" = "1 no rule" ]
+count "example steer says that no rule fits" $?
+
+# ---- calls ----
+
+for name in specimens elements; do
+    builds $name cc $strict -o "$tmp/$name" "$here/$name.c" "$archive"
+    one $name run "$tmp/$name"
+done
+
+if [ $# -eq 0 ]; then
+    builds "a case file by the model" python3 "$root/tests/model/cases.py" "${SEED:-1}" "${COUNT:-2000}" "$tmp/model.cases"
+    [ -f "$tmp/model.cases" ] && set -- "$tmp/model.cases"
+    if [ -n "${VECTORS:-}" ]; then
+        builds "a case file by the vectors" python3 "$root/tests/model/vector_cases.py" "$VECTORS" "$tmp/vector.cases"
+        [ -f "$tmp/vector.cases" ] && set -- "$@" "$tmp/vector.cases"
+    fi
+fi
+if [ $# -eq 0 ]; then
+    echo "FAILED: there are no cases"
+    failed=$((failed + 1))
+    finish
+fi
+
+calls="-std=gnu99 -Wall -Wextra -Werror -O2"
+builds harness cc $calls -o "$tmp/harness" "$here/harness.c" "$archive"
+# -z now: looking up a name at its first call needs stack too
+builds stack cc $calls -Wl,-z,now -o "$tmp/stack" "$here/stack.c" "$archive"
+plain="$root/bench/plain.c $root/bench/plain_read.c $root/bench/plain_write.c $root/bench/plain_steer.c $root/bench/plain_list.c"
+builds fuzz cc $calls -o "$tmp/fuzz" "$here/fuzz.c" $plain "$archive"
+for cases in "$@"; do
+    one "calls between guard pages, $(basename "$cases")" run "$tmp/harness" "$cases"
+done
+one "calls on a small stack" run "$tmp/stack" "$@"
+sed '$d' "$tmp/out"
+one "altered calls beside plain C" run "$tmp/fuzz" "${SEED:-1}" "${ROUNDS:-20000}" "$@"
+
+# ---- the baseline of the benchmarks does the same job ----
+
+builds "plain C" sh "$here/stub.sh" "$tmp/plain/libgoldenskep.a"
+builds "harness over plain C" cc $calls -o "$tmp/plain_harness" "$here/harness.c" "$tmp/plain/libgoldenskep.a"
+one "plain C answers the same" run "$tmp/plain_harness" "$@"
+
+# ---- do the tests notice? ----
+
+# notices PROGRAM FAULT CASES...: it must run to its end and report, exit status 1
+notices() {
+    program=$1
+    fault=$2
+    shift 2
+    env FAULT="$fault" sh "$tools" run "$tmp/faulty_$program" "$@" >"$tmp/out" 2>&1
+    [ $? -eq 1 ]
+    count "$program notices $fault" $?
+}
+
+builds "harness with faults" cc $calls $wrap -o "$tmp/faulty_harness" "$here/harness.c" "$here/faulty.c" "$archive"
+builds "stack with faults" cc $calls -Wl,-z,now $wrap -o "$tmp/faulty_stack" "$here/stack.c" "$here/faulty.c" "$archive"
+one "harness over what faults are laid on, with none" run "$tmp/faulty_harness" "$@"
+for fault in place refusal-writes rest-of-room reads-behind reads-before writes-message null past-length unwritten \
+    writes-behind writes-before link listing; do
+    notices harness $fault "$@"
+done
+notices stack deep "$@"
+builds "fuzz with faults" cc $calls $wrap -o "$tmp/faulty_fuzz" "$here/fuzz.c" "$here/faulty.c" $plain "$archive"
+for fault in place rest-of-room past-length link listing; do
+    notices fuzz $fault 1 2000 "$@"
+done
+
+finish

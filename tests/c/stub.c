@@ -1,0 +1,29 @@
+/* The plain C implementation under the library's names: what the tests are tried with. */
+#include "goldenskep.h"
+#include "plain_layout.h"
+
+uint64_t goldenskep_read(const uint8_t *message, size_t message_len, uint8_t *record, size_t record_len)
+{
+    return plain_read_layout(message, message_len, record, record_len);
+}
+
+uint64_t goldenskep_write(const uint8_t *record, size_t record_len, const uint8_t *material,
+                          size_t material_len, uint8_t *out, size_t out_len)
+{
+    return plain_write_layout(record, record_len, material, material_len, out, out_len);
+}
+
+uint64_t goldenskep_steer(const uint8_t *message, size_t message_len, const uint8_t *rules, size_t rules_len)
+{
+    return plain_steer_layout(message, message_len, rules, rules_len);
+}
+
+uint64_t goldenskep_list(const uint8_t *message, size_t message_len, uint8_t *out, size_t out_len)
+{
+    return plain_list_layout(message, message_len, out, out_len);
+}
+
+uint32_t goldenskep_layout(void)
+{
+    return plain_layout();
+}
