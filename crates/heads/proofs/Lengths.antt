@@ -2,13 +2,13 @@
 use Prim.Native.Nat.{ℕ, suc, _+_, _≤_, _<_}
 use native.Mathlib.Omega.{arith}
 use mathlib.Core.Path.{_≡_, refl, sym, ap, _∙_}
-use mathlib.Core.Logic.{_⊎_, inl, inr}
+use mathlib.Core.Logic.{inl, inr}
 use mathlib.Core.Bool.{true}
-use mathlib.Core.List.{List, [], _∷_, _++_}
+use mathlib.Core.List.{List, [], _∷_}
 use lib.ListN.{length, length-append}
 use borrow.Author.Tests.{le-leb, ne-eqb}
 use Rattle.base.specs.Number.{numberFrom}
-use Rattle.element.specs.Form.{Form, leaf, around, shortest, document01, fewestOf, LongLength, StandsFor, lengthOctets}
+use Rattle.element.specs.Form.{Form, leaf, around, shortest, document01, fewestOf, StandsFor, lengthOctets}
 use Rattle.element.proofs.Shortest.{document01-laws}
 use Rattle.heads.specs.Size.{elementSize}
 

@@ -1,6 +1,4 @@
 // Signed integers in the fewest octets.
-ghost use mathlib.Core.Path.{_≡_};
-ghost use mathlib.Core.List.{[], _∷_};
 ghost use Prim.Native.Nat.{_≤_};
 ghost use Rattle.base.specs.Put.{Put};
 ghost use Rattle.base.specs.Number.{octetsIn};

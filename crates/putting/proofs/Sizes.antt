@@ -3,25 +3,25 @@ use Prim.Native.Nat.{ℕ, zero, suc, _+_, _≤_, _<_}
 use native.Mathlib.Omega.{arith}
 use mathlib.Core.Path.{_≡_, refl, sym, ap, ap₂, _∙_}
 use mathlib.Core.Bool.{true, _&&_, and-eq-true-iff}
-use mathlib.Core.List.{List, [], _∷_, _++_, append-assoc}
-use lib.ListN.{length, take, length-append}
-use Rattle.element.specs.Form.{then, shortest, lengthOctets}
+use mathlib.Core.List.{List, [], _∷_, _++_, append-assoc, append-nil}
+use lib.ListN.{length, length-append}
+use Rattle.element.specs.Form.{shortest, seriesForm, lengthOctets}
 use Rattle.tcap.specs.declared.OptionalOrig.{OptionalOrig}
 use Rattle.tcap.specs.declared.OptionalDest.{OptionalDest}
 use Rattle.tcap.specs.declared.Dialogue.{Dialogue}
 use Rattle.tcap.specs.declared.Row.{Row}
 use Rattle.tcap.specs.declared.Record.{Record}
 use Rattle.judging.specs.Verdict.{every, counted, origLies, destLies, dialogueLies, rowLies, allLie, octetsIn}
-use Rattle.judging.specs.Forms.{tagOf, origForm, destForm, dialogueForm, rowsForm, insideForm, recordForm, octetsOf}
+use Rattle.judging.specs.Forms.{tagOf, origForm, destForm, dialogueForm, rowForm, rowsForm, insideForm, recordForm, octetsOf}
 use Rattle.heads.specs.Size.{elementSize}
 use Rattle.heads.proofs.Strings.{span-length}
 use Rattle.heads.proofs.Lengths.{inner, held, leaf-size, around-size}
 use Rattle.rows.specs.Sizes.{rowsSize, componentsSize}
 use Rattle.rows.proofs.Sizes.{components-size}
-use Rattle.rows.proofs.Rows.{rows-octets}
+use Rattle.rows.proofs.Rows.{rows-octets, rows-none, rows-some}
 use Rattle.portions.specs.Sizes.{dialogueSize}
 use Rattle.portions.proofs.Sizes.{dialogue-size}
-use Rattle.putting.specs.Sizes.{origSize, destSize, portionSize, insideSize}
+use Rattle.putting.specs.Sizes.{origSize, destSize, portionSize, insideSize, frontOctets}
 
 pub portion-some : (n : ℕ) → 1 ≤ n → portionSize n ≡ elementSize n
 unfolding portionSize
@@ -34,15 +34,23 @@ unfolding componentsSize portionSize rowsSize
 portion-size [] = refl
 portion-size (r ∷ rs) = sym (portion-some (rowsSize (r ∷ rs)) (rows-octets r rs))
 
-pub front-small : (o : OptionalOrig) (e : OptionalDest) (d : Dialogue) (n : ℕ) → insideSize o e d n < 256
-    → (origSize o < 256) × (destSize e < 256) × (dialogueSize d < 256) × (portionSize n < 256) × (origSize o + (destSize e + dialogueSize d) < 256)
-unfolding insideSize
-front-small o e d n h = (omega arith, omega arith, omega arith, omega arith, omega arith)
+module _ (o : OptionalOrig) (e : OptionalDest) (d : Dialogue) (n : ℕ) where
+  pub front-within : origSize o + (destSize e + dialogueSize d) ≤ insideSize o e d n
+  unfolding insideSize
+  front-within = omega arith
+
+  -- what holds is larger
+  pub front-small : insideSize o e d n < 256 → (origSize o < 256) × (destSize e < 256) × (dialogueSize d < 256) × (portionSize n < 256)
+  unfolding insideSize
+  front-small h = (omega arith, omega arith, omega arith, omega arith)
 
 pub rows-small : (n : ℕ) → portionSize n < 256 → n < 256
 unfolding portionSize
 rows-small zero h = omega arith
 rows-small (suc n) h = held (suc n) h
+
+regroup : (h a b c d : List ℕ) → h ++ (a ++ (b ++ (c ++ d))) ≡ (h ++ (a ++ (b ++ c))) ++ d
+regroup h a b c d = simp append-assoc
 
 module _ (m : List ℕ) where
   orig-size : (o : OptionalOrig) → origLies (length m) o ≡ true → length (octetsOf (origForm m o)) ≡ origSize o
@@ -76,11 +84,7 @@ module _ (m : List ℕ) where
     pub rows-lie : every (λ w. rowLies (length m) (w .kind)) (counted r) ≡ true
     rows-lie = and-eq-true-iff (dialogueLies (length m) (r .dialogue)) _ .0 both .1
 
-    -- the size of the record's message
-    abbrev inside : ℕ
-    inside = insideSize (r .orig) (r .dest) (r .dialogue) (rowsSize (counted r))
-
-    inside-size : length (octetsOf (insideForm m r)) ≡ inside
+    inside-size : length (octetsOf (insideForm m r)) ≡ insideSize (r .orig) (r .dest) (r .dialogue) (rowsSize (counted r))
     unfolding insideForm shortest insideSize
     inside-size =
         length-append (octetsOf (origForm m (r .orig))) _
@@ -94,8 +98,18 @@ module _ (m : List ℕ) where
     unfolding recordForm
     inside-small k = omega (arith, around-size (tagOf (r .kind)) (insideForm m r), inner (length (octetsOf (insideForm m r))), inside-size)
 
-    pub record-parts : octetsOf (recordForm m r)
-        ≡ (tagOf (r .kind) ∷ lengthOctets (insideSize (r .orig) (r .dest) (r .dialogue) (rowsSize (counted r))))
-        ++ (octetsOf (then (origForm m (r .orig)) (then (destForm m (r .dest)) (dialogueForm m (r .dialogue)))) ++ octetsOf (rowsForm m (counted r)))
-    unfolding recordForm insideForm shortest
-    record-parts = rw inside-size (simp append-assoc)
+    -- the message, by the size of its rows and of what it holds, as they were counted
+    module _ (size : ℕ) (s : size ≡ rowsSize (counted r)) (inside : ℕ) (n : inside ≡ insideSize (r .orig) (r .dest) (r .dialogue) size) where
+      parts : octetsOf (recordForm m r) ≡ frontOctets m (r .kind) (r .orig) (r .dest) (r .dialogue) inside ++ octetsOf (rowsForm m (counted r))
+      unfolding recordForm insideForm shortest frontOctets
+      parts =
+          rw (n, s, inside-size)
+          (regroup (tagOf (r .kind) ∷ lengthOctets (insideSize (r .orig) (r .dest) (r .dialogue) (rowsSize (counted r)))) (octetsOf (origForm m (r .orig))) (octetsOf (destForm m (r .dest))) (octetsOf (dialogueForm m (r .dialogue))) (octetsOf (rowsForm m (counted r))))
+
+      pub record-none : size ≡ 0 → octetsOf (recordForm m r) ≡ frontOctets m (r .kind) (r .orig) (r .dest) (r .dialogue) inside
+      record-none z = parts ∙ rw (rows-none m (counted r) (sym s ∙ z)) (append-nil (frontOctets m (r .kind) (r .orig) (r .dest) (r .dialogue) inside))
+
+      pub record-some : 1 ≤ size → octetsOf (recordForm m r) ≡ (frontOctets m (r .kind) (r .orig) (r .dest) (r .dialogue) inside ++ (0x6C ∷ lengthOctets size)) ++ octetsOf (seriesForm (rowForm m) (counted r))
+      record-some h =
+          let k : 1 ≤ rowsSize (counted r) = omega (arith, s) in
+          parts ∙ rw (rows-some m (counted r) k rows-lie, s) (sym (append-assoc (frontOctets m (r .kind) (r .orig) (r .dest) (r .dialogue) inside) (0x6C ∷ lengthOctets (rowsSize (counted r))) (octetsOf (seriesForm (rowForm m) (counted r)))))

@@ -1,7 +1,10 @@
--- How many octets each part of a message takes, from the record alone. Cited by inner contracts.
+-- How many octets each part of a message takes, from the record alone, and what stands before the components. Cited by inner contracts.
 -- Assumes nothing: these are definitions.
 use Prim.Native.Nat.{ℕ, zero, suc, _+_}
-use Rattle.tcap.specs.{declared.OptionalOrig.OptionalOrig, declared.OptionalDest.OptionalDest, declared.Dialogue.Dialogue}
+use mathlib.Core.{List.List, List._∷_, List._++_}
+use Rattle.element.specs.{Form.lengthOctets}
+use Rattle.tcap.specs.{declared.MessageKind.MessageKind, declared.OptionalOrig.OptionalOrig, declared.OptionalDest.OptionalDest, declared.Dialogue.Dialogue}
+use Rattle.judging.specs.{Forms.tagOf, Forms.origForm, Forms.destForm, Forms.dialogueForm, Forms.octetsOf}
 use Rattle.heads.specs.{Size.elementSize}
 use Rattle.portions.specs.{Sizes.dialogueSize}
 
@@ -21,3 +24,7 @@ portionSize (suc n) = elementSize (suc n)
 -- what the message holds
 unfoldable pub insideSize : OptionalOrig → OptionalDest → Dialogue → ℕ → ℕ
 insideSize o e d n = origSize o + (destSize e + (dialogueSize d + portionSize n))
+
+-- all before the components, with `inside` octets from the first ID on
+unfoldable pub frontOctets : List ℕ → MessageKind → OptionalOrig → OptionalDest → Dialogue → ℕ → List ℕ
+frontOctets m k o e d inside = (tagOf k ∷ lengthOctets inside) ++ (octetsOf (origForm m o) ++ (octetsOf (destForm m e) ++ octetsOf (dialogueForm m d)))

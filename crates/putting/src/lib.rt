@@ -4,19 +4,19 @@ ghost use mathlib.Core.Bool.{true};
 ghost use Prim.Native.Nat.{_+_, _<_, _≤_};
 ghost use lib.ListN.{length};
 ghost use Rattle.base.specs.Put.{Put};
-ghost use Rattle.element.specs.Form.{then, leaf};
+ghost use Rattle.element.specs.Form.{leaf};
 ghost use Rattle.judging.specs.Verdict.{lies, octetsIn, origLies, destLies, dialogueLies, allLie};
-ghost use Rattle.judging.specs.Forms.{tagOf, origForm, destForm, dialogueForm, recordForm, octetsOf};
+ghost use Rattle.judging.specs.Forms.{tagOf, origForm, destForm, recordForm, octetsOf};
 ghost use Rattle.heads.specs.Size.{elementSize};
 ghost use Rattle.portions.specs.Sizes.{dialogueSize};
-ghost use Rattle.putting.specs.Sizes.{origSize, destSize, portionSize, insideSize};
+ghost use Rattle.putting.specs.Sizes.{origSize, destSize, portionSize, insideSize, frontOctets};
 use heads::element_size;
 use heads::put_head;
 use heads::put_string;
 use portions::put_dialogue;
 use portions::size::dialogue_size;
-use rows::put_components;
-use rows::size::rows_size;
+use rows::put_row;
+use rows::size::row_size;
 use tcap::Dialogue;
 use tcap::MessageKind;
 use tcap::OptionalDest;
@@ -120,26 +120,6 @@ fn put_dest(out: &mut [u8], at: usize, material: &[u8], dest: OptionalDest) -> u
     }
 }
 
-// All before the components.
-fn put_front(
-    out: &mut [u8],
-    at: usize,
-    material: &[u8],
-    orig: OptionalOrig,
-    dest: OptionalDest,
-    dialogue: Dialogue,
-) -> usize
-    requires { ⌜ origLies (length (now material)) orig ≡ true ⌝ }
-    requires { ⌜ destLies (length (now material)) dest ≡ true ⌝ }
-    requires { ⌜ dialogueLies (length (now material)) dialogue ≡ true ⌝ }
-    requires { ⌜ origSize orig + (destSize dest + dialogueSize dialogue) < 256 ⌝ }
-    ensures { λ r. ⌜ Put (now (out .entry)) at (octetsOf (then (origForm (now (material .entry)) orig) (then (destForm (now (material .entry)) dest) (dialogueForm (now (material .entry)) dialogue)))) r (now (out .exit)) ⌝ }
-{
-    let a = put_orig(out, at, material, orig);
-    let b = put_dest(out, a, material, dest);
-    put_dialogue(out, b, material, dialogue)
-}
-
 fn message_tag(kind: MessageKind) -> u8
     ensures { λ r. ⌜ r ≡ tagOf kind ⌝ }
 {
@@ -152,7 +132,31 @@ fn message_tag(kind: MessageKind) -> u8
     }
 }
 
+// All before the components, with `inside` octets from the first ID on.
+fn put_front(
+    out: &mut [u8],
+    material: &[u8],
+    kind: MessageKind,
+    orig: OptionalOrig,
+    dest: OptionalDest,
+    dialogue: Dialogue,
+    inside: usize,
+) -> usize
+    requires { ⌜ origLies (length (now material)) orig ≡ true ⌝ }
+    requires { ⌜ destLies (length (now material)) dest ≡ true ⌝ }
+    requires { ⌜ dialogueLies (length (now material)) dialogue ≡ true ⌝ }
+    requires { ⌜ origSize orig + (destSize dest + dialogueSize dialogue) ≤ inside ⌝ }
+    requires { ⌜ inside < 256 ⌝ }
+    ensures { λ r. ⌜ Put (now (out .entry)) 0 (frontOctets (now (material .entry)) kind orig dest dialogue inside) r (now (out .exit)) ⌝ }
+{
+    let a = put_head(out, 0, message_tag(kind), inside);
+    let b = put_orig(out, a, material, orig);
+    let c = put_dest(out, b, material, dest);
+    put_dialogue(out, c, material, dialogue)
+}
+
 // A record whose strings lie in the material and whose message has at most 255 octets.
+// Its rows are read where they are: a call that takes them by value copies all sixteen.
 pub fn put_record(out: &mut [u8], held: Record, material: &[u8]) -> usize
     requires { ⌜ held .count ≤ 16 ⌝ }
     requires { ⌜ allLie (length (now material)) held ≡ true ⌝ }
@@ -163,11 +167,24 @@ pub fn put_record(out: &mut [u8], held: Record, material: &[u8]) -> usize
     let orig = held.orig;
     let dest = held.dest;
     let dialogue = held.dialogue;
-    let count = held.count;
-    let rows = held.rows;
-    let size = rows_size(rows, count);
+    let mut size = 0;
+    let mut i = 0;
+    while i < held.count {
+        let row = held.rows[i];
+        size = size + row_size(row);
+        i += 1;
+    }
     let inside = inside_size(orig, dest, dialogue, size);
-    let a = put_head(out, 0, message_tag(kind), inside);
-    let b = put_front(out, a, material, orig, dest, dialogue);
-    put_components(out, b, material, rows, count, size)
+    let front = put_front(out, material, kind, orig, dest, dialogue, inside);
+    if size == 0 {
+        return front;
+    }
+    let mut o = put_head(out, front, 0x6C, size);
+    let mut k = 0;
+    while k < held.count {
+        let row = held.rows[k];
+        o = put_row(out, o, material, row);
+        k += 1;
+    }
+    o
 }

@@ -2,11 +2,11 @@
 use Prim.Native.Nat.{ℕ, zero, suc, _+_, _≤_, _<_}
 use native.Mathlib.Omega.{arith}
 use native.Mathlib.Numerals.{add-one}
-use mathlib.Core.Path.{_≡_, refl, sym, ap, _∙_}
-use mathlib.Core.Bool.{Bool, true, _&&_, and-eq-true-iff}
+use mathlib.Core.Path.{_≡_, refl, sym, ap}
+use mathlib.Core.Bool.{Bool, true, and-eq-true-iff}
 use mathlib.Core.List.{List, [], _∷_, _++_, append-assoc, append-nil}
 use lib.ListN.{length, take, getD}
-use lib.Seq.{take-suc, length-take-le}
+use lib.Seq.{take-suc}
 use Rattle.base.specs.Put.{Put}
 use Rattle.base.proofs.Puts.{put-then}
 use Rattle.element.specs.Form.{shortest, seriesForm, lengthOctets}
@@ -37,8 +37,8 @@ unfolding rowsSize
 size-step rows i d h = rw (add-one i, take-suc rows i d h, size-append (take i rows) (getD rows i d ∷ [])) (omega arith)
 
 -- a turn of the loop that adds up
-pub size-turn : (rows : List Row) (i : ℕ) (d : Row) → i < length rows → (size : ℕ) → size ≡ rowsSize (take i rows) → (n : ℕ) → n ≡ contentsSize (getD rows i d) → (e : ℕ) → e ≡ elementSize n → size + e ≡ rowsSize (take (i + 1) rows)
-size-turn rows i d h size s n p e q = rw (s, q, p) (sym (size-step rows i d h))
+pub size-turn : (rows : List Row) (i : ℕ) (d : Row) → i < length rows → (size : ℕ) → size ≡ rowsSize (take i rows) → (e : ℕ) → e ≡ elementSize (contentsSize (getD rows i d)) → size + e ≡ rowsSize (take (i + 1) rows)
+size-turn rows i d h size s e q = rw (s, q) (sym (size-step rows i d h))
 
 -- fewer rows are no larger
 size-less : (rows : List Row) (i k : ℕ) → i ≤ k → rowsSize (take i rows) ≤ rowsSize (take k rows)
@@ -48,18 +48,16 @@ size-less rows (suc i) zero h = absurd (omega arith)
 size-less [] (suc i) (suc k) h = omega arith
 size-less (r ∷ rows) (suc i) (suc k) h = omega (arith, size-less rows i k (omega arith))
 
-module _ (rows : List Row) (i k : ℕ) (d : Row) (h : i < k) (l : i < length rows) where
+module _ (rows : List Row) (i k : ℕ) (d : Row) (h : i < k) (l : i < length rows) (s : rowsSize (take k rows) < 256) where
   -- with the next row there are fewer than 256 octets still, and in it too
-  pub size-next : rowsSize (take k rows) < 256 → (rowsSize (take i rows) + elementSize (contentsSize (getD rows i d)) < 256) × (contentsSize (getD rows i d) < 256)
-  size-next s =
-      let n : rowsSize (take i rows) + elementSize (contentsSize (getD rows i d)) < 256 = omega (arith, size-step rows i d l, size-less rows (i + 1) k (omega arith)) in
-      (n, omega (arith, inner (contentsSize (getD rows i d))))
+  next-within : rowsSize (take i rows) + elementSize (contentsSize (getD rows i d)) < 256
+  next-within = omega (arith, size-step rows i d l, size-less rows (i + 1) k (omega arith))
 
-  pub next-small : rowsSize (take k rows) < 256 → (n : ℕ) → n ≡ contentsSize (getD rows i d) → n < 256
-  next-small s n p = rw p (size-next s .1)
+  pub next-small : elementSize (contentsSize (getD rows i d)) < 256
+  next-small = omega (arith, next-within)
 
-  pub size-within : rowsSize (take k rows) < 256 → (size : ℕ) → size ≡ rowsSize (take i rows) → (n : ℕ) → n ≡ contentsSize (getD rows i d) → (e : ℕ) → e ≡ elementSize n → size + e < 256
-  size-within s size z n p e q = rw (z, q, p) (size-next s .0)
+  pub size-within : (size : ℕ) → size ≡ rowsSize (take i rows) → (e : ℕ) → e ≡ elementSize (contentsSize (getD rows i d)) → size + e < 256
+  size-within size z e q = rw (z, q) next-within
 
 pub every-next : (f : Row → Bool) (rows : List Row) (i k : ℕ) (d : Row) → i < k → i < length rows → every f (take k rows) ≡ true → f (getD rows i d) ≡ true
 unfolding every

@@ -1,13 +1,13 @@
 -- The sizes are the numbers of octets, where the strings lie in the material. Assumes nothing.
-use Prim.Native.Nat.{ℕ, suc, _+_, _≤_, _<_}
+use Prim.Native.Nat.{ℕ, _+_, _<_}
 use native.Mathlib.Omega.{arith}
-use mathlib.Core.Path.{_≡_, refl, sym, ap, ap₂, _∙_}
+use mathlib.Core.Path.{_≡_, refl, ap, ap₂, _∙_}
 use mathlib.Core.Bool.{true, _&&_, and-eq-true-iff}
 use mathlib.Core.List.{List, [], _∷_, _++_}
 use lib.ListN.{length, length-append}
-use Rattle.element.specs.Form.{exactly, then, shortest, document01, seriesForm}
+use Rattle.element.specs.Form.{exactly, then, shortest, seriesForm}
 use Rattle.element.specs.Primitive.{integerOctets}
-use Rattle.tcap.specs.Meaning.{octet, problemForm}
+use Rattle.tcap.specs.Meaning.{problemForm}
 use Rattle.tcap.specs.declared.Span.{Span}
 use Rattle.tcap.specs.declared.OptionalSpan.{OptionalSpan}
 use Rattle.tcap.specs.declared.InvokeId.{InvokeId}

@@ -1,17 +1,17 @@
-// Components, written forward: their fields, a component, and 6C.
+// Components, written forward, field after field: each length is known before it is put.
 pub mod size;
 
 ghost use mathlib.Core.Path.{_≡_};
 ghost use mathlib.Core.Bool.{true};
 ghost use mathlib.Core.List.{[]};
-ghost use Prim.Native.Nat.{_<_, _≤_};
-ghost use lib.ListN.{length, take};
+ghost use Prim.Native.Nat.{_<_};
+ghost use lib.ListN.{length};
 ghost use Rattle.base.specs.Put.{Put};
-ghost use Rattle.element.specs.Form.{then, seriesForm};
+ghost use Rattle.element.specs.Form.{then};
 ghost use Rattle.tcap.specs.Meaning.{problemForm};
-ghost use Rattle.judging.specs.Verdict.{every, lies, optionLies, codeLies, returnedLies, rowLies};
-ghost use Rattle.judging.specs.Forms.{idForm, linkedForm, codeForm, parameterForm, returnedForm, rowTag, rowForm, rowsForm, octetsOf};
-ghost use Rattle.rows.specs.Sizes.{codeSize, returnedSize, restForm, restSize, contentsSize, rowsSize};
+ghost use Rattle.judging.specs.Verdict.{optionLies, codeLies, returnedLies, rowLies};
+ghost use Rattle.judging.specs.Forms.{idForm, linkedForm, codeForm, parameterForm, returnedForm, rowTag, rowForm, octetsOf};
+ghost use Rattle.rows.specs.Sizes.{codeSize, returnedSize, restForm, restSize, contentsSize};
 use crate::size::code_size;
 use crate::size::contents_size;
 use base::put_three;
@@ -169,7 +169,7 @@ fn row_tag(kind: ComponentKind) -> u8
     }
 }
 
-fn put_row(out: &mut [u8], at: usize, material: &[u8], row: Row) -> usize
+pub fn put_row(out: &mut [u8], at: usize, material: &[u8], row: Row) -> usize
     requires { ⌜ rowLies (length (now material)) (row .kind) ≡ true ⌝ }
     requires { ⌜ contentsSize row < 256 ⌝ }
     ensures { λ r. ⌜ Put (now (out .entry)) at (octetsOf (rowForm (now (material .entry)) row)) r (now (out .exit)) ⌝ }
@@ -180,43 +180,4 @@ fn put_row(out: &mut [u8], at: usize, material: &[u8], row: Row) -> usize
     let a = put_head(out, at, row_tag(kind), size);
     let b = put_id(out, a, id);
     put_rest(out, b, material, kind)
-}
-
-// The first `count` rows of the sixteen.
-fn put_rows(out: &mut [u8], at: usize, material: &[u8], rows: [Row; 16], count: usize) -> usize
-    requires { ⌜ count ≤ 16 ⌝ }
-    requires { ⌜ every (λ w. rowLies (length (now material)) (w .kind)) (take count rows) ≡ true ⌝ }
-    requires { ⌜ rowsSize (take count rows) < 256 ⌝ }
-    ensures { λ r. ⌜ Put (now (out .entry)) at (octetsOf (seriesForm (rowForm (now (material .entry))) (take count rows))) r (now (out .exit)) ⌝ }
-{
-    let mut o = at;
-    let mut i = 0;
-    while i < count {
-        let row = rows[i];
-        o = put_row(out, o, material, row);
-        i += 1;
-    }
-    o
-}
-
-// 6C, of which `size` octets are its rows; no component, no 6C.
-pub fn put_components(
-    out: &mut [u8],
-    at: usize,
-    material: &[u8],
-    rows: [Row; 16],
-    count: usize,
-    size: usize,
-) -> usize
-    requires { ⌜ count ≤ 16 ⌝ }
-    requires { ⌜ every (λ w. rowLies (length (now material)) (w .kind)) (take count rows) ≡ true ⌝ }
-    requires { ⌜ size ≡ rowsSize (take count rows) ⌝ }
-    requires { ⌜ size < 256 ⌝ }
-    ensures { λ r. ⌜ Put (now (out .entry)) at (octetsOf (rowsForm (now (material .entry)) (take count rows))) r (now (out .exit)) ⌝ }
-{
-    if size == 0 {
-        return at;
-    }
-    let next = put_head(out, at, 0x6C, size);
-    put_rows(out, next, material, rows, count)
 }

@@ -1,8 +1,8 @@
 // How many octets the parts of a component take, where they are fewer than 256.
 ghost use mathlib.Core.Path.{_≡_};
-ghost use Prim.Native.Nat.{_+_, _<_, _≤_};
-ghost use lib.ListN.{take};
-ghost use Rattle.rows.specs.Sizes.{idSize, linkedSize, codeSize, parameterSize, returnedSize, restSize, contentsSize, rowsSize};
+ghost use Prim.Native.Nat.{_+_, _<_};
+ghost use Rattle.heads.specs.Size.{elementSize};
+ghost use Rattle.rows.specs.Sizes.{idSize, linkedSize, codeSize, parameterSize, returnedSize, restSize, contentsSize};
 use element::primitive::integer_size;
 use heads::element_size;
 use tcap::Code;
@@ -102,19 +102,10 @@ pub fn contents_size(row: Row) -> usize
     id_size(id) + rest_size(kind)
 }
 
-// The first `count` rows of the sixteen, each with its tag and length.
-pub fn rows_size(rows: [Row; 16], count: usize) -> usize
-    requires { ⌜ count ≤ 16 ⌝ }
-    requires { ⌜ rowsSize (take count rows) < 256 ⌝ }
-    ensures { λ r. ⌜ r ≡ rowsSize (take count rows) ⌝ }
+// With tag and length.
+pub fn row_size(row: Row) -> usize
+    requires { ⌜ elementSize (contentsSize row) < 256 ⌝ }
+    ensures { λ r. ⌜ r ≡ elementSize (contentsSize row) ⌝ }
 {
-    let mut size = 0;
-    let mut i = 0;
-    while i < count {
-        let row = rows[i];
-        let contents = contents_size(row);
-        size = size + element_size(contents);
-        i += 1;
-    }
-    size
+    element_size(contents_size(row))
 }

@@ -1,50 +1,155 @@
--- The sizes are those of the octets, and the parts follow one another. Assumes nothing.
-use borrow.Author.Needs.{needs}
-use Prim.Native.Nat.{_<_}
-use Rattle.base.proofs.Puts.{put-then}
+-- The first loop adds up the sizes, which are those of the octets; the second puts the rows. Assumes nothing.
+use Prim.Native.Nat.{_≤_, _<_, _-_}
+use mathlib.Core.Path.{_≡_, refl}
+use lib.ListN.{length, take, length-map}
+use Rattle.base.specs.Put.{Put}
+use Rattle.base.proofs.Puts.{put-none, put-length, put-then}
+use Rattle.element.specs.Form.{shortest, seriesForm}
 use Rattle.judging.specs.Verdict.{counted}
+use Rattle.judging.specs.Forms.{rowForm, octetsOf}
+use Rattle.heads.proofs.Lengths.{held}
 use Rattle.rows.specs.Sizes.{rowsSize}
+use Rattle.rows.proofs.Rows.{size-turn, size-within, next-small, every-next, series-step}
 use Rattle.putting.specs.Sizes.{insideSize}
-use Rattle.putting.proofs.Sizes.{front-small, rows-small, orig-lies, dest-lies, dialogue-lies, rows-lie, inside-small, record-parts}
+use Rattle.putting.proofs.Sizes.{rows-small, front-within, front-small, orig-lies, dest-lies, dialogue-lies, rows-lie, inside-small, record-none, record-some}
+use native.Mathlib.Omega.{arith}
 use Rattle.putting.proofs.put_record.Statement.{statement}
 use Rattle.putting.proofs.put_record.Tie as tie
 
-small : (c : tie.Start) → let h = c .args .held in insideSize (h .orig) (h .dest) (h .dialogue) (rowsSize (counted h)) < 256
-small c = inside-small (c .args .material .now) (c .args .held) (c .pre .1 .0) (c .pre .1 .1)
+abbrev Inv-loop : tie.InvT-loop
+Inv-loop out material held kind orig dest dialogue size₀ i₀ size i = (i ≤ held .count) × (size ≡ rowsSize (take i (held .rows)))
 
-rows-size-requires : tie.Need-rows-size-requires
-rows-size-requires c κs = (c .before .before .before .pre .0, rows-small _ (front-small _ _ _ _ (small (c .before .before .before)) .3))
+abbrev μ-loop : tie.MeasureT-loop
+μ-loop out material held kind orig dest dialogue size₀ i₀ size i = held .count - i
 
-inside-size-requires : tie.Need-inside-size-requires
-inside-size-requires c κs = rw (c .rows-size .ensures) (small (c .before .before .before .before))
+abbrev Inv-loop2 : tie.InvT-loop2
+Inv-loop2 out₀ material held size i inside front o₀ k₀ out o k = (k ≤ held .count) × Put out₀ o₀ (octetsOf (seriesForm (rowForm material) (take k (held .rows)))) o out
 
-message-tag-requires : tie.Need-message-tag-requires
-message-tag-requires c κs = search needs
+abbrev μ-loop2 : tie.MeasureT-loop2
+μ-loop2 out₀ material held size i inside front o₀ k₀ out o k = held .count - k
 
-put-head-requires : tie.Need-put-head-requires
-put-head-requires c κs = rw (c .before .before .inside-size .ensures, c .before .before .before .rows-size .ensures) (small (c .before .before .before .before .before .before .before))
+module _ (c : tie.Start Inv-loop μ-loop Inv-loop2 μ-loop2) where
+  -- as the type of the rows says
+  sixteen : length (c .args .t2 .rows) ≡ 16
+  sixteen = simp length-map at (c .good .1 .0 .1 .1 .1 .1 .1 .1 .1 .0 .1 .0 .1)
 
-put-front-requires : tie.Need-put-front-requires
-put-front-requires c κs = (orig-lies (c .before .before .before .before .before .before .before .before .before .before .before .args .material .now) (c .before .before .before .before .before .before .before .before .before .before .before .args .held) (c .before .before .before .before .before .before .before .before .before .before .before .pre .1 .0), (dest-lies (c .before .before .before .before .before .before .before .before .before .before .before .args .material .now) (c .before .before .before .before .before .before .before .before .before .before .before .args .held) (c .before .before .before .before .before .before .before .before .before .before .before .pre .1 .0), (dialogue-lies (c .before .before .before .before .before .before .before .before .before .before .before .args .material .now) (c .before .before .before .before .before .before .before .before .before .before .before .args .held) (c .before .before .before .before .before .before .before .before .before .before .before .pre .1 .0), front-small _ _ _ _ (small (c .before .before .before .before .before .before .before .before .before .before .before)) .4)))
+  small : insideSize (c .args .t2 .orig) (c .args .t2 .dest) (c .args .t2 .dialogue) (rowsSize (counted (c .args .t2))) < 256
+  small = inside-small (c .args .material .now) (c .args .t2) (c .pre .1 .0) (c .pre .1 .1)
 
-put-components-requires : tie.Need-put-components-requires
-put-components-requires c κs = (c .before .before .before .before .before .before .before .before .before .before .before .before .before .before .before .pre .0, (rows-lie (c .before .before .before .before .before .before .before .before .before .before .before .before .before .before .before .args .material .now) (c .before .before .before .before .before .before .before .before .before .before .before .before .before .before .before .args .held) (c .before .before .before .before .before .before .before .before .before .before .before .before .before .before .before .pre .1 .0), (c .before .before .before .before .before .before .before .before .before .before .before .rows-size .ensures, rw (c .before .before .before .before .before .before .before .before .before .before .before .rows-size .ensures) (rows-small _ (front-small _ _ _ _ (small (c .before .before .before .before .before .before .before .before .before .before .before .before .before .before .before)) .3)))))
+  rows-fit : rowsSize (counted (c .args .t2)) < 256
+  rows-fit = rows-small _ (front-small _ _ _ _ small .3)
 
-same-length : tie.Need-same-length
-same-length c = search needs
+total : (c : tie.After-loop Inv-loop μ-loop Inv-loop2 μ-loop2) → c .before .loop .size ≡ rowsSize (counted (c .before .before .before .before .args .t2))
+total c =
+    let e : c .before .loop .i ≡ c .before .before .before .before .args .t2 .count = omega arith in
+    rw (← e) (c .before .loop .inv .1)
 
-returns : tie.Need-returns
-returns c = rw (record-parts (c .before .before .before .before .before .before .before .before .before .before .before .before .before .before .before .before .before .before .args .material .now) (c .before .before .before .before .before .before .before .before .before .before .before .before .before .before .before .before .before .before .args .held) (c .before .before .before .before .before .before .before .before .before .before .before .before .before .before .before .before .before .before .pre .1 .0)) (put-then (rw (c .before .before .before .before .before .before .before .before .before .before .before .message-tag .ensures, c .before .before .before .before .before .before .before .before .before .before .before .before .before .inside-size .ensures, c .before .before .before .before .before .before .before .before .before .before .before .before .before .before .rows-size .ensures) at (c .before .before .before .before .before .before .before .before .before .before .put-head .ensures)) (put-then (c .before .before .before .before .before .before .put-front .ensures) (c .before .before .put-components .ensures)))
+loop-holds : tie.Need-loop-holds Inv-loop μ-loop Inv-loop2 μ-loop2
+unfolding rowsSize
+loop-holds c = (omega arith, refl)
+
+mul-row : tie.Need-mul-row Inv-loop μ-loop Inv-loop2 μ-loop2
+mul-row c = omega (arith, c .before .before .before .before .pre .0)
+
+element-copy-out-row : tie.Need-element-copy-out-row Inv-loop μ-loop Inv-loop2 μ-loop2
+element-copy-out-row c = omega (arith, c .before .before .before .before .pre .0)
+
+row-size-requires : tie.Need-row-size-requires Inv-loop μ-loop Inv-loop2 μ-loop2
+row-size-requires c κs = next-small (c .before .before .before .before .before .args .t2 .rows) (c .before .before .loop .i) _ _ (c .before .loop-test .taken) (omega (arith, c .before .before .before .before .before .pre .0, sixteen (c .before .before .before .before .before))) (rows-fit (c .before .before .before .before .before))
+
+add-size : tie.Need-add-size Inv-loop μ-loop Inv-loop2 μ-loop2
+add-size c = omega (arith, size-within (c .before .before .before .before .before .before .args .t2 .rows) (c .before .before .before .loop .i) _ _ (c .before .before .loop-test .taken) (omega (arith, c .before .before .before .before .before .before .pre .0, sixteen (c .before .before .before .before .before .before))) (rows-fit (c .before .before .before .before .before .before)) _ (c .before .before .before .loop .inv .1) _ (c .row-size .ensures))
+
+add-i : tie.Need-add-i Inv-loop μ-loop Inv-loop2 μ-loop2
+add-i c = omega (arith, c .before .before .before .before .before .before .pre .0)
+
+loop-less : tie.Need-loop-less Inv-loop μ-loop Inv-loop2 μ-loop2
+loop-less c = omega (arith, c .before .before .before .before .before .before .pre .0)
+
+loop-again : tie.Need-loop-again Inv-loop μ-loop Inv-loop2 μ-loop2
+loop-again c = (omega arith, size-turn (c .before .before .before .before .before .before .args .t2 .rows) (c .before .before .before .loop .i) _ (omega (arith, c .before .before .before .before .before .before .pre .0, sixteen (c .before .before .before .before .before .before))) _ (c .before .before .before .loop .inv .1) _ (c .row-size .ensures))
+
+inside-size-requires : tie.Need-inside-size-requires Inv-loop μ-loop Inv-loop2 μ-loop2
+inside-size-requires c κs = rw (total c) (small (c .before .before .before .before))
+
+put-front-requires : tie.Need-put-front-requires Inv-loop μ-loop Inv-loop2 μ-loop2
+put-front-requires c κs =
+    let m = c .before .before .before .before .before .before .args .material .now in
+    let h = c .before .before .before .before .before .before .pre .1 .0 in
+    let i : c .before .inside-size .result < 256 = rw (c .before .inside-size .ensures, total (c .before .before)) (small (c .before .before .before .before .before .before)) in
+    (orig-lies m (c .before .before .before .before .before .before .args .t2) h, (dest-lies m (c .before .before .before .before .before .before .args .t2) h, (dialogue-lies m (c .before .before .before .before .before .before .args .t2) h, (rw (c .before .inside-size .ensures) (front-within _ _ _ _), i))))
+
+same-length : tie.Need-same-length Inv-loop μ-loop Inv-loop2 μ-loop2
+same-length c = put-length (c .before .before .before .put-front .ensures)
+
+returns : tie.Need-returns Inv-loop μ-loop Inv-loop2 μ-loop2
+returns c = rw (record-none (c .before .before .before .before .before .before .before .before .before .before .args .material .now) (c .before .before .before .before .before .before .before .before .before .before .args .t2) (c .before .before .before .before .before .before .before .before .before .before .pre .1 .0) (c .before .before .before .before .before .before .before .loop .size) (total (c .before .before .before .before .before .before)) (c .before .before .before .before .before .inside-size .result) (c .before .before .before .before .before .inside-size .ensures) (c .if1 .taken)) (c .before .before .before .put-front .ensures)
+
+put-head-requires : tie.Need-put-head-requires Inv-loop μ-loop Inv-loop2 μ-loop2
+put-head-requires c κs = rw (total (c .before .before .before .before .before .before .before)) (rows-fit (c .before .before .before .before .before .before .before .before .before .before .before))
+
+loop2-holds : tie.Need-loop2-holds Inv-loop μ-loop Inv-loop2 μ-loop2
+unfolding seriesForm shortest
+loop2-holds c = (omega arith, put-none _ _ (omega arith) (omega arith))
+
+mul-row-2 : tie.Need-mul-row-2 Inv-loop μ-loop Inv-loop2 μ-loop2
+mul-row-2 c = omega (arith, c .before .before .before .before .before .before .before .before .before .before .before .before .before .before .before .before .pre .0)
+
+element-copy-out-row-2 : tie.Need-element-copy-out-row-2 Inv-loop μ-loop Inv-loop2 μ-loop2
+element-copy-out-row-2 c = omega (arith, c .before .before .before .before .before .before .before .before .before .before .before .before .before .before .before .before .pre .0)
+
+put-row-requires : tie.Need-put-row-requires Inv-loop μ-loop Inv-loop2 μ-loop2
+put-row-requires c κs =
+    let l : c .before .before .before .loop2 .k < length (c .before .before .before .before .before .before .before .before .before .before .before .before .before .before .before .before .before .before .args .t2 .rows) = omega (arith, c .before .before .before .before .before .before .before .before .before .before .before .before .before .before .before .before .before .before .pre .0, c .before .before .loop2-test .taken, sixteen (c .before .before .before .before .before .before .before .before .before .before .before .before .before .before .before .before .before .before)) in
+    (every-next _ _ _ _ _ (c .before .before .loop2-test .taken) l (rows-lie (c .before .before .before .before .before .before .before .before .before .before .before .before .before .before .before .before .before .before .args .material .now) (c .before .before .before .before .before .before .before .before .before .before .before .before .before .before .before .before .before .before .args .t2) (c .before .before .before .before .before .before .before .before .before .before .before .before .before .before .before .before .before .before .pre .1 .0)), held _ (next-small (c .before .before .before .before .before .before .before .before .before .before .before .before .before .before .before .before .before .before .args .t2 .rows) (c .before .before .before .loop2 .k) _ _ (c .before .before .loop2-test .taken) l (rows-fit (c .before .before .before .before .before .before .before .before .before .before .before .before .before .before .before .before .before .before))))
+
+add-k : tie.Need-add-k Inv-loop μ-loop Inv-loop2 μ-loop2
+add-k c = omega (arith, c .before .before .before .before .before .before .before .before .before .before .before .before .before .before .before .before .before .before .before .before .before .pre .0)
+
+loop2-less : tie.Need-loop2-less Inv-loop μ-loop Inv-loop2 μ-loop2
+loop2-less c = omega (arith, c .before .before .before .before .before .before .before .before .before .before .before .before .before .before .before .before .before .before .before .before .before .pre .0)
+
+loop2-again : tie.Need-loop2-again Inv-loop μ-loop Inv-loop2 μ-loop2
+loop2-again c =
+    let l : c .before .before .before .before .before .before .loop2 .k < length (c .before .before .before .before .before .before .before .before .before .before .before .before .before .before .before .before .before .before .before .before .before .args .t2 .rows) = omega (arith, c .before .before .before .before .before .before .before .before .before .before .before .before .before .before .before .before .before .before .before .before .before .pre .0, c .before .before .before .before .before .loop2-test .taken, sixteen (c .before .before .before .before .before .before .before .before .before .before .before .before .before .before .before .before .before .before .before .before .before)) in
+    (omega arith, series-step (c .before .before .before .before .before .before .before .before .before .before .before .before .before .before .before .before .before .before .before .before .before .args .material .now) (c .before .before .before .before .before .before .before .before .before .before .before .before .before .before .before .before .before .before .before .before .before .args .t2 .rows) (c .before .before .before .before .before .before .loop2 .k) _ l (c .before .before .before .before .before .before .loop2 .inv .1) (c .before .before .put-row .ensures))
+
+same-length-2 : tie.Need-same-length-2 Inv-loop μ-loop Inv-loop2 μ-loop2
+same-length-2 c = put-length (put-then (put-then (c .before .before .before .before .before .before .before .before .before .put-front .ensures) (c .before .before .before .before .put-head .ensures)) (c .before .loop2 .inv .1))
+
+returns-2 : tie.Need-returns-2 Inv-loop μ-loop Inv-loop2 μ-loop2
+returns-2 c =
+    let e : c .before .loop2 .k ≡ c .before .before .before .before .before .before .before .before .before .before .before .before .before .before .before .before .args .t2 .count = omega (arith, c .before .loop2 .inv .0, c .loop2-test .left) in
+    rw (record-some (c .before .before .before .before .before .before .before .before .before .before .before .before .before .before .before .before .args .material .now) (c .before .before .before .before .before .before .before .before .before .before .before .before .before .before .before .before .args .t2) (c .before .before .before .before .before .before .before .before .before .before .before .before .before .before .before .before .pre .1 .0) (c .before .before .before .before .before .before .before .before .before .before .before .before .before .loop .size) (total (c .before .before .before .before .before .before .before .before .before .before .before .before)) (c .before .before .before .before .before .before .before .before .before .before .before .inside-size .result) (c .before .before .before .before .before .before .before .before .before .before .before .inside-size .ensures) (omega (arith, c .before .before .before .before .before .before .if1 .left)))
+    (put-then (put-then (c .before .before .before .before .before .before .before .before .before .put-front .ensures) (c .before .before .before .before .put-head .ensures)) (rw e at (c .before .loop2 .inv .1)))
 
 pub put-record-spec : {M : Type 1} → statement M
 put-record-spec =
     tie.close
     (tie.spec
-    rows-size-requires
+    Inv-loop
+    μ-loop
+    Inv-loop2
+    μ-loop2
+    loop-holds
+    mul-row
+    element-copy-out-row
+    row-size-requires
+    add-size
+    add-i
+    loop-less
+    loop-again
     inside-size-requires
-    message-tag-requires
-    put-head-requires
     put-front-requires
-    put-components-requires
     same-length
-    returns)
+    returns
+    put-head-requires
+    loop2-holds
+    mul-row-2
+    element-copy-out-row-2
+    put-row-requires
+    add-k
+    loop2-less
+    loop2-again
+    same-length-2
+    returns-2)
