@@ -1,4 +1,6 @@
 pub mod Bits
 pub mod Fields
 pub mod Kept
+pub mod Sent
+pub mod Steered
 pub mod Told

@@ -6,14 +6,22 @@ use lib.{ListN.length, ListN.drop, Dec.ltb}
 use Rattle.element.specs.{Fault.numberOf}
 use Rattle.tcap.specs.{declared.OptionalOrig.OptionalOrig, declared.Answer.Answer, declared.Refusal.Refusal, declared.Outcome.Outcome, declared.Record.Record, declared.Reading.Reading, Reading.reading}
 use Rattle.listing.specs.{declared.Listed.Listed, Listing.listingOf, Listing.listedOf, Listing.bufferAfter}
-use Rattle.layout.specs.Layout.{recordSize, origSpan, idFlag, idOctet, recordOctets}
+use Rattle.steering.specs.{declared.Steered.Steered, Layout.rulesIn, Steering.steering}
+use Rattle.writer.specs.{declared.Written.Written, Writing.writeNumber, Writing.writing, Writing.leaves}
+use Rattle.layout.specs.Layout.{recordSize, origSpan, idFlag, idOctet, isRecord, recordIn, recordOctets}
 
--- done, and too little room: document 01's number 25
+-- done; too little room and no record, by document 01's numbers; no rule fits
 abbrev pub done : ℕ
 done = 0
 
 abbrev pub noRoom : ℕ
 noRoom = 25
+
+abbrev pub noRecord : ℕ
+noRecord = 24
+
+abbrev pub noRule : ℕ
+noRule = 64
 
 -- 24..43: the originating ID of a refused message
 unfoldable pub origBits : OptionalOrig → ℕ
@@ -46,6 +54,28 @@ recordRoom (Outcome.Refused f) r room = room
 
 unfoldable pub readRoom : List ℕ → List ℕ → List ℕ
 readRoom m room = cond (ltb (length room) recordSize) room (recordRoom (reading m .outcome) (reading m .message) room)
+
+-- Writing: the octets o of a record, the material m, and the room for the message
+
+unfoldable pub writtenBits : Written → ℕ
+writtenBits (Written.Length n) = lengthBits n
+writtenBits (Written.Refused f) = writeNumber f
+
+unfoldable pub writeAnswer : List ℕ → List ℕ → List ℕ → ℕ
+writeAnswer o m out = cond (isRecord o) (writtenBits (writing (recordIn o) m (length out))) noRecord
+
+unfoldable pub writeRoom : List ℕ → List ℕ → List ℕ → List ℕ
+writeRoom o m out = cond (isRecord o) (leaves (recordIn o) m out) out
+
+-- Steering: the message m, and the octets of the rules; 32..63: a link
+
+unfoldable pub steeredBits : Steered → ℕ
+steeredBits Steered.NoRule = noRule
+steeredBits (Steered.Link n) = n * 2 ^ 32
+steeredBits (Steered.Refused f) = refusalBits f
+
+unfoldable pub steerAnswer : List ℕ → List ℕ → ℕ
+steerAnswer m rules = steeredBits (steering m (rulesIn rules))
 
 -- Listing
 

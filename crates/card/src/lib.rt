@@ -1,12 +1,16 @@
 // The calls for C, on octets and numbers: docs/LAYOUT.md.
 ghost use mathlib.Core.Path.{_≡_};
-ghost use Rattle.card.specs.Answer.{origBits, sendBits, refusalBits, listedBits, readAnswer, readRoom, listAnswer, listRoom, layoutBits};
+ghost use Rattle.card.specs.Answer.{origBits, sendBits, refusalBits, listedBits, readAnswer, readRoom, writtenBits, writeAnswer, writeRoom, steeredBits, steerAnswer, listAnswer, listRoom, layoutBits};
+ghost use Rattle.writer.specs.Writing.{writeNumber};
 use listing::Listed;
+use steering::Steered;
 use tcap::Answer;
 use tcap::InvokeId;
 use tcap::OptionalOrig;
 use tcap::Outcome;
 use tcap::Refusal;
+use writer::WriteFault;
+use writer::Written;
 ghost use Prim.Native.Nat.{_+_, _*_, _%_, _^_, _<_};
 ghost use Rattle.layout.specs.Layout.{idFlag, idOctet};
 
@@ -88,6 +92,61 @@ pub extern "C" fn goldenskep_read(message: &[u8], room: &mut [u8]) -> u64
         }
         Outcome::Refused(refusal) => refusal_bits(refusal),
     }
+}
+
+// Document 01's number of a refused writing.
+fn write_number(fault: WriteFault) -> u64
+    ensures { λ r. ⌜ r ≡ writeNumber fault ⌝ }
+{
+    match fault {
+        WriteFault::WrongParts => 24,
+        WriteFault::OutOfRange => 23,
+        WriteFault::OutOfMaterial => 21,
+        WriteFault::Unshaped => 22,
+        WriteFault::NoRoom => 25,
+    }
+}
+
+fn written_bits(written: Written) -> u64
+    ensures { λ r. ⌜ r ≡ writtenBits written ⌝ }
+{
+    match written {
+        Written::Length(size) => (size % 65536) as u64 * 256,
+        Written::Refused(fault) => write_number(fault),
+    }
+}
+
+// Writes the record that octets hold, over the material, as the shortest message: its length, or the refusal and the buffer left alone.
+#[no_mangle]
+pub extern "C" fn goldenskep_write(octets: &[u8], material: &[u8], out: &mut [u8]) -> u64
+    ensures { λ r. ⌜ r ≡ writeAnswer (now (octets .entry)) (now (material .entry)) (now (out .entry)) ⌝ }
+    ensures { λ _. ⌜ now (out .exit) ≡ writeRoom (now (octets .entry)) (now (material .entry)) (now (out .entry)) ⌝ }
+{
+    if !unpack::is_record(octets) {
+        return 24;
+    }
+    let held = unpack::record_in(octets);
+    let written = writer::write(held, material, out);
+    written_bits(written)
+}
+
+fn steered_bits(steered: Steered) -> u64
+    ensures { λ r. ⌜ r ≡ steeredBits steered ⌝ }
+{
+    match steered {
+        Steered::NoRule => 64,
+        Steered::Link(link) => link as u64 * 4294967296,
+        Steered::Refused(refusal) => refusal_bits(refusal),
+    }
+}
+
+// The link of the first rule that fits a message, 64 if none does, or the reader's refusal.
+#[no_mangle]
+pub extern "C" fn goldenskep_steer(message: &[u8], rules: &[u8]) -> u64
+    ensures { λ r. ⌜ r ≡ steerAnswer (now (message .entry)) (now (rules .entry)) ⌝ }
+{
+    let steered = steering::steer_octets(message, rules);
+    steered_bits(steered)
 }
 
 fn listed_bits(listed: Listed) -> u64
