@@ -7,18 +7,15 @@ use Rattle.element.specs.{Fault.numberOf}
 use Rattle.tcap.specs.{declared.OptionalOrig.OptionalOrig, declared.Answer.Answer, declared.Refusal.Refusal, declared.Outcome.Outcome, declared.Record.Record, declared.Reading.Reading, Reading.reading}
 use Rattle.listing.specs.{declared.Listed.Listed, Listing.listingOf, Listing.listedOf, Listing.bufferAfter}
 use Rattle.steering.specs.{declared.Steered.Steered, Layout.rulesIn, Steering.steering}
-use Rattle.writer.specs.{declared.Written.Written, Writing.writeNumber, Writing.writing, Writing.leaves}
-use Rattle.layout.specs.Layout.{recordSize, origSpan, idFlag, idOctet, isRecord, recordIn, recordOctets}
+use Rattle.writer.specs.{declared.Written.Written, Writing.writeNumber, Octets.writingOctets}
+use Rattle.layout.specs.Layout.{recordSize, origSpan, idFlag, idOctet, recordOctets}
 
--- done; too little room and no record, by document 01's numbers; no rule fits
+-- done; too little room, by document 01's number; no rule fits
 abbrev pub done : ℕ
 done = 0
 
 abbrev pub noRoom : ℕ
 noRoom = 25
-
-abbrev pub noRecord : ℕ
-noRecord = 24
 
 abbrev pub noRule : ℕ
 noRule = 64
@@ -55,17 +52,14 @@ recordRoom (Outcome.Refused f) r room = room
 unfoldable pub readRoom : List ℕ → List ℕ → List ℕ
 readRoom m room = cond (ltb (length room) recordSize) room (recordRoom (reading m .outcome) (reading m .message) room)
 
--- Writing: the octets o of a record, the material m, and the room for the message
+-- Writing: the octets o of a record, the material m, and the room for the message, which is then `leavesOctets o m out`
 
 unfoldable pub writtenBits : Written → ℕ
 writtenBits (Written.Length n) = lengthBits n
 writtenBits (Written.Refused f) = writeNumber f
 
 unfoldable pub writeAnswer : List ℕ → List ℕ → List ℕ → ℕ
-writeAnswer o m out = cond (isRecord o) (writtenBits (writing (recordIn o) m (length out))) noRecord
-
-unfoldable pub writeRoom : List ℕ → List ℕ → List ℕ → List ℕ
-writeRoom o m out = cond (isRecord o) (leaves (recordIn o) m out) out
+writeAnswer o m out = writtenBits (writingOctets o m (length out))
 
 -- Steering: the message m, and the octets of the rules; 32..63: a link
 

@@ -1,6 +1,7 @@
 // The calls for C, on octets and numbers: docs/LAYOUT.md.
 ghost use mathlib.Core.Path.{_≡_};
-ghost use Rattle.card.specs.Answer.{origBits, sendBits, refusalBits, listedBits, readAnswer, readRoom, writtenBits, writeAnswer, writeRoom, steeredBits, steerAnswer, listAnswer, listRoom, layoutBits};
+ghost use Rattle.card.specs.Answer.{origBits, sendBits, refusalBits, listedBits, readAnswer, readRoom, writtenBits, writeAnswer, steeredBits, steerAnswer, listAnswer, listRoom, layoutBits};
+ghost use Rattle.writer.specs.Octets.{leavesOctets};
 ghost use Rattle.writer.specs.Writing.{writeNumber};
 use listing::Listed;
 use steering::Steered;
@@ -120,13 +121,9 @@ fn written_bits(written: Written) -> u64
 #[no_mangle]
 pub extern "C" fn goldenskep_write(octets: &[u8], material: &[u8], out: &mut [u8]) -> u64
     ensures { λ r. ⌜ r ≡ writeAnswer (now (octets .entry)) (now (material .entry)) (now (out .entry)) ⌝ }
-    ensures { λ _. ⌜ now (out .exit) ≡ writeRoom (now (octets .entry)) (now (material .entry)) (now (out .entry)) ⌝ }
+    ensures { λ _. ⌜ now (out .exit) ≡ leavesOctets (now (octets .entry)) (now (material .entry)) (now (out .entry)) ⌝ }
 {
-    if !unpack::is_record(octets) {
-        return 24;
-    }
-    let held = unpack::record_in(octets);
-    let written = writer::write(held, material, out);
+    let written = writer::octets::write_octets(octets, material, out);
     written_bits(written)
 }
 

@@ -3,7 +3,7 @@ use Prim.Native.Nat.{ℕ, zero, suc, _+_, _≤_, _<_}
 use native.Mathlib.Omega.{arith}
 use mathlib.Core.Path.{_≡_, refl, sym, ap, ap₂, _∙_}
 use mathlib.Core.Bool.{true, _&&_, and-eq-true-iff}
-use mathlib.Core.List.{List, [], _∷_, _++_, append-assoc, append-nil}
+use mathlib.Core.List.{List, [], _∷_, _++_, append-assoc}
 use lib.ListN.{length, length-append}
 use Rattle.element.specs.Form.{shortest, seriesForm, lengthOctets}
 use Rattle.tcap.specs.declared.OptionalOrig.{OptionalOrig}
@@ -18,10 +18,10 @@ use Rattle.heads.proofs.Strings.{span-length}
 use Rattle.heads.proofs.Lengths.{inner, held, leaf-size, around-size}
 use Rattle.rows.specs.Sizes.{rowsSize, componentsSize}
 use Rattle.rows.proofs.Sizes.{components-size}
-use Rattle.rows.proofs.Rows.{rows-octets, rows-none, rows-some}
+use Rattle.rows.proofs.Rows.{rows-octets, rows-some}
 use Rattle.portions.specs.Sizes.{dialogueSize}
 use Rattle.portions.proofs.Sizes.{dialogue-size}
-use Rattle.putting.specs.Sizes.{origSize, destSize, portionSize, insideSize, frontOctets}
+use Rattle.putting.specs.Sizes.{origSize, destSize, portionSize, insideSize, frontOctets, portionHead, openingOctets}
 
 pub portion-some : (n : ℕ) → 1 ≤ n → portionSize n ≡ elementSize n
 unfolding portionSize
@@ -48,6 +48,16 @@ pub rows-small : (n : ℕ) → portionSize n < 256 → n < 256
 unfolding portionSize
 rows-small zero h = omega arith
 rows-small (suc n) h = held (suc n) h
+
+pub head-some : (n : ℕ) → 1 ≤ n → portionHead n ≡ 0x6C ∷ lengthOctets n
+unfolding portionHead
+head-some zero h = absurd (omega arith)
+head-some (suc n) h = refl
+
+rows-opened : (m : List ℕ) (rs : List Row) → every (λ w. rowLies (length m) (w .kind)) rs ≡ true → octetsOf (rowsForm m rs) ≡ portionHead (rowsSize rs) ++ octetsOf (seriesForm (rowForm m) rs)
+unfolding rowsForm seriesForm shortest rowsSize portionHead
+rows-opened m [] h = refl
+rows-opened m (r ∷ rs) h = rw (rows-some m (r ∷ rs) (rows-octets r rs) h, head-some (rowsSize (r ∷ rs)) (rows-octets r rs))
 
 regroup : (h a b c d : List ℕ) → h ++ (a ++ (b ++ (c ++ d))) ≡ (h ++ (a ++ (b ++ c))) ++ d
 regroup h a b c d = simp append-assoc
@@ -98,18 +108,13 @@ module _ (m : List ℕ) where
     unfolding recordForm
     inside-small k = omega (arith, around-size (tagOf (r .kind)) (insideForm m r), inner (length (octetsOf (insideForm m r))), inside-size)
 
-    -- the message, by the size of its rows and of what it holds, as they were counted
-    module _ (size : ℕ) (s : size ≡ rowsSize (counted r)) (inside : ℕ) (n : inside ≡ insideSize (r .orig) (r .dest) (r .dialogue) size) where
-      parts : octetsOf (recordForm m r) ≡ frontOctets m (r .kind) (r .orig) (r .dest) (r .dialogue) inside ++ octetsOf (rowsForm m (counted r))
-      unfolding recordForm insideForm shortest frontOctets
-      parts =
-          rw (n, s, inside-size)
-          (regroup (tagOf (r .kind) ∷ lengthOctets (insideSize (r .orig) (r .dest) (r .dialogue) (rowsSize (counted r)))) (octetsOf (origForm m (r .orig))) (octetsOf (destForm m (r .dest))) (octetsOf (dialogueForm m (r .dialogue))) (octetsOf (rowsForm m (counted r))))
+    parts : octetsOf (recordForm m r) ≡ frontOctets m (r .kind) (r .orig) (r .dest) (r .dialogue) (insideSize (r .orig) (r .dest) (r .dialogue) (rowsSize (counted r))) ++ octetsOf (rowsForm m (counted r))
+    unfolding recordForm insideForm shortest frontOctets
+    parts =
+        rw inside-size
+        (regroup (tagOf (r .kind) ∷ lengthOctets (insideSize (r .orig) (r .dest) (r .dialogue) (rowsSize (counted r)))) (octetsOf (origForm m (r .orig))) (octetsOf (destForm m (r .dest))) (octetsOf (dialogueForm m (r .dialogue))) (octetsOf (rowsForm m (counted r))))
 
-      pub record-none : size ≡ 0 → octetsOf (recordForm m r) ≡ frontOctets m (r .kind) (r .orig) (r .dest) (r .dialogue) inside
-      record-none z = parts ∙ rw (rows-none m (counted r) (sym s ∙ z)) (append-nil (frontOctets m (r .kind) (r .orig) (r .dest) (r .dialogue) inside))
-
-      pub record-some : 1 ≤ size → octetsOf (recordForm m r) ≡ (frontOctets m (r .kind) (r .orig) (r .dest) (r .dialogue) inside ++ (0x6C ∷ lengthOctets size)) ++ octetsOf (seriesForm (rowForm m) (counted r))
-      record-some h =
-          let k : 1 ≤ rowsSize (counted r) = omega (arith, s) in
-          parts ∙ rw (rows-some m (counted r) k rows-lie, s) (sym (append-assoc (frontOctets m (r .kind) (r .orig) (r .dest) (r .dialogue) inside) (0x6C ∷ lengthOctets (rowsSize (counted r))) (octetsOf (seriesForm (rowForm m) (counted r)))))
+    -- the message: what is before the first component, and the components
+    pub record-octets : octetsOf (recordForm m r) ≡ openingOctets m (r .kind) (r .orig) (r .dest) (r .dialogue) (rowsSize (counted r)) ++ octetsOf (seriesForm (rowForm m) (counted r))
+    unfolding openingOctets
+    record-octets = parts ∙ rw (rows-opened m (counted r) rows-lie) (sym (append-assoc (frontOctets m (r .kind) (r .orig) (r .dest) (r .dialogue) (insideSize (r .orig) (r .dest) (r .dialogue) (rowsSize (counted r)))) (portionHead (rowsSize (counted r))) (octetsOf (seriesForm (rowForm m) (counted r)))))

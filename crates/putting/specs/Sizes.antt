@@ -1,7 +1,7 @@
 -- How many octets each part of a message takes, from the record alone, and what stands before the components. Cited by inner contracts.
 -- Assumes nothing: these are definitions.
 use Prim.Native.Nat.{ℕ, zero, suc, _+_}
-use mathlib.Core.{List.List, List._∷_, List._++_}
+use mathlib.Core.{List.List, List.[], List._∷_, List._++_}
 use Rattle.element.specs.{Form.lengthOctets}
 use Rattle.tcap.specs.{declared.MessageKind.MessageKind, declared.OptionalOrig.OptionalOrig, declared.OptionalDest.OptionalDest, declared.Dialogue.Dialogue}
 use Rattle.judging.specs.{Forms.tagOf, Forms.origForm, Forms.destForm, Forms.dialogueForm, Forms.octetsOf}
@@ -28,3 +28,12 @@ insideSize o e d n = origSize o + (destSize e + (dialogueSize d + portionSize n)
 -- all before the components, with `inside` octets from the first ID on
 unfoldable pub frontOctets : List ℕ → MessageKind → OptionalOrig → OptionalDest → Dialogue → ℕ → List ℕ
 frontOctets m k o e d inside = (tagOf k ∷ lengthOctets inside) ++ (octetsOf (origForm m o) ++ (octetsOf (destForm m e) ++ octetsOf (dialogueForm m d)))
+
+-- tag and length of a 6C around components of n octets
+unfoldable pub portionHead : ℕ → List ℕ
+portionHead zero = []
+portionHead (suc n) = 0x6C ∷ lengthOctets (suc n)
+
+-- all before the first component, where the components have n octets
+unfoldable pub openingOctets : List ℕ → MessageKind → OptionalOrig → OptionalDest → Dialogue → ℕ → List ℕ
+openingOctets m k o e d n = frontOctets m k o e d (insideSize o e d n) ++ portionHead n

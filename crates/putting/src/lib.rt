@@ -9,7 +9,7 @@ ghost use Rattle.judging.specs.Verdict.{lies, octetsIn, origLies, destLies, dia
 ghost use Rattle.judging.specs.Forms.{tagOf, origForm, destForm, recordForm, octetsOf};
 ghost use Rattle.heads.specs.Size.{elementSize};
 ghost use Rattle.portions.specs.Sizes.{dialogueSize};
-ghost use Rattle.putting.specs.Sizes.{origSize, destSize, portionSize, insideSize, frontOctets};
+ghost use Rattle.putting.specs.Sizes.{origSize, destSize, portionSize, insideSize, frontOctets, openingOctets};
 use heads::element_size;
 use heads::put_head;
 use heads::put_string;
@@ -155,6 +155,30 @@ fn put_front(
     put_dialogue(out, c, material, dialogue)
 }
 
+// All before the first component, where the components have `size` octets.
+pub fn put_opening(
+    out: &mut [u8],
+    material: &[u8],
+    kind: MessageKind,
+    orig: OptionalOrig,
+    dest: OptionalDest,
+    dialogue: Dialogue,
+    size: usize,
+) -> usize
+    requires { ⌜ origLies (length (now material)) orig ≡ true ⌝ }
+    requires { ⌜ destLies (length (now material)) dest ≡ true ⌝ }
+    requires { ⌜ dialogueLies (length (now material)) dialogue ≡ true ⌝ }
+    requires { ⌜ insideSize orig dest dialogue size < 256 ⌝ }
+    ensures { λ r. ⌜ Put (now (out .entry)) 0 (openingOctets (now (material .entry)) kind orig dest dialogue size) r (now (out .exit)) ⌝ }
+{
+    let inside = inside_size(orig, dest, dialogue, size);
+    let front = put_front(out, material, kind, orig, dest, dialogue, inside);
+    if size == 0 {
+        return front;
+    }
+    put_head(out, front, 0x6C, size)
+}
+
 // A record whose strings lie in the material and whose message has at most 255 octets.
 // Its rows are read where they are: a call that takes them by value copies all sixteen.
 pub fn put_record(out: &mut [u8], held: Record, material: &[u8]) -> usize
@@ -174,12 +198,7 @@ pub fn put_record(out: &mut [u8], held: Record, material: &[u8]) -> usize
         size = size + row_size(row);
         i += 1;
     }
-    let inside = inside_size(orig, dest, dialogue, size);
-    let front = put_front(out, material, kind, orig, dest, dialogue, inside);
-    if size == 0 {
-        return front;
-    }
-    let mut o = put_head(out, front, 0x6C, size);
+    let mut o = put_opening(out, material, kind, orig, dest, dialogue, size);
     let mut k = 0;
     while k < held.count {
         let row = held.rows[k];

@@ -5,7 +5,7 @@ use native.Mathlib.Numerals.{add-one}
 use mathlib.Core.Path.{_≡_, refl, sym, ap, _∙_}
 use mathlib.Core.Bool.{Bool, true, false, _&&_}
 use mathlib.Core.List.{List, [], _∷_, _++_}
-use lib.ListN.{length, drop, set, replicate, length-drop}
+use lib.ListN.{length, drop, set, getD, replicate, length-drop}
 use lib.Seq.{set-at, append-snoc, drop-drop}
 use Rattle.tcap.specs.declared.{Row.Row}
 use Rattle.tcap.specs.Record.{blankRow}
@@ -39,7 +39,7 @@ module _ (l : List ℕ) where
     unfolding areRows
     are-end h = let e : n - i ≡ 0 = omega arith in rw e
 
-rows-length : (i : ℕ) (m : List ℕ) → length (rowsIn i m) ≡ i
+pub rows-length : (i : ℕ) (m : List ℕ) → length (rowsIn i m) ≡ i
 unfolding rowsIn
 rows-length zero m = refl
 rows-length (suc i) m = ap suc (rows-length i (drop rowSize m))
@@ -49,6 +49,16 @@ rows-more : (i : ℕ) (m : List ℕ) → rowsIn (suc i) m ≡ rowsIn i m ++ (row
 unfolding rowsIn
 rows-more zero m = refl
 rows-more (suc i) m = let e : rowSize + i * rowSize ≡ suc i * rowSize = omega arith in ap (λ (t : List Row). rowIn m ∷ t) (rows-more i (drop rowSize m) ∙ ap (λ (t : List ℕ). rowsIn i (drop rowSize m) ++ (rowIn t ∷ [])) (drop-drop (i * rowSize) rowSize m ∙ ap (λ (k : ℕ). drop k m) e))
+
+rows-nth : (n i : ℕ) (m : List ℕ) (d : Row) → i < n → getD (rowsIn n m) i d ≡ rowIn (drop (i * rowSize) m)
+unfolding rowsIn
+rows-nth zero i m d h = absurd (omega arith)
+rows-nth (suc n) zero m d h = refl
+rows-nth (suc n) (suc i) m d h = let e : rowSize + i * rowSize ≡ suc i * rowSize = omega arith in rows-nth n i (drop rowSize m) d (omega arith) ∙ ap rowIn (drop-drop (i * rowSize) rowSize m ∙ ap (λ (k : ℕ). drop k m) e)
+
+-- row i, of n
+pub row-at : (l : List ℕ) (n i : ℕ) (d : Row) → i < n → rowIn (rowsFrom l i) ≡ getD (rowsIn n (drop headSize l)) i d
+row-at l n i d h = sym (rows-nth n i (drop headSize l) d h ∙ ap rowIn (drop-drop (i * rowSize) headSize l))
 
 -- stored where the first blank row was
 pub rows-step : (l : List ℕ) (i : ℕ) → i < mostRows → set (rowsIn i (drop headSize l) ++ replicate (mostRows - i) blankRow) i (rowIn (rowsFrom l i)) ≡ rowsIn (i + 1) (drop headSize l) ++ replicate (mostRows - (i + 1)) blankRow

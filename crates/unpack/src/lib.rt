@@ -1,6 +1,6 @@
 // Octets as a record, and whether they are one.
-mod head;
-mod number;
+pub mod head;
+pub mod number;
 pub mod row;
 
 ghost use mathlib.Core.Path.{_≡_};
@@ -27,7 +27,7 @@ use tcap::Record;
 use tcap::Row;
 
 // How many rows are looked at: those below the count, of which there are sixteen.
-fn rows_looked(octets: &[u8]) -> usize
+pub fn rows_looked(octets: &[u8]) -> usize
     requires { ⌜ 44 ≤ length (now octets) ⌝ }
     ensures { λ r. ⌜ r ≡ rowsLooked (now (octets .entry)) ⌝ }
 {

@@ -1,7 +1,7 @@
 -- What is told of the dialogue, of the transaction IDs and of the message around the components; cited by inner contracts.
 -- Assumes nothing: these are definitions.
 use Prim.Native.Nat.{ℕ}
-use mathlib.Core.{Bool.Bool, Bool.true, Bool.not, Bool._&&_, List.List}
+use mathlib.Core.{Bool.Bool, Bool.true, Bool.not, Bool.cond, Bool._&&_, List.List}
 use lib.{ListN.length, Dec.leb, Dec.eqb}
 use Rattle.element.specs.{Form.then, Form.around}
 use Rattle.tcap.specs.{declared.Span.Span, declared.OptionalSpan.OptionalSpan, declared.OptionalOrig.OptionalOrig, declared.OptionalDest.OptionalDest, declared.Diagnostic.Diagnostic, declared.Row.Row, declared.Dialogue.Dialogue, declared.MessageKind.MessageKind, Meaning.octet, Meaning.contextForm, Meaning.sourceForm, WellFormed.mostComponents}
@@ -48,6 +48,10 @@ restFits MessageKind.Abort c n = eqb n 0
 -- the parts that a kind has, and the count
 abbrev pub partsJudged : MessageKind → OptionalOrig → OptionalDest → Dialogue → ℕ → Judged
 partsJudged k o e d n = judged (rankOf (partsFit k (origThere o) (destThere e) (causeThere d) n) (leb n mostComponents) true true) 0
+
+-- 6C around so many components, if there are any
+abbrev pub portionOf : ℕ → Judged → Judged
+portionOf n components = cond (eqb n 0) (Judged.Fine 0) (wrapped components)
 
 module _ (m : List ℕ) where
   abbrev pub infoJudged : OptionalSpan → Judged

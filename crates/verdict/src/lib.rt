@@ -1,11 +1,11 @@
 // Whether a record may be written, and how many octets the message has, told in one pass.
 ghost use mathlib.Core.Path.{_≡_};
-ghost use lib.ListN.{length, take};
+ghost use lib.ListN.{length};
 ghost use Rattle.tcap.specs.declared.Dialogue.{Dialogue};
 ghost use Rattle.judging.specs.Verdict.{origThere, destThere, causeThere, allParts, allRanges, allLie, allShaped};
 ghost use Rattle.judging.specs.Forms.{recordForm, octetsOf};
 ghost use Rattle.judging.specs.Judged.{rankOf, judged};
-ghost use Rattle.verdict.specs.Whole.{externalJudged, pduJudged, numberJudged, sourceJudged, origFits, destFits, restFits, partsJudged, infoJudged, contextJudged, outsideJudged, answerJudged, dialogueJudged, origJudged, destJudged, portionJudged, behindJudged, messageJudged};
+ghost use Rattle.verdict.specs.Whole.{externalJudged, pduJudged, numberJudged, sourceJudged, origFits, destFits, restFits, partsJudged, infoJudged, contextJudged, outsideJudged, answerJudged, dialogueJudged, origJudged, destJudged, portionOf, behindJudged, messageJudged};
 use dialogue::NameKind;
 use dialogue::name_kind;
 use judging::Judged;
@@ -191,14 +191,14 @@ fn dest_judged(dest: OptionalDest, material: &[u8]) -> Judged
     }
 }
 
-// No component, no 6C.
-fn portion_judged(rows: [Row; 16], count: usize, material: &[u8]) -> Judged
-    ensures { λ r. ⌜ r ≡ portionJudged (now (material .entry)) (take count rows) ⌝ }
+// 6C around the components; no component, no 6C.
+pub fn portion_judged(count: usize, components: Judged) -> Judged
+    ensures { λ r. ⌜ r ≡ portionOf count components ⌝ }
 {
     if count == 0 {
         return Judged::Fine(0);
     }
-    around(rows_judged(rows, count, material))
+    around(components)
 }
 
 // The two IDs, and what follows them.
@@ -320,7 +320,7 @@ fn parts_judged(
 }
 
 // The message around its components.
-fn message_judged(
+pub fn message_judged(
     kind: MessageKind,
     orig: OptionalOrig,
     dest: OptionalDest,
@@ -346,6 +346,6 @@ pub fn record_judged(message: Record, material: &[u8]) -> Judged
     let dialogue = message.dialogue;
     let rows = message.rows;
     let count = message.count;
-    let portion = portion_judged(rows, count, material);
+    let portion = portion_judged(count, rows_judged(rows, count, material));
     message_judged(kind, orig, dest, dialogue, count, portion, material)
 }

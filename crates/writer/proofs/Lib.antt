@@ -8,3 +8,4 @@ pub mod Fitting
 pub mod Answers
 pub mod Specimens
 pub mod Told
+pub mod Standing

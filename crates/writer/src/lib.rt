@@ -1,4 +1,6 @@
 // The writer: a record over the material beside it, into the shortest message, or the refusal.
+pub mod octets;
+
 ghost use mathlib.Core.Path.{_≡_};
 ghost use Rattle.writer.specs.Writing.{faultAt, Writes};
 use judging::Judged;

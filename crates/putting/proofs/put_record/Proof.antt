@@ -11,7 +11,7 @@ use Rattle.heads.proofs.Lengths.{held}
 use Rattle.rows.specs.Sizes.{rowsSize}
 use Rattle.rows.proofs.Rows.{size-turn, size-within, next-small, every-next, series-step}
 use Rattle.putting.specs.Sizes.{insideSize}
-use Rattle.putting.proofs.Sizes.{rows-small, front-within, front-small, orig-lies, dest-lies, dialogue-lies, rows-lie, inside-small, record-none, record-some}
+use Rattle.putting.proofs.Sizes.{rows-small, front-small, orig-lies, dest-lies, dialogue-lies, rows-lie, inside-small, record-octets}
 use native.Mathlib.Omega.{arith}
 use Rattle.putting.proofs.put_record.Statement.{statement}
 use Rattle.putting.proofs.put_record.Tie as tie
@@ -23,10 +23,10 @@ abbrev μ-loop : tie.MeasureT-loop
 μ-loop out material held kind orig dest dialogue size₀ i₀ size i = held .count - i
 
 abbrev Inv-loop2 : tie.InvT-loop2
-Inv-loop2 out₀ material held size i inside front o₀ k₀ out o k = (k ≤ held .count) × Put out₀ o₀ (octetsOf (seriesForm (rowForm material) (take k (held .rows)))) o out
+Inv-loop2 out₀ material held size i o₀ k₀ out o k = (k ≤ held .count) × Put out₀ o₀ (octetsOf (seriesForm (rowForm material) (take k (held .rows)))) o out
 
 abbrev μ-loop2 : tie.MeasureT-loop2
-μ-loop2 out₀ material held size i inside front o₀ k₀ out o k = held .count - k
+μ-loop2 out₀ material held size i o₀ k₀ out o k = held .count - k
 
 module _ (c : tie.Start Inv-loop μ-loop Inv-loop2 μ-loop2) where
   -- as the type of the rows says
@@ -69,59 +69,49 @@ loop-less c = omega (arith, c .before .before .before .before .before .before .p
 loop-again : tie.Need-loop-again Inv-loop μ-loop Inv-loop2 μ-loop2
 loop-again c = (omega arith, size-turn (c .before .before .before .before .before .before .args .t2 .rows) (c .before .before .before .loop .i) _ (omega (arith, c .before .before .before .before .before .before .pre .0, sixteen (c .before .before .before .before .before .before))) _ (c .before .before .before .loop .inv .1) _ (c .row-size .ensures))
 
-inside-size-requires : tie.Need-inside-size-requires Inv-loop μ-loop Inv-loop2 μ-loop2
-inside-size-requires c κs = rw (total c) (small (c .before .before .before .before))
-
-put-front-requires : tie.Need-put-front-requires Inv-loop μ-loop Inv-loop2 μ-loop2
-put-front-requires c κs =
-    let m = c .before .before .before .before .before .before .args .material .now in
-    let h = c .before .before .before .before .before .before .pre .1 .0 in
-    let i : c .before .inside-size .result < 256 = rw (c .before .inside-size .ensures, total (c .before .before)) (small (c .before .before .before .before .before .before)) in
-    (orig-lies m (c .before .before .before .before .before .before .args .t2) h, (dest-lies m (c .before .before .before .before .before .before .args .t2) h, (dialogue-lies m (c .before .before .before .before .before .before .args .t2) h, (rw (c .before .inside-size .ensures) (front-within _ _ _ _), i))))
-
-same-length : tie.Need-same-length Inv-loop μ-loop Inv-loop2 μ-loop2
-same-length c = put-length (c .before .before .before .put-front .ensures)
-
-returns : tie.Need-returns Inv-loop μ-loop Inv-loop2 μ-loop2
-returns c = rw (record-none (c .before .before .before .before .before .before .before .before .before .before .args .material .now) (c .before .before .before .before .before .before .before .before .before .before .args .t2) (c .before .before .before .before .before .before .before .before .before .before .pre .1 .0) (c .before .before .before .before .before .before .before .loop .size) (total (c .before .before .before .before .before .before)) (c .before .before .before .before .before .inside-size .result) (c .before .before .before .before .before .inside-size .ensures) (c .if1 .taken)) (c .before .before .before .put-front .ensures)
-
-put-head-requires : tie.Need-put-head-requires Inv-loop μ-loop Inv-loop2 μ-loop2
-put-head-requires c κs = rw (total (c .before .before .before .before .before .before .before)) (rows-fit (c .before .before .before .before .before .before .before .before .before .before .before))
+put-opening-requires : tie.Need-put-opening-requires Inv-loop μ-loop Inv-loop2 μ-loop2
+put-opening-requires c κs =
+    let m = c .before .before .before .before .before .args .material .now in
+    let h = c .before .before .before .before .before .pre .1 .0 in
+    (orig-lies m (c .before .before .before .before .before .args .t2) h, (dest-lies m (c .before .before .before .before .before .args .t2) h, (dialogue-lies m (c .before .before .before .before .before .args .t2) h, rw (total (c .before)) (small (c .before .before .before .before .before)))))
 
 loop2-holds : tie.Need-loop2-holds Inv-loop μ-loop Inv-loop2 μ-loop2
 unfolding seriesForm shortest
 loop2-holds c = (omega arith, put-none _ _ (omega arith) (omega arith))
 
 mul-row-2 : tie.Need-mul-row-2 Inv-loop μ-loop Inv-loop2 μ-loop2
-mul-row-2 c = omega (arith, c .before .before .before .before .before .before .before .before .before .before .before .before .before .before .before .before .pre .0)
+mul-row-2 c = omega (arith, c .before .before .before .before .before .before .before .before .before .before .pre .0)
 
 element-copy-out-row-2 : tie.Need-element-copy-out-row-2 Inv-loop μ-loop Inv-loop2 μ-loop2
-element-copy-out-row-2 c = omega (arith, c .before .before .before .before .before .before .before .before .before .before .before .before .before .before .before .before .pre .0)
+element-copy-out-row-2 c = omega (arith, c .before .before .before .before .before .before .before .before .before .before .pre .0)
 
 put-row-requires : tie.Need-put-row-requires Inv-loop μ-loop Inv-loop2 μ-loop2
 put-row-requires c κs =
-    let l : c .before .before .before .loop2 .k < length (c .before .before .before .before .before .before .before .before .before .before .before .before .before .before .before .before .before .before .args .t2 .rows) = omega (arith, c .before .before .before .before .before .before .before .before .before .before .before .before .before .before .before .before .before .before .pre .0, c .before .before .loop2-test .taken, sixteen (c .before .before .before .before .before .before .before .before .before .before .before .before .before .before .before .before .before .before)) in
-    (every-next _ _ _ _ _ (c .before .before .loop2-test .taken) l (rows-lie (c .before .before .before .before .before .before .before .before .before .before .before .before .before .before .before .before .before .before .args .material .now) (c .before .before .before .before .before .before .before .before .before .before .before .before .before .before .before .before .before .before .args .t2) (c .before .before .before .before .before .before .before .before .before .before .before .before .before .before .before .before .before .before .pre .1 .0)), held _ (next-small (c .before .before .before .before .before .before .before .before .before .before .before .before .before .before .before .before .before .before .args .t2 .rows) (c .before .before .before .loop2 .k) _ _ (c .before .before .loop2-test .taken) l (rows-fit (c .before .before .before .before .before .before .before .before .before .before .before .before .before .before .before .before .before .before))))
+    let s = c .before .before .before .before .before .before .before .before .before .before .before .before in
+    let l : c .before .before .before .loop2 .k < length (s .args .t2 .rows) = omega (arith, s .pre .0, c .before .before .loop2-test .taken, sixteen s) in
+    (every-next _ _ _ _ _ (c .before .before .loop2-test .taken) l (rows-lie (s .args .material .now) (s .args .t2) (s .pre .1 .0)), held _ (next-small (s .args .t2 .rows) (c .before .before .before .loop2 .k) _ _ (c .before .before .loop2-test .taken) l (rows-fit s)))
 
 add-k : tie.Need-add-k Inv-loop μ-loop Inv-loop2 μ-loop2
-add-k c = omega (arith, c .before .before .before .before .before .before .before .before .before .before .before .before .before .before .before .before .before .before .before .before .before .pre .0)
+add-k c = omega (arith, c .before .before .before .before .before .before .before .before .before .before .before .before .before .before .before .pre .0)
 
 loop2-less : tie.Need-loop2-less Inv-loop μ-loop Inv-loop2 μ-loop2
-loop2-less c = omega (arith, c .before .before .before .before .before .before .before .before .before .before .before .before .before .before .before .before .before .before .before .before .before .pre .0)
+loop2-less c = omega (arith, c .before .before .before .before .before .before .before .before .before .before .before .before .before .before .before .pre .0)
 
 loop2-again : tie.Need-loop2-again Inv-loop μ-loop Inv-loop2 μ-loop2
 loop2-again c =
-    let l : c .before .before .before .before .before .before .loop2 .k < length (c .before .before .before .before .before .before .before .before .before .before .before .before .before .before .before .before .before .before .before .before .before .args .t2 .rows) = omega (arith, c .before .before .before .before .before .before .before .before .before .before .before .before .before .before .before .before .before .before .before .before .before .pre .0, c .before .before .before .before .before .loop2-test .taken, sixteen (c .before .before .before .before .before .before .before .before .before .before .before .before .before .before .before .before .before .before .before .before .before)) in
-    (omega arith, series-step (c .before .before .before .before .before .before .before .before .before .before .before .before .before .before .before .before .before .before .before .before .before .args .material .now) (c .before .before .before .before .before .before .before .before .before .before .before .before .before .before .before .before .before .before .before .before .before .args .t2 .rows) (c .before .before .before .before .before .before .loop2 .k) _ l (c .before .before .before .before .before .before .loop2 .inv .1) (c .before .before .put-row .ensures))
+    let s = c .before .before .before .before .before .before .before .before .before .before .before .before .before .before .before in
+    let l : c .before .before .before .before .before .before .loop2 .k < length (s .args .t2 .rows) = omega (arith, s .pre .0, c .before .before .before .before .before .loop2-test .taken, sixteen s) in
+    (omega arith, series-step (s .args .material .now) (s .args .t2 .rows) (c .before .before .before .before .before .before .loop2 .k) _ l (c .before .before .before .before .before .before .loop2 .inv .1) (c .before .before .put-row .ensures))
 
-same-length-2 : tie.Need-same-length-2 Inv-loop μ-loop Inv-loop2 μ-loop2
-same-length-2 c = put-length (put-then (put-then (c .before .before .before .before .before .before .before .before .before .put-front .ensures) (c .before .before .before .before .put-head .ensures)) (c .before .loop2 .inv .1))
+same-length : tie.Need-same-length Inv-loop μ-loop Inv-loop2 μ-loop2
+same-length c = put-length (put-then (c .before .before .before .before .put-opening .ensures) (c .before .loop2 .inv .1))
 
-returns-2 : tie.Need-returns-2 Inv-loop μ-loop Inv-loop2 μ-loop2
-returns-2 c =
-    let e : c .before .loop2 .k ≡ c .before .before .before .before .before .before .before .before .before .before .before .before .before .before .before .before .args .t2 .count = omega (arith, c .before .loop2 .inv .0, c .loop2-test .left) in
-    rw (record-some (c .before .before .before .before .before .before .before .before .before .before .before .before .before .before .before .before .args .material .now) (c .before .before .before .before .before .before .before .before .before .before .before .before .before .before .before .before .args .t2) (c .before .before .before .before .before .before .before .before .before .before .before .before .before .before .before .before .pre .1 .0) (c .before .before .before .before .before .before .before .before .before .before .before .before .before .loop .size) (total (c .before .before .before .before .before .before .before .before .before .before .before .before)) (c .before .before .before .before .before .before .before .before .before .before .before .inside-size .result) (c .before .before .before .before .before .before .before .before .before .before .before .inside-size .ensures) (omega (arith, c .before .before .before .before .before .before .if1 .left)))
-    (put-then (put-then (c .before .before .before .before .before .before .before .before .before .put-front .ensures) (c .before .before .before .before .put-head .ensures)) (rw e at (c .before .loop2 .inv .1)))
+returns : tie.Need-returns Inv-loop μ-loop Inv-loop2 μ-loop2
+returns c =
+    let r = c .before .before .before .before .before .before .before .before .before .before .args .t2 in
+    let e : c .before .loop2 .k ≡ r .count = omega (arith, c .before .loop2 .inv .0, c .loop2-test .left) in
+    rw (record-octets (c .before .before .before .before .before .before .before .before .before .before .args .material .now) r (c .before .before .before .before .before .before .before .before .before .before .pre .1 .0), ← (total (c .before .before .before .before .before .before)))
+    (put-then (c .before .before .before .before .put-opening .ensures) (rw e at (c .before .loop2 .inv .1)))
 
 pub put-record-spec : {M : Type 1} → statement M
 put-record-spec =
@@ -139,11 +129,7 @@ put-record-spec =
     add-i
     loop-less
     loop-again
-    inside-size-requires
-    put-front-requires
-    same-length
-    returns
-    put-head-requires
+    put-opening-requires
     loop2-holds
     mul-row-2
     element-copy-out-row-2
@@ -151,5 +137,5 @@ put-record-spec =
     add-k
     loop2-less
     loop2-again
-    same-length-2
-    returns-2)
+    same-length
+    returns)

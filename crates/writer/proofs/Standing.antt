@@ -1,0 +1,209 @@
+-- The record that octets stand for: the rows that count are those that are looked at, and the judgment of the rows tells their size.
+-- Assumes nothing.
+use Prim.Native.Nat.{ℕ, zero, suc, _+_, _-_, _/_, _≤_, _<_, min}
+use native.Mathlib.Omega.{arith}
+use mathlib.Core.Path.{_≡_, refl, sym, ap, _∙_}
+use mathlib.Core.Bool.{Bool, true, false, cond, false≢true}
+use mathlib.Core.List.{List, [], _∷_, _++_, append-nil}
+use lib.ListN.{length, take, drop, replicate, length-append, length-replicate}
+use lib.Seq.{take-at, take-all}
+use lib.Dec.{leb, eqb}
+use lib.Signed.{mag}
+use borrow.Author.Tests.{leb-true, leb-false, eqb-true}
+use Rattle.base.specs.Number.{topOf, signedAt, holds}
+use Rattle.base.specs.Value.{Every}
+use Rattle.base.proofs.Numbers.{small-holds}
+use Rattle.element.specs.Form.{seriesForm}
+use Rattle.tcap.specs.declared.{Span.Span, InvokeId.InvokeId, LinkedId.LinkedId, Code.Code, Returned.Returned, ComponentKind.ComponentKind, Row.Row, Record.Record}
+use Rattle.tcap.specs.Record.{blankRow}
+use Rattle.judging.specs.declared.Judged.{Judged}
+use Rattle.judging.specs.Verdict.{every, counted, rowLies, allParts, allRanges, allLie, allShaped}
+use Rattle.judging.specs.Forms.{rowForm, recordForm, octetsOf}
+use Rattle.judging.specs.Judged.{rankOf, judged, joined, wholeSize, wrapped, sizeOf, rowsRank, rowsJudged}
+use Rattle.judging.proofs.Rows.{rows-none}
+use Rattle.verdict.specs.Whole.{portionOf, portionJudged, messageJudged}
+use Rattle.verdict.proofs.Messages.{portion-law, record-law}
+use Rattle.rows.specs.Sizes.{rowsSize}
+use Rattle.rows.proofs.Sizes.{rows-size}
+use Rattle.putting.proofs.Sizes.{rows-lie}
+use Rattle.layout.specs.Layout.{headSize, rowSize, mostRows, recordSize, octet, numberAt, spanAt, idIn, linkedIn, codeIn, returnedIn, kindIn, rowIn, rowsIn, rowsLooked, isRecord, recordIn}
+use Rattle.unpack.proofs.Rows.{rows-length}
+use Rattle.writer.specs.declared.{WriteFault.WriteFault, Written.Written}
+use Rattle.writer.specs.Writing.{Writes, IdFits, LinkedFits, CodeFits, ReturnedFits, KindFits, RowFits, RecordFits}
+use Rattle.writer.specs.Octets.{writingOctets, leavesOctets, sizeIn}
+use Rattle.writer.proofs.Told.{fine-tells}
+
+pub record-long : (l : List ℕ) → isRecord l ≡ true → recordSize ≤ length l
+unfolding isRecord
+record-long l h = by-length (leb recordSize (length l)) refl
+  where
+    by-length : (b : Bool) → leb recordSize (length l) ≡ b → recordSize ≤ length l
+    by-length true e = leb-true recordSize (length l) e
+    by-length false e = absurd (false≢true (rw e at h))
+
+-- What octets stand for has 16 rows, IDs of 8 bits and local codes of 32
+
+signed-small : (top n : ℕ) → mag (signedAt top n) ≤ top / 2
+unfolding signedAt
+signed-small top n = by-half (leb n (top / 2)) refl
+  where
+    by-half : (b : Bool) → leb n (top / 2) ≡ b → mag (signedAt top n) ≤ top / 2
+    by-half true e = rw e (leb-true _ _ e)
+    by-half false e = rw e (omega (arith, leb-false n (top / 2) e))
+
+signed-holds : (k n : ℕ) → holds k (signedAt (topOf k) n) ≡ true
+signed-holds k n = small-holds k (signedAt (topOf k) n) (signed-small (topOf k) n)
+
+id-fits : (x n : ℕ) → IdFits (idIn x n)
+unfolding idIn
+id-fits x n = by-flag (eqb x 0)
+  where
+    by-flag : (b : Bool) → IdFits (cond b InvokeId.Null (InvokeId.Id (signedAt (topOf 1) n)))
+    by-flag true = tt
+    by-flag false = signed-holds 1 n
+
+linked-fits : (x n : ℕ) → LinkedFits (linkedIn x n)
+unfolding linkedIn
+linked-fits x n = by-flag (eqb x 0)
+  where
+    by-flag : (b : Bool) → LinkedFits (cond b LinkedId.Unlinked (LinkedId.Linked (signedAt (topOf 1) n)))
+    by-flag true = tt
+    by-flag false = signed-holds 1 n
+
+code-fits : (x : ℕ) (s : Span) → CodeFits (codeIn x s)
+unfolding codeIn
+code-fits x s = by-tag (eqb x 0x02)
+  where
+    by-tag : (b : Bool) → CodeFits (cond b (Code.Local (signedAt (topOf 4) (s .place))) (Code.Global s))
+    by-tag true = signed-holds 4 (s .place)
+    by-tag false = tt
+
+returned-fits : (l : List ℕ) → ReturnedFits (returnedIn l)
+unfolding returnedIn
+returned-fits l = by-tag (eqb (octet l 5) 0)
+  where
+    by-tag : (b : Bool) → ReturnedFits (cond b Returned.Bare (Returned.Both (codeIn (octet l 5) (spanAt l 8)) (spanAt l 16)))
+    by-tag true = tt
+    by-tag false = code-fits (octet l 5) (spanAt l 8)
+
+-- one of five, by the first test that holds
+chosen : {A : Type 0} (P : A → Type 0) (b c d e : Bool) (v w x y z : A) → P v → P w → P x → P y → P z → P (cond b v (cond c w (cond d x (cond e y z))))
+chosen P true c d e v w x y z i j k l m = i
+chosen P false true d e v w x y z i j k l m = j
+chosen P false false true e v w x y z i j k l m = k
+chosen P false false false true v w x y z i j k l m = l
+chosen P false false false false v w x y z i j k l m = m
+
+kind-fits : (x : ℕ) (l : List ℕ) → KindFits (kindIn x l)
+unfolding kindIn
+kind-fits x l =
+    let f = returned-fits l in
+    let c = code-fits (octet l 5) (spanAt l 8) in
+    chosen KindFits (eqb x 0xA1) (eqb x 0xA2) (eqb x 0xA3) (eqb x 0xA4) _ _ _ _ _ (linked-fits (octet l 3) (octet l 4), c) f c tt f
+
+row-fits : (l : List ℕ) → RowFits (rowIn l)
+unfolding RowFits rowIn
+row-fits l = (id-fits (octet l 1) (octet l 2), kind-fits (octet l 0) l)
+
+blank-fits : RowFits blankRow
+unfolding RowFits holds topOf
+blank-fits = (tt, (tt, refl))
+
+rows-fit : (n k : ℕ) (l : List ℕ) → Every RowFits (rowsIn n l ++ replicate k blankRow)
+unfolding rowsIn Every
+rows-fit zero zero l = tt
+rows-fit zero (suc k) l = (blank-fits, rows-fit zero k l)
+rows-fit (suc n) k l = (row-fits l, rows-fit n k (drop rowSize l))
+
+pub octets-fit : (o : List ℕ) → RecordFits (recordIn o)
+unfolding recordIn
+octets-fit o =
+    let k = rowsLooked o in
+    record {
+      full = length-append (rowsIn k (drop headSize o)) (replicate (mostRows - k) blankRow) ∙ omega (arith, rows-length k (drop headSize o), length-replicate (mostRows - k) blankRow);
+      each = rows-fit k (mostRows - k) (drop headSize o);
+    }
+
+-- The rows that count
+
+counted-by : (o : List ℕ) (b : Bool) → leb (numberAt o 4) mostRows ≡ b → counted (recordIn o) ≡ rowsIn (rowsLooked o) (drop headSize o)
+unfolding recordIn
+counted-by o true e =
+    let l = leb-true (numberAt o 4) mostRows e in
+    take-at (rowsIn (rowsLooked o) (drop headSize o)) (replicate (mostRows - rowsLooked o) blankRow) (numberAt o 4) (rows-length (rowsLooked o) (drop headSize o) ∙ omega arith)
+counted-by o false e =
+    let l = leb-false (numberAt o 4) mostRows e in
+    let none : mostRows - rowsLooked o ≡ 0 = omega arith in
+    rw (none, append-nil) (take-all (numberAt o 4) (rowsIn (rowsLooked o) (drop headSize o)) (omega (arith, rows-length (rowsLooked o) (drop headSize o))))
+
+module _ (o : List ℕ) where
+  abbrev pub rowsOf : List Row
+  rowsOf = rowsIn (rowsLooked o) (drop headSize o)
+
+  pub counted-in : counted (recordIn o) ≡ rowsOf
+  counted-in = counted-by o (leb (numberAt o 4) mostRows) refl
+
+  looked : length rowsOf ≡ min (recordIn o .count) mostRows
+  unfolding recordIn
+  looked = rows-length (rowsLooked o) (drop headSize o)
+
+  module _ (m : List ℕ) where
+    -- what the code judges is the record
+    pub octets-judged : (components : Judged) → components ≡ rowsJudged m rowsOf
+        → let r = recordIn o in messageJudged m (r .kind) (r .orig) (r .dest) (r .dialogue) (r .count) (portionOf (r .count) components) ≡ judged (rankOf (allParts r) (allRanges r) (allLie (length m) r) (allShaped m r)) (sizeOf (recordForm m r))
+    octets-judged components e =
+        let r = recordIn o in
+        rw (e, portion-law m rowsOf (r .count) looked, ← counted-in) (record-law m r)
+
+-- Of what is fine and not too long, every part is
+
+joined-right : (a b : Judged) (n : ℕ) → joined a b ≡ Judged.Fine n → n ≤ 255 → (y : ℕ) × (b ≡ Judged.Fine y) × (y ≤ n)
+unfolding joined
+joined-right (Judged.Fine x) (Judged.Fine y) n e h = let z : min (x + y) 256 ≡ n = cc in (y, refl, omega arith)
+joined-right (Judged.Fine x) (Judged.Bad l) n e h = let z : _≡_ {A = ℕ} 0 1 = cc in absurd (omega arith)
+joined-right (Judged.Bad k) (Judged.Fine y) n e h = let z : _≡_ {A = ℕ} 0 1 = cc in absurd (omega arith)
+joined-right (Judged.Bad k) (Judged.Bad l) n e h = let z : _≡_ {A = ℕ} 0 1 = cc in absurd (omega arith)
+
+wrapped-in : (a : Judged) (n : ℕ) → wrapped a ≡ Judged.Fine n → n ≤ 255 → (x : ℕ) × (a ≡ Judged.Fine x) × (x ≤ n)
+unfolding wrapped wholeSize
+wrapped-in (Judged.Fine x) n e h = let z : min (wholeSize x) 256 ≡ n = cc in (x, refl, omega arith)
+wrapped-in (Judged.Bad k) n e h = let z : _≡_ {A = ℕ} 0 1 = cc in absurd (omega arith)
+
+module _ (m : List ℕ) (rs : List Row) (lie : every (λ w. rowLies (length m) (w .kind)) rs ≡ true) where
+  some-size : (x : ℕ) → rowsJudged m rs ≡ Judged.Fine x → x ≤ 255 → sizeIn (rowsJudged m rs) ≡ rowsSize rs
+  unfolding sizeIn
+  some-size x e h = rw e (omega (arith, fine-tells (rowsRank m rs) (sizeOf (seriesForm (rowForm m) rs)) x (sym e) .1, rows-size m rs lie))
+
+none-size : (m : List ℕ) (rs : List Row) → length rs ≡ 0 → sizeIn (rowsJudged m rs) ≡ rowsSize rs
+unfolding rowsSize sizeIn
+none-size m [] h = rw (← (rows-none m))
+none-size m (r ∷ rs) h = absurd (omega arith)
+
+module _ (o m : List ℕ) (lie : allLie (length m) (recordIn o) ≡ true) (n : ℕ) (small : n ≤ 255) where
+  abbrev the : Record
+  the = recordIn o
+
+  -- the judgment of the rows tells their size
+  pub size-told : messageJudged m (the .kind) (the .orig) (the .dest) (the .dialogue) (the .count) (portionOf (the .count) (rowsJudged m (rowsOf o))) ≡ Judged.Fine n → sizeIn (rowsJudged m (rowsOf o)) ≡ rowsSize (counted the)
+  size-told e =
+      let a = joined-right _ _ n e small in
+      let b = wrapped-in _ (a .0) (a .1) (omega (arith, a .2)) in
+      let c = joined-right _ _ (b .0) (b .1) (omega (arith, a .2, b .2)) in
+      let d = joined-right _ _ (c .0) (c .1) (omega (arith, a .2, b .2, c .2)) in
+      let f = joined-right _ _ (d .0) (d .1) (omega (arith, a .2, b .2, c .2, d .2)) in
+      rw (counted-in o) (by-count (eqb (the .count) 0) refl (f .0) (f .1) (omega (arith, a .2, b .2, c .2, d .2, f .2)))
+    where
+      by-count : (b : Bool) → eqb (the .count) 0 ≡ b → (y : ℕ) → portionOf (the .count) (rowsJudged m (rowsOf o)) ≡ Judged.Fine y → y ≤ 255 → sizeIn (rowsJudged m (rowsOf o)) ≡ rowsSize (rowsOf o)
+      by-count true h y e k = none-size m (rowsOf o) (omega (arith, looked o, eqb-true (the .count) 0 h))
+      by-count false h y e k =
+          let w = wrapped-in (rowsJudged m (rowsOf o)) y (rw h at e) k in
+          some-size m (rowsOf o) (rw (counted-in o) at (rows-lie m the lie)) (w .0) (w .1) (omega (arith, w .2))
+
+-- what the writer answers and leaves for the record is what it does for its octets
+pub octets-write : (o m out : List ℕ) {w : Written} {new : List ℕ} → isRecord o ≡ true → Writes (recordIn o) m out w new → (w ≡ writingOctets o m (length out)) × (new ≡ leavesOctets o m out)
+unfolding writingOctets leavesOctets
+octets-write o m out h x = rw h (x .answers, x .holds)
+
+pub octets-none : (o m out : List ℕ) → isRecord o ≡ false → (Written.Refused WriteFault.WrongParts ≡ writingOctets o m (length out)) × (out ≡ leavesOctets o m out)
+unfolding writingOctets leavesOctets
+octets-none o m out h = rw h (refl, refl)
