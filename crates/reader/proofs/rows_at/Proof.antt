@@ -12,7 +12,7 @@ gather-requires c κs = (c .before .before .before .before .before .pre, (entry-
 
 returns : tie.Need-returns
 unfolding rowsIn
-returns c = rw (rows-law, ← (c .before .before .before .before .before .before .entry-at .ensures), c .before .before .before .before .kind .given .1, c .refused-behind .ensures, c .before .found .ensures)
+returns c = rw (rows-law, ← (c .before .before .before .before .before .before .entry-at .ensures), c .before .before .before .before .kind .given .1, c .refused .ensures, c .before .found .ensures)
 
 returns-2 : tie.Need-returns-2
 unfolding rowsIn
@@ -30,8 +30,8 @@ add-here c = search needs
 found-requires : tie.Need-found-requires
 found-requires c κs = search needs
 
-refused-behind-requires : tie.Need-refused-behind-requires
-refused-behind-requires c κs = search needs
+refused-requires : tie.Need-refused-requires
+refused-requires c κs = search needs
 
 enum-known-at : tie.Need-enum-known-at
 enum-known-at c = search needs
@@ -44,7 +44,7 @@ rows-at-spec =
     enum-known-kind
     add-here
     found-requires
-    refused-behind-requires
+    refused-requires
     enum-known-at
     gather-requires
     returns
