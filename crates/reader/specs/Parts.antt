@@ -10,6 +10,7 @@ use Rattle.asking.specs.Asked.{front, faultField, innerOf, wholeOf, begins, lea
 use Rattle.asking.specs.declared.{Owner.Owner, Fault.Fault as FaultField, Entry.Entry, Field.Field, Next.Next, Closed.Closed}
 use Rattle.transaction.specs.declared.{Head.Head}
 use Rattle.transaction.specs.Head.{Ids, carriedBy, idsOf, origIn, destIn, carriedField}
+use Rattle.components.specs.Rows.{ownedBy}
 use Rattle.reader.specs.declared.{KindRead.KindRead, Frame.Frame, Closing.Closing}
 use Rattle.tcap.specs.Meaning.{Dialogue as Dialogues}
 use Rattle.tcap.specs.Productions.{inside6B, externalBody}
@@ -66,6 +67,12 @@ answerFrom n o i = cond (eqb n 8) (Answer.AbortCause 0) (cond (eqb n 12) (Answer
 
 unfoldable pub refusalFrom : FaultField → Refusal
 refusalFrom f = record { kind = f .kind; place = f .place; orig = f .orig; answer = answerFrom (numberOf (f .kind)) (f .owner) (f .id) }
+
+-- a fault found in the contents of a component belongs to it
+unfoldable pub ownedIn : Owner → FaultField → FaultField
+ownedIn Owner.Portion f = f
+ownedIn Owner.Dialogue f = f
+ownedIn (Owner.Component k) f = ownedBy k f
 
 unfoldable pub refusedBy : FaultField → Reading
 refusedBy f = record { outcome = Outcome.Refused (refusalFrom f); message = blankRecord }

@@ -14,7 +14,7 @@ ghost use Rattle.tcap.specs.Productions.{levelAt, componentAt, componentItem, c
 ghost use Rattle.tcap.specs.Reading.{reading};
 ghost use Rattle.asking.specs.Asked.{innerOf, closeOf, wholeOf};
 ghost use Rattle.transaction.specs.Head.{carriedField};
-ghost use Rattle.reader.specs.Parts.{causeBy, problemBy, answerFrom, refusalFrom, refusedBy, kindOf, closingOf, gathered, rowsRead, leftOut, bareFor, rowsFor, recordRead, finished, readAs};
+ghost use Rattle.reader.specs.Parts.{causeBy, problemBy, answerFrom, refusalFrom, ownedIn, refusedBy, kindOf, closingOf, gathered, rowsRead, leftOut, bareFor, rowsFor, recordRead, finished, readAs};
 use asking::Closed;
 use asking::Entry;
 use asking::Fault;
@@ -155,11 +155,23 @@ fn refusal_of(fault: Fault) -> Refusal
     }
 }
 
-// A refusal hands back the blank record; a fault found behind the IDs carries the originating one.
-fn refused(orig: OptionalOrig, fault: Fault) -> Reading
-    ensures { λ r. ⌜ r ≡ refusedBy (carriedField orig fault) ⌝ }
+// A fault found in the contents of a component belongs to it; any other keeps its owner.
+fn owned_in(owner: Owner, fault: Fault) -> Fault
+    ensures { λ r. ⌜ r ≡ ownedIn owner fault ⌝ }
 {
-    let refusal = refusal_of(transaction::carried_by(orig, fault));
+    match owner {
+        Owner::Portion => fault,
+        Owner::Dialogue => fault,
+        Owner::Component(index) => components::owned_by(fault, index),
+    }
+}
+
+// A refusal hands back the blank record; a fault found behind the IDs carries the originating one. Callers hand over the fault as they have it, so that the
+// compiler does not take it apart before it is needed.
+fn refused(orig: OptionalOrig, owner: Owner, fault: Fault) -> Reading
+    ensures { λ r. ⌜ r ≡ refusedBy (carriedField orig (ownedIn owner fault)) ⌝ }
+{
+    let refusal = refusal_of(transaction::carried_by(orig, owned_in(owner, fault)));
     let row = components::blank();
     let mut rows = [row; 16];
     // One row is set at a place that the compiler does not know: so it copies the rows as a whole, and not field by field.
@@ -242,12 +254,16 @@ fn gather(head: Head, frame: Frame, rest: &[u8], before: usize, portion: Portion
         match element::end_at(left, portion.definite) {
             EndRead::Ended => {
                 if count == 0 {
-                    return refused(orig, asking::found(FaultKind::Missing, here));
+                    return refused(
+                        orig,
+                        Owner::Portion,
+                        asking::found(FaultKind::Missing, here),
+                    );
                 }
                 let size = asking::whole_size(portion.at, portion.end, portion.definite, at);
                 match closing_at(frame, rest, before, size) {
                     Closing::Bad(fault) => {
-                        return refused(orig, fault);
+                        return refused(orig, Owner::Portion, fault);
                     }
                     Closing::Whole => {
                         return Reading {
@@ -265,15 +281,19 @@ fn gather(head: Head, frame: Frame, rest: &[u8], before: usize, portion: Portion
                 }
             }
             EndRead::Unfinished => {
-                return refused(orig, asking::found(FaultKind::CutOff, here));
+                return refused(orig, Owner::Portion, asking::found(FaultKind::CutOff, here));
             }
             EndRead::More => {
                 if count == 16 {
-                    return refused(orig, asking::found(FaultKind::Seventeenth, here));
+                    return refused(
+                        orig,
+                        Owner::Portion,
+                        asking::found(FaultKind::Seventeenth, here),
+                    );
                 }
                 match components::header_at(left, here, count) {
                     Opened::Bad(fault) => {
-                        return refused(orig, fault);
+                        return refused(orig, Owner::Portion, fault);
                     }
                     Opened::Open {
                         first,
@@ -284,7 +304,7 @@ fn gather(head: Head, frame: Frame, rest: &[u8], before: usize, portion: Portion
                         let inside = piece(left, from, to - from);
                         match components::contents_at(inside, here + from, inner, first) {
                             RowRead::Bad(fault) => {
-                                return refused(orig, components::owned_by(fault, count));
+                                return refused(orig, Owner::Component(count), fault);
                             }
                             RowRead::Got { row: next, size } => {
                                 rows[count] = next;
@@ -308,7 +328,7 @@ fn rows_at(head: Head, frame: Frame, rest: &[u8], before: usize) -> Reading
         Entry::Bad(kind) => {
             let orig = head.orig;
             let here = frame.start + before;
-            refused(orig, asking::found(kind, here))
+            refused(orig, Owner::Portion, asking::found(kind, here))
         }
         Entry::Open { at, end, definite } => {
             let portion = Portion {
@@ -332,7 +352,11 @@ fn bare(head: Head, frame: Frame, before: usize) -> Reading
     let dialogue = head.dialogue;
     let whole = asking::whole_size(frame.start, frame.end, frame.definite, before);
     if whole != frame.len {
-        return refused(orig, asking::found(FaultKind::OctetsAfter, whole));
+        return refused(
+            orig,
+            Owner::Portion,
+            asking::found(FaultKind::OctetsAfter, whole),
+        );
     }
     let row = components::blank();
     let mut rows = [row; 16];
@@ -392,7 +416,7 @@ fn record_at(kind: MessageKind, part: &[u8], frame: Frame) -> Reading
     ensures { λ r. ⌜ r ≡ finished (frame .len) (frame .start) (frame .end) (frame .definite) (recordRead kind (frame .definite) (frame .start) (now (part .entry))) ⌝ }
 {
     match transaction::head_at(kind, part, frame.start, frame.definite) {
-        HeadRead::Bad(fault) => refused(OptionalOrig::NoOrig, fault),
+        HeadRead::Bad(fault) => refused(OptionalOrig::NoOrig, Owner::Portion, fault),
         HeadRead::Got { head, size } => rows_for(kind, head, frame, after(part, size), size),
     }
 }
@@ -403,7 +427,11 @@ fn message_at(kind: MessageKind, message: &[u8]) -> Reading
     ensures { λ r. ⌜ r ≡ readAs kind (now (message .entry)) (innerOf (now (message .entry)) 1) ⌝ }
 {
     match asking::inner_at(message, 1) {
-        Entry::Bad(fault) => refused(OptionalOrig::NoOrig, asking::found(fault, 0)),
+        Entry::Bad(fault) => refused(
+            OptionalOrig::NoOrig,
+            Owner::Portion,
+            asking::found(fault, 0),
+        ),
         Entry::Open { at, end, definite } => {
             let frame = Frame {
                 start: at,
@@ -424,14 +452,23 @@ pub fn read(message: &[u8]) -> Reading
     if len > 255 {
         return refused(
             OptionalOrig::NoOrig,
+            Owner::Portion,
             asking::found(FaultKind::Overlong, 255),
         );
     }
     if len == 0 {
-        return refused(OptionalOrig::NoOrig, asking::found(FaultKind::CutOff, 0));
+        return refused(
+            OptionalOrig::NoOrig,
+            Owner::Portion,
+            asking::found(FaultKind::CutOff, 0),
+        );
     }
     match kind_of(message[0]) {
-        KindRead::Unknown => refused(OptionalOrig::NoOrig, asking::found(FaultKind::NoMessage, 0)),
+        KindRead::Unknown => refused(
+            OptionalOrig::NoOrig,
+            Owner::Portion,
+            asking::found(FaultKind::NoMessage, 0),
+        ),
         KindRead::Kind(kind) => message_at(kind, message),
     }
 }

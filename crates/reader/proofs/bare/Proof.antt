@@ -4,7 +4,7 @@ use native.Mathlib.Omega.{arith}
 use native.Mathlib.Nat.{add-zero}
 use borrow.Author.Needs.{needs}
 use borrow.Author.Tests.{eq-eqb, ne-eqb}
-use Rattle.reader.specs.Parts.{closingOf, closedWith, rowsRead}
+use Rattle.reader.specs.Parts.{ownedIn, closingOf, closedWith, rowsRead}
 use Rattle.reader.proofs.Gathered.{blank-set}
 use Rattle.reader.proofs.bare.Statement.{statement}
 use Rattle.reader.proofs.bare.Tie as tie
@@ -13,7 +13,7 @@ whole-size-requires : tie.Need-whole-size-requires
 whole-size-requires c κs = omega (arith, c .pre)
 
 returns : tie.Need-returns
-unfolding rowsRead closingOf closedWith
+unfolding rowsRead closingOf closedWith ownedIn
 returns c = rw (add-zero, ← (c .before .before .before .before .whole-size .ensures), ne-eqb _ _ (c .before .before .if1 .taken), c .refused .ensures, c .before .found .ensures)
 
 returns-2 : tie.Need-returns-2

@@ -6,7 +6,7 @@ use lib.ListN.{length, length-take, length-drop}
 use borrow.Author.Needs.{needs}
 use Rattle.asking.proofs.Sizes.{inner-size}
 use Rattle.transaction.specs.Head.{carriedField}
-use Rattle.reader.specs.Parts.{readAs}
+use Rattle.reader.specs.Parts.{ownedIn, readAs}
 use Rattle.reader.proofs.message_at.Statement.{statement}
 use Rattle.reader.proofs.message_at.Tie as tie
 
@@ -20,7 +20,7 @@ record-at-requires : tie.Need-record-at-requires
 record-at-requires c κs = omega (arith, c .before .before .before .before .before .before .pre .0, inner-size _ _ (c .before .before .before .before .before .before .pre .1) _ _ _ (sym (c .before .before .before .before .inner-at .ensures) ∙ c .before .before .at .given .1), simp (length-take, length-drop) at (ap length (c .piece .ensures)))
 
 returns : tie.Need-returns
-unfolding readAs carriedField
+unfolding readAs carriedField ownedIn
 returns c = rw (← (c .before .before .before .before .before .inner-at .ensures), c .before .before .before .fault .given .1, c .refused .ensures, c .before .found .ensures)
 
 returns-2 : tie.Need-returns-2

@@ -3,6 +3,7 @@ use mathlib.Core.Path.{sym, ap, _∙_}
 use native.Mathlib.Omega.{arith}
 use borrow.Author.Needs.{needs}
 use Rattle.asking.proofs.Sizes.{entry-size}
+use Rattle.reader.specs.Parts.{ownedIn}
 use Rattle.reader.proofs.Rows.{rowsIn, rows-law}
 use Rattle.reader.proofs.rows_at.Statement.{statement}
 use Rattle.reader.proofs.rows_at.Tie as tie
@@ -11,7 +12,7 @@ gather-requires : tie.Need-gather-requires
 gather-requires c κs = (c .before .before .before .before .before .pre, (entry-size _ _ _ _ _ _ (sym (c .before .before .before .entry-at .ensures) ∙ c .before .at .given .1) .1, entry-size _ _ _ _ _ _ (sym (c .before .before .before .entry-at .ensures) ∙ c .before .at .given .1) .2))
 
 returns : tie.Need-returns
-unfolding rowsIn
+unfolding rowsIn ownedIn
 returns c = rw (rows-law, ← (c .before .before .before .before .before .before .entry-at .ensures), c .before .before .before .before .kind .given .1, c .refused .ensures, c .before .found .ensures)
 
 returns-2 : tie.Need-returns-2
