@@ -65,16 +65,14 @@ pub fn contents_at(part: &[u8], place: usize, definite: bool, first: u8) -> RowR
     if first == 0xA1 {
         return invoke_at(part, place, definite);
     }
-    if first == 0xA2 {
-        return result_at(part, place, definite, true);
-    }
     if first == 0xA3 {
         return error_at(part, place, definite);
     }
     if first == 0xA4 {
         return reject_at(part, place, definite);
     }
-    result_at(part, place, definite, false)
+    let last = first == 0xA2;
+    result_at(part, place, definite, last)
 }
 
 // Whether a first octet is the tag of a component.

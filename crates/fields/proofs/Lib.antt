@@ -4,3 +4,4 @@ pub mod Plain
 pub mod Steps
 pub mod Told
 pub mod Fits
+pub mod Brief

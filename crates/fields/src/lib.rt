@@ -13,6 +13,7 @@ ghost use Rattle.element.specs.declared.EndRead.the-variants.{More};
 ghost use Rattle.element.specs.Ask.{ask};
 ghost use Rattle.element.specs.Parts.{level, leafItem, integerItem, mapItem, onlyBody, lastBody};
 ghost use Rattle.element.specs.Walk.{walkItem};
+ghost use Rattle.element.specs.Answers.{elementWalk};
 ghost use Rattle.tcap.specs.Meaning.{local, global};
 ghost use Rattle.tcap.specs.Productions.{octetItem, nameItem, codeItem, idOrNullItem, problemItem};
 ghost use Rattle.asking.specs.Asked.{closeOf};
@@ -29,6 +30,7 @@ use asking::octet_at;
 use asking::span_at;
 use base::after;
 use base::piece;
+use base::wide;
 use element::EndRead;
 use element::FaultKind;
 use element::IntegerRead;
@@ -276,6 +278,34 @@ pub fn rest_after(part: &[u8], place: usize, definite: bool, size: usize) -> Res
     }
 }
 
+// One element of any kind, walked to its bottom; the head of most is short, and is read at once.
+fn walked_at(part: &[u8], place: usize, left: usize) -> Walk
+    requires { ⌜ place + length (now part) ≤ 4096 ⌝ }
+    requires { ⌜ 1 ≤ left ⌝ }
+    ensures { λ r. ⌜ r ≡ elementWalk 0 left place (now (part .entry)) ⌝ }
+{
+    if !element::is_short(part) {
+        return element::walk_element(part, place, left, 0);
+    }
+    let count = wide(part[1]);
+    let whole = 2 + count;
+    if element::is_constructor(part[0]) {
+        let start = place + 2;
+        match element::walk_series(piece(part, 2, count), start, left - 1, 0, true) {
+            Walk::Fault { kind, place: there } => {
+                return Walk::Fault {
+                    kind: kind,
+                    place: there,
+                };
+            }
+            Walk::Whole { size } => {
+                return Walk::Whole { size: whole };
+            }
+        }
+    }
+    Walk::Whole { size: whole }
+}
+
 // One element of any kind, the last of its contents, where the end has been asked.
 fn sole_at(part: &[u8], place: usize, definite: bool, left: usize) -> SpanRead
     requires { ⌜ place + length (now part) ≤ 4096 ⌝ }
@@ -283,7 +313,7 @@ fn sole_at(part: &[u8], place: usize, definite: bool, left: usize) -> SpanRead
     requires { ⌜ endOf definite (now part) ≡ More ⌝ }
     ensures { λ r. ⌜ r ≡ spanGot (ask (onlyBody (level left) (walkItem left)) definite place (now (part .entry))) ⌝ }
 {
-    match element::walk_element(part, place, left, 0) {
+    match walked_at(part, place, left) {
         Walk::Fault { kind, place: there } => SpanRead::Bad(found(kind, there)),
         Walk::Whole { size } => match rest_after(part, place, definite, size) {
             Rest::Bad(fault) => SpanRead::Bad(fault),

@@ -1,5 +1,6 @@
 -- 6C, its entry and its end, and then the record, as the code joins them. Assumes nothing.
 use Prim.Native.Nat.{ℕ, _+_, _-_, _≤_}
+use native.Mathlib.Omega.{arith}
 use native.Mathlib.Nat.{add-zero, zero-add, add-assoc}
 use mathlib.Core.Path.{_≡_, refl, sym, ap, _∙_}
 use mathlib.Core.Bool.{Bool, true, false, cond}
@@ -24,8 +25,9 @@ use Rattle.asking.proofs.Fronts.{aroundGot, front-around, closedGot, ask-done}
 use Rattle.transaction.specs.declared.{Head.Head, HeadRead.HeadRead}
 use Rattle.transaction.specs.Head.{Ids, carriedBy, origIn, destIn, carriedField, headGot, headOf}
 use Rattle.transaction.proofs.Heads.{carried-same}
+use Rattle.transaction.proofs.Stops.{unfinished-on, more-on}
 use Rattle.reader.specs.declared.{Frame.Frame, Closing.Closing}
-use Rattle.reader.specs.Parts.{refusedBy, acceptedWith, finished, recordRead, someRows, rowsFor, closingOf, closedWith, gathered, rowsRead}
+use Rattle.reader.specs.Parts.{refusedBy, acceptedWith, finished, recordRead, someRows, leftOut, bareFor, rowsFor, closingOf, closedWith, gathered, rowsRead}
 use Rattle.reader.proofs.Tails.{whole, and-rows, head-rows}
 
 abbrev rowsBody : Body (List (Component Text))
@@ -85,16 +87,45 @@ module _ (d : Bool) (p : ℕ) (part : List ℕ) where
       by-done (got b k) = refl
       by-done (bad f) = refl
 
-  pub rows-some : (endOf d part ≡ EndRead.Ended → ⊥) → someRows d p part ≡ ask onlyRows d p part
+  rows-some : (endOf d part ≡ EndRead.Ended → ⊥) → someRows d p part ≡ ask onlyRows d p part
   unfolding someRows
   rows-some h =
       ap (λ (x : Got (Option (List (Component Text)))). next x (λ v n. got (Option·getD v []) n)) (ask-last (levelAt deepestLevel 2) (componentsItem deepestLevel) d p part h)
       ∙ only-some (ask (front (levelAt deepestLevel 2) FaultKind.Another (componentsItem deepestLevel)) d p part)
       ∙ sym (ask-only (levelAt deepestLevel 2) (componentsItem deepestLevel) d p part)
 
-  pub rows-none : endOf d part ≡ EndRead.Ended → got [] 0 ≡ someRows d p part
+  rows-none : endOf d part ≡ EndRead.Ended → got [] 0 ≡ someRows d p part
   unfolding someRows next
   rows-none e = rw (ask-last-ended (levelAt deepestLevel 2) (componentsItem deepestLevel) d p part e)
+
+-- 6C is left out, or it stands here
+left-out : (e : EndRead) → leftOut e ≡ true → e ≡ EndRead.Ended
+unfolding leftOut
+left-out EndRead.Ended h = refl
+left-out EndRead.Unfinished h = let z : _≡_ {A = ℕ} 0 1 = cc in absurd (omega arith)
+left-out EndRead.More h = let z : _≡_ {A = ℕ} 0 1 = cc in absurd (omega arith)
+
+stands-here : (e : EndRead) → leftOut e ≡ false → e ≡ EndRead.Ended → ⊥
+unfolding leftOut
+stands-here EndRead.Ended h g = let z : _≡_ {A = ℕ} 0 1 = cc in absurd (omega arith)
+stands-here EndRead.Unfinished h g = unfinished-on refl g
+stands-here EndRead.More h g = more-on refl g
+
+pub rows-left : (k : MessageKind) (d : Bool) (p : ℕ) (part : List ℕ) → bareFor k (endOf d part) ≡ true → got [] 0 ≡ rowsFor k d p part
+unfolding bareFor rowsFor
+rows-left MessageKind.Unidirectional d p part h = let z : _≡_ {A = ℕ} 0 1 = cc in absurd (omega arith)
+rows-left MessageKind.Begin d p part h = rows-none d p part (left-out (endOf d part) h)
+rows-left MessageKind.End d p part h = rows-none d p part (left-out (endOf d part) h)
+rows-left MessageKind.Continue d p part h = rows-none d p part (left-out (endOf d part) h)
+rows-left MessageKind.Abort d p part h = refl
+
+pub rows-there : (k : MessageKind) (d : Bool) (p : ℕ) (part : List ℕ) → bareFor k (endOf d part) ≡ false → ask onlyRows d p part ≡ rowsFor k d p part
+unfolding bareFor rowsFor
+rows-there MessageKind.Unidirectional d p part h = refl
+rows-there MessageKind.Begin d p part h = sym (rows-some d p part (stands-here (endOf d part) h))
+rows-there MessageKind.End d p part h = sym (rows-some d p part (stands-here (endOf d part) h))
+rows-there MessageKind.Continue d p part h = sym (rows-some d p part (stands-here (endOf d part) h))
+rows-there MessageKind.Abort d p part h = let z : _≡_ {A = ℕ} 0 1 = cc in absurd (omega arith)
 
 -- The record
 

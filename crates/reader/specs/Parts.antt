@@ -1,15 +1,16 @@
 -- A message in the order in which the code reads it: IDs, then the rest, for every kind alike; cited by inner contracts, and no part of the definition of reading.
 -- Assumes nothing: these are definitions.
 use Prim.Native.Nat.{ℕ, _+_, _-_}
-use mathlib.Core.{Bool.Bool, Bool.cond, List.List, List.[], Option.Option, Option.none, Option.some, Option.Option·map, Option.Option·getD}
+use mathlib.Core.{Bool.Bool, Bool.true, Bool.false, Bool.cond, List.List, List.[], Option.Option, Option.none, Option.some, Option.Option·map, Option.Option·getD}
 use lib.{ListN.length, ListN.take, ListN.drop, ListN.getD, Dec.eqb, Dec.ltb, Dec.leb}
-use Rattle.element.specs.{declared.FaultKind.FaultKind, Fault.numberOf, Fault.Text, Fault.Fault, Fault.at, Ask.Got, Ask.got, Ask.bad, Ask.next, Ask.blamed, Ask.Body, Ask.ask, Parts.mapItem, Parts.orItem, Parts.onlyBody, Parts.lastBody, Parts.optBody}
+use Rattle.element.specs.{declared.FaultKind.FaultKind, declared.EndRead.EndRead, Fault.numberOf, Fault.Text, Fault.Fault, Fault.at, Ask.Got, Ask.got, Ask.bad, Ask.next, Ask.blamed, Ask.Body, Ask.ask, Parts.mapItem, Parts.orItem, Parts.onlyBody, Parts.lastBody, Parts.optBody}
 use Rattle.tcap.specs.{declared.MessageKind.MessageKind, declared.OptionalOrig.OptionalOrig, declared.OptionalDest.OptionalDest, declared.Record.Record, declared.Span.Span, declared.InvokeId.InvokeId, declared.Answer.Answer, declared.Refusal.Refusal, declared.Outcome.Outcome, declared.Reading.Reading, Meaning.Originating, Meaning.Destination, Meaning.Component, Meaning.Ending, Meaning.silent, Meaning.cause, Meaning.says, Meaning.Message, WellFormed.mostOctets, WellFormed.deepestLevel, Productions.octetItem, Productions.origItem, Productions.destItem, Productions.carried, Productions.levelAt, Productions.componentsItem, Productions.dialogueItem, Productions.tailBody, Productions.uniBody, Productions.beginBody, Productions.endBody, Productions.continueBody, Productions.abortBody, Record.spanOf, Record.origField, Record.destField, Record.dialogueField, Record.portionField, Record.endingField, Record.recordFrom, Record.blankRecord}
 use Rattle.tcap.specs.declared.Dialogue.{Dialogue}
 use Rattle.asking.specs.Asked.{front, faultField, innerOf, wholeOf, begins, leafOf, closeOf}
 use Rattle.asking.specs.declared.{Owner.Owner, Fault.Fault as FaultField, Entry.Entry, Field.Field, Next.Next, Closed.Closed}
 use Rattle.transaction.specs.declared.{Head.Head}
 use Rattle.transaction.specs.Head.{Ids, carriedBy, idsOf, origIn, destIn, carriedField}
+use Rattle.components.specs.Rows.{ownedBy}
 use Rattle.reader.specs.declared.{KindRead.KindRead, Frame.Frame, Closing.Closing}
 use Rattle.tcap.specs.Meaning.{Dialogue as Dialogues}
 use Rattle.tcap.specs.Productions.{inside6B, externalBody}
@@ -67,6 +68,12 @@ answerFrom n o i = cond (eqb n 8) (Answer.AbortCause 0) (cond (eqb n 12) (Answer
 unfoldable pub refusalFrom : FaultField → Refusal
 refusalFrom f = record { kind = f .kind; place = f .place; orig = f .orig; answer = answerFrom (numberOf (f .kind)) (f .owner) (f .id) }
 
+-- a fault found in the contents of a component belongs to it
+unfoldable pub ownedIn : Owner → FaultField → FaultField
+ownedIn Owner.Portion f = f
+ownedIn Owner.Dialogue f = f
+ownedIn (Owner.Component k) f = ownedBy k f
+
 unfoldable pub refusedBy : FaultField → Reading
 refusedBy f = record { outcome = Outcome.Refused (refusalFrom f); message = blankRecord }
 
@@ -114,6 +121,19 @@ rowsFor MessageKind.Begin d p part = someRows d p part
 rowsFor MessageKind.End d p part = someRows d p part
 rowsFor MessageKind.Continue d p part = someRows d p part
 rowsFor MessageKind.Abort d p part = got [] 0
+
+-- 6C is left out where the contents end, if the kind allows it; an Abort has none
+unfoldable pub leftOut : EndRead → Bool
+leftOut EndRead.Ended = true
+leftOut EndRead.Unfinished = false
+leftOut EndRead.More = false
+
+unfoldable pub bareFor : MessageKind → EndRead → Bool
+bareFor MessageKind.Unidirectional e = false
+bareFor MessageKind.Begin e = leftOut e
+bareFor MessageKind.End e = leftOut e
+bareFor MessageKind.Continue e = leftOut e
+bareFor MessageKind.Abort e = true
 
 -- how a message ends whose contents have n octets before 6C, which takes s
 unfoldable pub closingOf : Frame → ℕ → ℕ → Closed → Closing

@@ -6,6 +6,7 @@ ghost use Prim.Native.Nat.{_+_, _-_, _≤_};
 ghost use lib.ListN.{length, drop, take};
 ghost use Rattle.element.specs.declared.FaultKind.{FaultKind as FaultKinds};
 ghost use Rattle.element.specs.Fault.{numberOf};
+ghost use Rattle.element.specs.Head.{endOf};
 ghost use Rattle.element.specs.Ask.{ask, got};
 ghost use Rattle.element.specs.Parts.{onlyBody, seriesBody};
 ghost use Rattle.tcap.specs.WellFormed.{deepestLevel, mostComponents};
@@ -13,7 +14,7 @@ ghost use Rattle.tcap.specs.Productions.{levelAt, componentAt, componentItem, c
 ghost use Rattle.tcap.specs.Reading.{reading};
 ghost use Rattle.asking.specs.Asked.{innerOf, closeOf, wholeOf};
 ghost use Rattle.transaction.specs.Head.{carriedField};
-ghost use Rattle.reader.specs.Parts.{causeBy, problemBy, answerFrom, refusalFrom, refusedBy, kindOf, closingOf, gathered, rowsRead, someRows, rowsFor, recordRead, finished, readAs};
+ghost use Rattle.reader.specs.Parts.{causeBy, problemBy, answerFrom, refusalFrom, ownedIn, refusedBy, kindOf, closingOf, gathered, rowsRead, leftOut, bareFor, rowsFor, recordRead, finished, readAs};
 use asking::Closed;
 use asking::Entry;
 use asking::Fault;
@@ -154,11 +155,23 @@ fn refusal_of(fault: Fault) -> Refusal
     }
 }
 
-// A refusal hands back the blank record.
-fn refused(fault: Fault) -> Reading
-    ensures { λ r. ⌜ r ≡ refusedBy fault ⌝ }
+// A fault found in the contents of a component belongs to it; any other keeps its owner.
+fn owned_in(owner: Owner, fault: Fault) -> Fault
+    ensures { λ r. ⌜ r ≡ ownedIn owner fault ⌝ }
 {
-    let refusal = refusal_of(fault);
+    match owner {
+        Owner::Portion => fault,
+        Owner::Dialogue => fault,
+        Owner::Component(index) => components::owned_by(fault, index),
+    }
+}
+
+// A refusal hands back the blank record; a fault found behind the IDs carries the originating one. Callers hand over the fault as they have it, so that the
+// compiler does not take it apart before it is needed.
+fn refused(orig: OptionalOrig, owner: Owner, fault: Fault) -> Reading
+    ensures { λ r. ⌜ r ≡ refusedBy (carriedField orig (ownedIn owner fault)) ⌝ }
+{
+    let refusal = refusal_of(transaction::carried_by(orig, owned_in(owner, fault)));
     let row = components::blank();
     let mut rows = [row; 16];
     // One row is set at a place that the compiler does not know: so it copies the rows as a whole, and not field by field.
@@ -197,13 +210,6 @@ fn kind_of(first: u8) -> KindRead
         return KindRead::Kind(MessageKind::Abort);
     }
     KindRead::Unknown
-}
-
-// A refusal found behind the IDs.
-fn refused_behind(orig: OptionalOrig, fault: Fault) -> Reading
-    ensures { λ r. ⌜ r ≡ refusedBy (carriedField orig fault) ⌝ }
-{
-    refused(transaction::carried_by(orig, fault))
 }
 
 // Nothing may stand after 6C, of `size` octets, and then the message must be all there is. Its contents have `before` octets before 6C.
@@ -248,12 +254,16 @@ fn gather(head: Head, frame: Frame, rest: &[u8], before: usize, portion: Portion
         match element::end_at(left, portion.definite) {
             EndRead::Ended => {
                 if count == 0 {
-                    return refused_behind(orig, asking::found(FaultKind::Missing, here));
+                    return refused(
+                        orig,
+                        Owner::Portion,
+                        asking::found(FaultKind::Missing, here),
+                    );
                 }
                 let size = asking::whole_size(portion.at, portion.end, portion.definite, at);
                 match closing_at(frame, rest, before, size) {
                     Closing::Bad(fault) => {
-                        return refused_behind(orig, fault);
+                        return refused(orig, Owner::Portion, fault);
                     }
                     Closing::Whole => {
                         return Reading {
@@ -271,15 +281,19 @@ fn gather(head: Head, frame: Frame, rest: &[u8], before: usize, portion: Portion
                 }
             }
             EndRead::Unfinished => {
-                return refused_behind(orig, asking::found(FaultKind::CutOff, here));
+                return refused(orig, Owner::Portion, asking::found(FaultKind::CutOff, here));
             }
             EndRead::More => {
                 if count == 16 {
-                    return refused_behind(orig, asking::found(FaultKind::Seventeenth, here));
+                    return refused(
+                        orig,
+                        Owner::Portion,
+                        asking::found(FaultKind::Seventeenth, here),
+                    );
                 }
                 match components::header_at(left, here, count) {
                     Opened::Bad(fault) => {
-                        return refused_behind(orig, fault);
+                        return refused(orig, Owner::Portion, fault);
                     }
                     Opened::Open {
                         first,
@@ -290,7 +304,7 @@ fn gather(head: Head, frame: Frame, rest: &[u8], before: usize, portion: Portion
                         let inside = piece(left, from, to - from);
                         match components::contents_at(inside, here + from, inner, first) {
                             RowRead::Bad(fault) => {
-                                return refused_behind(orig, components::owned_by(fault, count));
+                                return refused(orig, Owner::Component(count), fault);
                             }
                             RowRead::Got { row: next, size } => {
                                 rows[count] = next;
@@ -314,7 +328,7 @@ fn rows_at(head: Head, frame: Frame, rest: &[u8], before: usize) -> Reading
         Entry::Bad(kind) => {
             let orig = head.orig;
             let here = frame.start + before;
-            refused_behind(orig, asking::found(kind, here))
+            refused(orig, Owner::Portion, asking::found(kind, here))
         }
         Entry::Open { at, end, definite } => {
             let portion = Portion {
@@ -338,7 +352,11 @@ fn bare(head: Head, frame: Frame, before: usize) -> Reading
     let dialogue = head.dialogue;
     let whole = asking::whole_size(frame.start, frame.end, frame.definite, before);
     if whole != frame.len {
-        return refused_behind(orig, asking::found(FaultKind::OctetsAfter, whole));
+        return refused(
+            orig,
+            Owner::Portion,
+            asking::found(FaultKind::OctetsAfter, whole),
+        );
     }
     let row = components::blank();
     let mut rows = [row; 16];
@@ -357,15 +375,27 @@ fn bare(head: Head, frame: Frame, before: usize) -> Reading
     }
 }
 
-// 6C, which may be left out.
-fn some_rows(head: Head, frame: Frame, rest: &[u8], before: usize) -> Reading
-    requires { ⌜ frame .start + before + length (now rest) ≤ 4096 ⌝ }
-    ensures { λ r. ⌜ r ≡ rowsRead head frame before (someRows (frame .definite) (frame .start + before) (now (rest .entry))) ⌝ }
+// Whether 6C may be left out here, and is.
+fn lacks_rows(rest: &[u8], definite: bool) -> bool
+    ensures { λ r. ⌜ r ≡ leftOut (endOf definite (now (rest .entry))) ⌝ }
 {
-    match element::end_at(rest, frame.definite) {
-        EndRead::Ended => bare(head, frame, before),
-        EndRead::Unfinished => rows_at(head, frame, rest, before),
-        EndRead::More => rows_at(head, frame, rest, before),
+    match element::end_at(rest, definite) {
+        EndRead::Ended => true,
+        EndRead::Unfinished => false,
+        EndRead::More => false,
+    }
+}
+
+// Whether a message of a kind has no components.
+fn is_bare(kind: MessageKind, rest: &[u8], definite: bool) -> bool
+    ensures { λ r. ⌜ r ≡ bareFor kind (endOf definite (now (rest .entry))) ⌝ }
+{
+    match kind {
+        MessageKind::Unidirectional => false,
+        MessageKind::Begin => lacks_rows(rest, definite),
+        MessageKind::End => lacks_rows(rest, definite),
+        MessageKind::Continue => lacks_rows(rest, definite),
+        MessageKind::Abort => true,
     }
 }
 
@@ -374,13 +404,10 @@ fn rows_for(kind: MessageKind, head: Head, frame: Frame, rest: &[u8], before: us
     requires { ⌜ frame .start + before + length (now rest) ≤ 4096 ⌝ }
     ensures { λ r. ⌜ r ≡ rowsRead head frame before (rowsFor kind (frame .definite) (frame .start + before) (now (rest .entry))) ⌝ }
 {
-    match kind {
-        MessageKind::Unidirectional => rows_at(head, frame, rest, before),
-        MessageKind::Begin => some_rows(head, frame, rest, before),
-        MessageKind::End => some_rows(head, frame, rest, before),
-        MessageKind::Continue => some_rows(head, frame, rest, before),
-        MessageKind::Abort => bare(head, frame, before),
+    if is_bare(kind, rest, frame.definite) {
+        return bare(head, frame, before);
     }
+    rows_at(head, frame, rest, before)
 }
 
 // The contents of a message of a kind.
@@ -389,7 +416,7 @@ fn record_at(kind: MessageKind, part: &[u8], frame: Frame) -> Reading
     ensures { λ r. ⌜ r ≡ finished (frame .len) (frame .start) (frame .end) (frame .definite) (recordRead kind (frame .definite) (frame .start) (now (part .entry))) ⌝ }
 {
     match transaction::head_at(kind, part, frame.start, frame.definite) {
-        HeadRead::Bad(fault) => refused(fault),
+        HeadRead::Bad(fault) => refused(OptionalOrig::NoOrig, Owner::Portion, fault),
         HeadRead::Got { head, size } => rows_for(kind, head, frame, after(part, size), size),
     }
 }
@@ -400,7 +427,11 @@ fn message_at(kind: MessageKind, message: &[u8]) -> Reading
     ensures { λ r. ⌜ r ≡ readAs kind (now (message .entry)) (innerOf (now (message .entry)) 1) ⌝ }
 {
     match asking::inner_at(message, 1) {
-        Entry::Bad(fault) => refused(asking::found(fault, 0)),
+        Entry::Bad(fault) => refused(
+            OptionalOrig::NoOrig,
+            Owner::Portion,
+            asking::found(fault, 0),
+        ),
         Entry::Open { at, end, definite } => {
             let frame = Frame {
                 start: at,
@@ -419,13 +450,25 @@ pub fn read(message: &[u8]) -> Reading
 {
     let len = message.len();
     if len > 255 {
-        return refused(asking::found(FaultKind::Overlong, 255));
+        return refused(
+            OptionalOrig::NoOrig,
+            Owner::Portion,
+            asking::found(FaultKind::Overlong, 255),
+        );
     }
     if len == 0 {
-        return refused(asking::found(FaultKind::CutOff, 0));
+        return refused(
+            OptionalOrig::NoOrig,
+            Owner::Portion,
+            asking::found(FaultKind::CutOff, 0),
+        );
     }
     match kind_of(message[0]) {
-        KindRead::Unknown => refused(asking::found(FaultKind::NoMessage, 0)),
+        KindRead::Unknown => refused(
+            OptionalOrig::NoOrig,
+            Owner::Portion,
+            asking::found(FaultKind::NoMessage, 0),
+        ),
         KindRead::Kind(kind) => message_at(kind, message),
     }
 }

@@ -108,22 +108,22 @@ module _ (d : Bool) (p : ℕ) (part : List ℕ) where
   stop-size l n r e f = stop-by l n (ask (stopping d p part) d p part) (item-takes (λ m. stop-reads m deepestLevel) 15 d p part) (stop-next d p part (nextOf d part) refl ∙ sym e ∙ f)
 
   -- the IDs
-  orig-by : (o : OptionalOrig) (e : OptionalDest) (n : ℕ) (x : IdRead) → x ≡ idGot (asked 0x48 d p part) → asOrig x ≡ IdsRead.Got o e n → n ≤ length part
+  orig-by : (o : OptionalOrig) (e : OptionalDest) (n : ℕ) (x : IdRead) → x ≡ idGot (asked 0x48 d p part) → asOrig p x ≡ IdsRead.Got o e n → n ≤ length part
   unfolding asOrig constructorOf
   orig-by o e n (IdRead.Got s k) q g = let z : k ≡ n = cc in rw z at (id-size 0x48 d p part refl s k _ q refl)
   orig-by o e n (IdRead.Bad f) q g = let z : _≡_ {A = ℕ} 0 1 = cc in absurd (omega arith)
 
-  dest-by : (o : OptionalOrig) (e : OptionalDest) (n : ℕ) (x : IdRead) → x ≡ idGot (asked 0x49 d p part) → asDest x ≡ IdsRead.Got o e n → n ≤ length part
+  dest-by : (o : OptionalOrig) (e : OptionalDest) (n : ℕ) (x : IdRead) → x ≡ idGot (asked 0x49 d p part) → asDest p x ≡ IdsRead.Got o e n → n ≤ length part
   unfolding asDest constructorOf
   dest-by o e n (IdRead.Got s k) q g = let z : k ≡ n = cc in rw z at (id-size 0x49 d p part refl s k _ q refl)
   dest-by o e n (IdRead.Bad f) q g = let z : _≡_ {A = ℕ} 0 1 = cc in absurd (omega arith)
 
-  second-by : (o : OptionalOrig) (e : OptionalDest) (n j : ℕ) (s : Span) (y : IdRead) → j ≤ length part → y ≡ idGot (asked 0x49 d (p + j) (drop j part)) → asSecond s j y ≡ IdsRead.Got o e n → n ≤ length part
+  second-by : (o : OptionalOrig) (e : OptionalDest) (n j : ℕ) (s : Span) (y : IdRead) → j ≤ length part → y ≡ idGot (asked 0x49 d (p + j) (drop j part)) → asSecond s j (p + j) y ≡ IdsRead.Got o e n → n ≤ length part
   unfolding asSecond constructorOf
   second-by o e n j s (IdRead.Got t k) h q g = let z : j + k ≡ n = cc in omega (arith, z, length-drop j part, id-size 0x49 d (p + j) (drop j part) refl t k _ q refl)
   second-by o e n j s (IdRead.Bad f) h q g = let z : _≡_ {A = ℕ} 0 1 = cc in absurd (omega arith)
 
-  both-by : (o : OptionalOrig) (e : OptionalDest) (n : ℕ) (x : IdRead) → x ≡ idGot (asked 0x48 d p part) → asBoth x (λ n. idGot (asked 0x49 d (p + n) (drop n part))) ≡ IdsRead.Got o e n → n ≤ length part
+  both-by : (o : OptionalOrig) (e : OptionalDest) (n : ℕ) (x : IdRead) → x ≡ idGot (asked 0x48 d p part) → asBoth p x (λ n. idGot (asked 0x49 d (p + n) (drop n part))) ≡ IdsRead.Got o e n → n ≤ length part
   unfolding asBoth constructorOf
   both-by o e n (IdRead.Got s k) q g = second-by o e n k s _ (id-size 0x48 d p part refl s k _ q refl) refl g
   both-by o e n (IdRead.Bad f) q g = let z : _≡_ {A = ℕ} 0 1 = cc in absurd (omega arith)

@@ -34,17 +34,21 @@ use tcap::TransactionId;
 // A transaction ID: its octets, and how many the element takes.
 pub enum IdRead {
     Got { octets: Span, size: usize },
-    Bad(Fault),
+    Bad(FaultKind),
 }
 
-// The IDs that a message begins with.
+// The IDs that a message begins with. A fault is told by all that is known of it here: a whole one would lie across the IDs in memory.
 pub enum IdsRead {
     Got {
         orig: OptionalOrig,
         dest: OptionalDest,
         size: usize,
     },
-    Bad(Fault),
+    Bad {
+        orig: OptionalOrig,
+        kind: FaultKind,
+        place: usize,
+    },
 }
 
 // What a message says before its components.
@@ -82,13 +86,13 @@ fn transaction_id(part: &[u8], place: usize, definite: bool, tag: u8) -> IdRead
     ensures { λ r. ⌜ r ≡ idGot (ask (front (levelAt deepestLevel 2) FaultKinds.Another (leafItem tag idOk)) definite place (now (part .entry))) ⌝ }
 {
     match asking::field_at(part, definite, tag) {
-        Field::Bad(kind) => IdRead::Bad(asking::found(kind, place)),
+        Field::Bad(kind) => IdRead::Bad(kind),
         Field::Contents { at, count } => {
             if count < 1 {
-                return IdRead::Bad(asking::found(FaultKind::BadContents, place));
+                return IdRead::Bad(FaultKind::BadContents);
             }
             if count > 4 {
-                return IdRead::Bad(asking::found(FaultKind::BadContents, place));
+                return IdRead::Bad(FaultKind::BadContents);
             }
             let octets = asking::span_at(place + at, count);
             let size = at + count;
@@ -118,7 +122,11 @@ fn orig_at(part: &[u8], place: usize, definite: bool) -> IdsRead
     ensures { λ r. ⌜ r ≡ idsGot (idsOf MessageKinds.Begin definite place (now (part .entry))) ⌝ }
 {
     match transaction_id(part, place, definite, 0x48) {
-        IdRead::Bad(fault) => IdsRead::Bad(fault),
+        IdRead::Bad(kind) => IdsRead::Bad {
+            orig: OptionalOrig::NoOrig,
+            kind: kind,
+            place: place,
+        },
         IdRead::Got { octets, size } => {
             let orig = orig_of(octets);
             IdsRead::Got {
@@ -136,7 +144,11 @@ fn dest_at(part: &[u8], place: usize, definite: bool) -> IdsRead
     ensures { λ r. ⌜ r ≡ idsGot (idsOf MessageKinds.End definite place (now (part .entry))) ⌝ }
 {
     match transaction_id(part, place, definite, 0x49) {
-        IdRead::Bad(fault) => IdsRead::Bad(fault),
+        IdRead::Bad(kind) => IdsRead::Bad {
+            orig: OptionalOrig::NoOrig,
+            kind: kind,
+            place: place,
+        },
         IdRead::Got { octets, size } => {
             let dest = dest_of(octets);
             IdsRead::Got {
@@ -154,11 +166,20 @@ fn both_at(part: &[u8], place: usize, definite: bool) -> IdsRead
     ensures { λ r. ⌜ r ≡ idsGot (idsOf MessageKinds.Continue definite place (now (part .entry))) ⌝ }
 {
     match transaction_id(part, place, definite, 0x48) {
-        IdRead::Bad(fault) => IdsRead::Bad(fault),
+        IdRead::Bad(kind) => IdsRead::Bad {
+            orig: OptionalOrig::NoOrig,
+            kind: kind,
+            place: place,
+        },
         IdRead::Got { octets, size } => {
             let orig = orig_of(octets);
-            match transaction_id(after(part, size), place + size, definite, 0x49) {
-                IdRead::Bad(fault) => IdsRead::Bad(with_orig(fault, orig)),
+            let here = place + size;
+            match transaction_id(after(part, size), here, definite, 0x49) {
+                IdRead::Bad(kind) => IdsRead::Bad {
+                    orig: orig,
+                    kind: kind,
+                    place: here,
+                },
                 IdRead::Got {
                     octets: second,
                     size: more,
@@ -357,7 +378,11 @@ pub fn head_at(kind: MessageKind, part: &[u8], place: usize, definite: bool) -> 
     ensures { λ r. ⌜ r ≡ headGot kind (headOf kind definite place (now (part .entry))) ⌝ }
 {
     match ids_at(kind, part, place, definite) {
-        IdsRead::Bad(fault) => HeadRead::Bad(fault),
+        IdsRead::Bad {
+            orig: early,
+            kind: fault,
+            place: there,
+        } => HeadRead::Bad(carried_by(early, asking::found(fault, there))),
         IdsRead::Got { orig, dest, size } => {
             match portion_for(kind, after(part, size), place + size, definite) {
                 DialogueRead::Bad(fault) => HeadRead::Bad(carried_by(orig, fault)),

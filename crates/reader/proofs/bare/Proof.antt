@@ -4,7 +4,7 @@ use native.Mathlib.Omega.{arith}
 use native.Mathlib.Nat.{add-zero}
 use borrow.Author.Needs.{needs}
 use borrow.Author.Tests.{eq-eqb, ne-eqb}
-use Rattle.reader.specs.Parts.{closingOf, closedWith, rowsRead}
+use Rattle.reader.specs.Parts.{ownedIn, closingOf, closedWith, rowsRead}
 use Rattle.reader.proofs.Gathered.{blank-set}
 use Rattle.reader.proofs.bare.Statement.{statement}
 use Rattle.reader.proofs.bare.Tie as tie
@@ -13,8 +13,8 @@ whole-size-requires : tie.Need-whole-size-requires
 whole-size-requires c κs = omega (arith, c .pre)
 
 returns : tie.Need-returns
-unfolding rowsRead closingOf closedWith
-returns c = rw (add-zero, ← (c .before .before .before .before .whole-size .ensures), ne-eqb _ _ (c .before .before .if1 .taken), c .refused-behind .ensures, c .before .found .ensures)
+unfolding rowsRead closingOf closedWith ownedIn
+returns c = rw (add-zero, ← (c .before .before .before .before .whole-size .ensures), ne-eqb _ _ (c .before .before .if1 .taken), c .refused .ensures, c .before .found .ensures)
 
 returns-2 : tie.Need-returns-2
 unfolding rowsRead closingOf closedWith
@@ -23,8 +23,8 @@ returns-2 c = rw (add-zero, ← (c .before .before .before .whole-size .ensures)
 found-requires : tie.Need-found-requires
 found-requires c κs = search needs
 
-refused-behind-requires : tie.Need-refused-behind-requires
-refused-behind-requires c κs = search needs
+refused-requires : tie.Need-refused-requires
+refused-requires c κs = search needs
 
 blank-requires : tie.Need-blank-requires
 blank-requires c κs = search needs
@@ -41,7 +41,7 @@ bare-spec =
     (tie.spec
     whole-size-requires
     found-requires
-    refused-behind-requires
+    refused-requires
     returns
     blank-requires
     mul-rows

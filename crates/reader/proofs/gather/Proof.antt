@@ -10,6 +10,7 @@ use Rattle.fields.proofs.Fits.{fit-got, fits-got}
 use Rattle.contents.proofs.Told.{row-bad, row-got}
 use Rattle.contents.proofs.Fitted.{component-fit}
 use Rattle.components.proofs.Chosen.{body-fits, header-bad, header-open, header-room, header-later, header-got}
+use Rattle.reader.specs.Parts.{ownedIn}
 use Rattle.reader.proofs.Gathered.{Left, left-all, closedAs, refused-by, more-missing, more-unfinished, more-full, more-bad, more-got, handed-out, blank-step, end-within, piece-bound, after-bound}
 use Rattle.reader.proofs.gather.Tie as tie
 
@@ -42,7 +43,8 @@ after-requires : tie.Need-after-requires Inv-loop μ-loop
 after-requires c κs = c .loop .inv .2
 
 returns : tie.Need-returns Inv-loop μ-loop
-returns c = rw (← (c .before .before .before .before .before .before .before .before .before .before .before .piece .ensures)) (refused-by _ _ _ _ _ _ (c .before .before .before .before .before .before .before .loop .inv .3) _ (c .before .before .before .before .before .before .after .ensures) _ _ _ _ _ _ (c .refused-behind .ensures) (_, more-missing _ _ _ _ _ _ (c .before .before .before .before .before .before .before .loop .inv .3) _ (c .before .before .before .before .before .before .after .ensures) _ (c .before .before .before .before .before .end-at .ensures) (c .before .before .before .enum-told .given .1) (c .before .before .if1 .taken), c .before .found .ensures))
+unfolding ownedIn
+returns c = rw (← (c .before .before .before .before .before .before .before .before .before .before .before .piece .ensures)) (refused-by _ _ _ _ _ _ (c .before .before .before .before .before .before .before .loop .inv .3) _ (c .before .before .before .before .before .before .after .ensures) _ _ _ _ _ _ (c .refused .ensures) (_, more-missing _ _ _ _ _ _ (c .before .before .before .before .before .before .before .loop .inv .3) _ (c .before .before .before .before .before .before .after .ensures) _ (c .before .before .before .before .before .end-at .ensures) (c .before .before .before .enum-told .given .1) (c .before .before .if1 .taken), c .before .found .ensures))
 
 whole-size-requires : tie.Need-whole-size-requires Inv-loop μ-loop
 whole-size-requires c κs = omega (arith, c .before .before .before .before .before .before .before .before .before .before .before .before .pre .0, c .before .before .before .before .before .before .before .before .before .before .before .before .pre .1, c .before .before .before .before .before .loop .inv .2, simp (length-take, length-drop) at (ap length (c .before .before .before .before .before .before .before .before .before .piece .ensures)))
@@ -51,21 +53,24 @@ closing-at-requires : tie.Need-closing-at-requires Inv-loop μ-loop
 closing-at-requires c κs = (c .before .before .before .before .before .before .before .before .before .before .before .before .before .pre .0, rw (c .whole-size .ensures) (end-within _ _ _ _ _ _ _ _ (c .before .before .before .before .before .before .before .before .before .before .piece .ensures) (c .before .before .before .before .before .before .before .before .before .before .before .before .before .pre .1 .0) (c .before .before .before .before .before .before .before .before .before .before .before .before .before .pre .1 .1) (c .before .before .before .before .before .before .loop .inv .2) (c .before .before .before .before .before .after .ensures) (c .before .before .before .before .end-at .ensures) (c .before .before .enum-told .given .1)))
 
 returns-2 : tie.Need-returns-2 Inv-loop μ-loop
-unfolding closedAs
-returns-2 c = rw (← (c .before .before .before .before .before .before .before .before .before .before .before .before .before .before .before .piece .ensures), handed-out _ _ _ _ _ _ (c .before .before .before .before .before .before .before .before .before .before .before .loop .inv .3) _ (c .before .before .before .before .before .before .before .before .before .before .after .ensures) _ (c .before .before .before .before .before .before .before .before .before .end-at .ensures) _ _ _ _ _ (c .before .before .before .before .before .before .before .enum-told .given .1) (c .before .before .before .before .before .before .if1 .left) (c .before .before .before .before .before .before .before .before .before .before .before .loop .inv .0) (c .before .before .before .before .before .before .before .before .before .before .before .loop .inv .1) (c .before .before .before .before .before .before .before .before .before .before .before .loop .inv .4), ← (c .before .before .before .before .before .whole-size .ensures), ← (c .before .before .before .before .closing-at .ensures), c .before .before .fault .given .1) (c .refused-behind2 .ensures)
+unfolding closedAs ownedIn
+returns-2 c = rw (← (c .before .before .before .before .before .before .before .before .before .before .before .before .before .before .before .piece .ensures), handed-out _ _ _ _ _ _ (c .before .before .before .before .before .before .before .before .before .before .before .loop .inv .3) _ (c .before .before .before .before .before .before .before .before .before .before .after .ensures) _ (c .before .before .before .before .before .before .before .before .before .end-at .ensures) _ _ _ _ _ (c .before .before .before .before .before .before .before .enum-told .given .1) (c .before .before .before .before .before .before .if1 .left) (c .before .before .before .before .before .before .before .before .before .before .before .loop .inv .0) (c .before .before .before .before .before .before .before .before .before .before .before .loop .inv .1) (c .before .before .before .before .before .before .before .before .before .before .before .loop .inv .4), ← (c .before .before .before .before .before .whole-size .ensures), ← (c .before .before .before .before .closing-at .ensures), c .before .before .fault .given .1) (c .refused2 .ensures)
 
 returns-3 : tie.Need-returns-3 Inv-loop μ-loop
 unfolding closedAs
 returns-3 c = rw (← (c .before .before .before .before .before .before .before .before .before .before .before .before .before .piece .ensures), handed-out _ _ _ _ _ _ (c .before .before .before .before .before .before .before .before .before .loop .inv .3) _ (c .before .before .before .before .before .before .before .before .after .ensures) _ (c .before .before .before .before .before .before .before .end-at .ensures) _ _ _ _ _ (c .before .before .before .before .before .enum-told .given .1) (c .before .before .before .before .if1 .left) (c .before .before .before .before .before .before .before .before .before .loop .inv .0) (c .before .before .before .before .before .before .before .before .before .loop .inv .1) (c .before .before .before .before .before .before .before .before .before .loop .inv .4), ← (c .before .before .before .whole-size .ensures), ← (c .before .before .closing-at .ensures), c .enum-told2 .given .1)
 
 returns-4 : tie.Need-returns-4 Inv-loop μ-loop
-returns-4 c = rw (← (c .before .before .before .before .before .before .before .before .before .before .piece .ensures)) (refused-by _ _ _ _ _ _ (c .before .before .before .before .before .before .loop .inv .3) _ (c .before .before .before .before .before .after .ensures) _ _ _ _ _ _ (c .refused-behind3 .ensures) (_, more-unfinished _ _ _ _ _ _ (c .before .before .before .before .before .before .loop .inv .3) _ (c .before .before .before .before .before .after .ensures) _ (c .before .before .before .before .end-at .ensures) (c .before .before .enum-told3 .given .1), c .before .found2 .ensures))
+unfolding ownedIn
+returns-4 c = rw (← (c .before .before .before .before .before .before .before .before .before .before .piece .ensures)) (refused-by _ _ _ _ _ _ (c .before .before .before .before .before .before .loop .inv .3) _ (c .before .before .before .before .before .after .ensures) _ _ _ _ _ _ (c .refused3 .ensures) (_, more-unfinished _ _ _ _ _ _ (c .before .before .before .before .before .before .loop .inv .3) _ (c .before .before .before .before .before .after .ensures) _ (c .before .before .before .before .end-at .ensures) (c .before .before .enum-told3 .given .1), c .before .found2 .ensures))
 
 returns-5 : tie.Need-returns-5 Inv-loop μ-loop
-returns-5 c = rw (← (c .before .before .before .before .before .before .before .before .before .before .before .piece .ensures)) (refused-by _ _ _ _ _ _ (c .before .before .before .before .before .before .before .loop .inv .3) _ (c .before .before .before .before .before .before .after .ensures) _ _ _ _ _ _ (c .refused-behind4 .ensures) (_, more-full _ _ _ _ _ _ (c .before .before .before .before .before .before .before .loop .inv .3) _ (c .before .before .before .before .before .before .after .ensures) _ (c .before .before .before .before .before .end-at .ensures) (c .before .before .before .enum-told4 .given .1) (c .before .before .if2 .taken), c .before .found3 .ensures))
+unfolding ownedIn
+returns-5 c = rw (← (c .before .before .before .before .before .before .before .before .before .before .before .piece .ensures)) (refused-by _ _ _ _ _ _ (c .before .before .before .before .before .before .before .loop .inv .3) _ (c .before .before .before .before .before .before .after .ensures) _ _ _ _ _ _ (c .refused4 .ensures) (_, more-full _ _ _ _ _ _ (c .before .before .before .before .before .before .before .loop .inv .3) _ (c .before .before .before .before .before .before .after .ensures) _ (c .before .before .before .before .before .end-at .ensures) (c .before .before .before .enum-told4 .given .1) (c .before .before .if2 .taken), c .before .found3 .ensures))
 
 returns-6 : tie.Need-returns-6 Inv-loop μ-loop
-returns-6 c = rw (← (c .before .before .before .before .before .before .before .before .before .before .before .before .before .before .piece .ensures)) (refused-by _ _ _ _ _ _ (c .before .before .before .before .before .before .before .before .before .before .loop .inv .3) _ (c .before .before .before .before .before .before .before .before .before .after .ensures) _ _ _ _ _ _ (c .refused-behind5 .ensures) (more-bad _ _ _ _ _ _ (c .before .before .before .before .before .before .before .before .before .before .loop .inv .3) _ (c .before .before .before .before .before .before .before .before .before .after .ensures) _ (c .before .before .before .before .before .before .before .before .end-at .ensures) (c .before .before .before .before .before .before .enum-told4 .given .1) (omega (arith, c .before .before .before .before .before .before .before .before .before .before .loop .inv .0, c .before .before .before .before .before .if2 .left)) (header-bad _ _ _ _ (c .before .before .before .before .header-at .ensures) _ (c .before .before .fault2 .given .1))))
+unfolding ownedIn
+returns-6 c = rw (← (c .before .before .before .before .before .before .before .before .before .before .before .before .before .before .piece .ensures)) (refused-by _ _ _ _ _ _ (c .before .before .before .before .before .before .before .before .before .before .loop .inv .3) _ (c .before .before .before .before .before .before .before .before .before .after .ensures) _ _ _ _ _ _ (c .refused5 .ensures) (more-bad _ _ _ _ _ _ (c .before .before .before .before .before .before .before .before .before .before .loop .inv .3) _ (c .before .before .before .before .before .before .before .before .before .after .ensures) _ (c .before .before .before .before .before .before .before .before .end-at .ensures) (c .before .before .before .before .before .before .enum-told4 .given .1) (omega (arith, c .before .before .before .before .before .before .before .before .before .before .loop .inv .0, c .before .before .before .before .before .if2 .left)) (header-bad _ _ _ _ (c .before .before .before .before .header-at .ensures) _ (c .before .before .fault2 .given .1))))
 
 sub-piece-2 : tie.Need-sub-piece-2 Inv-loop μ-loop
 sub-piece-2 c = header-room _ _ _ _ _ _ _ (header-open _ _ _ _ (c .before .before .before .header-at .ensures) _ _ _ _ (c .before .first .given .1)) .0
@@ -80,7 +85,8 @@ contents-at-requires : tie.Need-contents-at-requires Inv-loop μ-loop
 contents-at-requires c κs = omega (arith, c .before .before .before .before .before .before .before .before .before .before .before .before .before .before .before .before .before .pre .0, piece-bound _ _ _ _ (c .before .before .before .before .before .before .before .before .before .before .before .before .before .before .piece .ensures) (c .before .before .before .before .before .before .before .before .before .before .before .before .before .before .before .before .before .pre .1 .0) (c .before .before .before .before .before .before .before .before .before .before .before .before .before .before .before .before .before .pre .1 .1), after-bound _ _ _ (c .before .before .before .before .before .before .before .before .before .after .ensures) (c .before .before .before .before .before .before .before .before .before .before .loop .inv .2), piece-bound _ _ _ _ (c .piece2 .ensures) (header-room _ _ _ _ _ _ _ (header-open _ _ _ _ (c .before .before .before .before .header-at .ensures) _ _ _ _ (c .before .before .first .given .1)) .0) (header-room _ _ _ _ _ _ _ (header-open _ _ _ _ (c .before .before .before .before .header-at .ensures) _ _ _ _ (c .before .before .first .given .1)) .1))
 
 returns-7 : tie.Need-returns-7 Inv-loop μ-loop
-returns-7 c = rw (← (c .before .before .before .before .before .before .before .before .before .before .before .before .before .before .before .before .before .before .before .before .piece .ensures)) (refused-by _ _ _ _ _ _ (c .before .before .before .before .before .before .before .before .before .before .before .before .before .before .before .before .loop .inv .3) _ (c .before .before .before .before .before .before .before .before .before .before .before .before .before .before .before .after .ensures) _ _ _ _ _ _ (c .refused-behind6 .ensures) (more-bad _ _ _ _ _ _ (c .before .before .before .before .before .before .before .before .before .before .before .before .before .before .before .before .loop .inv .3) _ (c .before .before .before .before .before .before .before .before .before .before .before .before .before .before .before .after .ensures) _ (c .before .before .before .before .before .before .before .before .before .before .before .before .before .before .end-at .ensures) (c .before .before .before .before .before .before .before .before .before .before .before .before .enum-told4 .given .1) (omega (arith, c .before .before .before .before .before .before .before .before .before .before .before .before .before .before .before .before .loop .inv .0, c .before .before .before .before .before .before .before .before .before .before .before .if2 .left)) (header-later _ _ _ _ _ _ _ (header-open _ _ _ _ (c .before .before .before .before .before .before .before .before .before .before .header-at .ensures) _ _ _ _ (c .before .before .before .before .before .before .before .before .first .given .1)) _ (c .before .before .before .before .before .before .piece2 .ensures) (c .before .owned-by .ensures) (row-bad _ _ (c .before .before .before .before .before .contents-at .ensures) _ (c .before .before .before .fault3 .given .1)))))
+unfolding ownedIn
+returns-7 c = rw (← (c .before .before .before .before .before .before .before .before .before .before .before .before .before .before .before .before .before .before .before .piece .ensures)) (refused-by _ _ _ _ _ _ (c .before .before .before .before .before .before .before .before .before .before .before .before .before .before .before .loop .inv .3) _ (c .before .before .before .before .before .before .before .before .before .before .before .before .before .before .after .ensures) _ _ _ _ _ _ (c .refused6 .ensures) (more-bad _ _ _ _ _ _ (c .before .before .before .before .before .before .before .before .before .before .before .before .before .before .before .loop .inv .3) _ (c .before .before .before .before .before .before .before .before .before .before .before .before .before .before .after .ensures) _ (c .before .before .before .before .before .before .before .before .before .before .before .before .before .end-at .ensures) (c .before .before .before .before .before .before .before .before .before .before .before .enum-told4 .given .1) (omega (arith, c .before .before .before .before .before .before .before .before .before .before .before .before .before .before .before .loop .inv .0, c .before .before .before .before .before .before .before .before .before .before .if2 .left)) (header-later _ _ _ _ _ _ _ (header-open _ _ _ _ (c .before .before .before .before .before .before .before .before .before .header-at .ensures) _ _ _ _ (c .before .before .before .before .before .before .before .first .given .1)) _ (c .before .before .before .before .before .piece2 .ensures) refl (row-bad _ _ (c .before .before .before .before .contents-at .ensures) _ (c .before .before .fault3 .given .1)))))
 
 whole-size-requires-2 : tie.Need-whole-size-requires-2 Inv-loop μ-loop
 whole-size-requires-2 c κs = omega (arith, c .before .before .before .before .before .before .before .before .before .before .before .before .before .before .before .before .before .before .before .before .before .pre .0, piece-bound _ _ _ _ (c .before .before .before .before .before .before .before .before .before .before .before .before .before .before .before .before .before .before .piece .ensures) (c .before .before .before .before .before .before .before .before .before .before .before .before .before .before .before .before .before .before .before .before .before .pre .1 .0) (c .before .before .before .before .before .before .before .before .before .before .before .before .before .before .before .before .before .before .before .before .before .pre .1 .1), after-bound _ _ _ (c .before .before .before .before .before .before .before .before .before .before .before .before .before .after .ensures) (c .before .before .before .before .before .before .before .before .before .before .before .before .before .before .loop .inv .2), piece-bound _ _ _ _ (c .before .before .before .before .piece2 .ensures) (header-room _ _ _ _ _ _ _ (header-open _ _ _ _ (c .before .before .before .before .before .before .before .before .header-at .ensures) _ _ _ _ (c .before .before .before .before .before .before .first .given .1)) .0) (header-room _ _ _ _ _ _ _ (header-open _ _ _ _ (c .before .before .before .before .before .before .before .before .header-at .ensures) _ _ _ _ (c .before .before .before .before .before .before .first .given .1)) .1), fits-got _ _ _ (body-fits _) (row-got _ _ (c .before .before .before .contents-at .ensures) _ _ (c .before .next .given .1)))
@@ -109,14 +115,14 @@ enum-told c = search needs
 found-requires : tie.Need-found-requires Inv-loop μ-loop
 found-requires c κs = search needs
 
-refused-behind-requires : tie.Need-refused-behind-requires Inv-loop μ-loop
-refused-behind-requires c κs = search needs
+refused-requires : tie.Need-refused-requires Inv-loop μ-loop
+refused-requires c κs = search needs
 
 enum-known-fault : tie.Need-enum-known-fault Inv-loop μ-loop
 enum-known-fault c = search needs
 
-refused-behind-requires-2 : tie.Need-refused-behind-requires-2 Inv-loop μ-loop
-refused-behind-requires-2 c κs = search needs
+refused-requires-2 : tie.Need-refused-requires-2 Inv-loop μ-loop
+refused-requires-2 c κs = search needs
 
 enum-told-2 : tie.Need-enum-told-2 Inv-loop μ-loop
 enum-told-2 c = search needs
@@ -127,8 +133,8 @@ enum-told-3 c = search needs
 found-requires-2 : tie.Need-found-requires-2 Inv-loop μ-loop
 found-requires-2 c κs = search needs
 
-refused-behind-requires-3 : tie.Need-refused-behind-requires-3 Inv-loop μ-loop
-refused-behind-requires-3 c κs = search needs
+refused-requires-3 : tie.Need-refused-requires-3 Inv-loop μ-loop
+refused-requires-3 c κs = search needs
 
 enum-told-4 : tie.Need-enum-told-4 Inv-loop μ-loop
 enum-told-4 c = search needs
@@ -136,8 +142,8 @@ enum-told-4 c = search needs
 found-requires-3 : tie.Need-found-requires-3 Inv-loop μ-loop
 found-requires-3 c κs = search needs
 
-refused-behind-requires-4 : tie.Need-refused-behind-requires-4 Inv-loop μ-loop
-refused-behind-requires-4 c κs = search needs
+refused-requires-4 : tie.Need-refused-requires-4 Inv-loop μ-loop
+refused-requires-4 c κs = search needs
 
 header-at-requires : tie.Need-header-at-requires Inv-loop μ-loop
 header-at-requires c κs = search needs
@@ -145,8 +151,8 @@ header-at-requires c κs = search needs
 enum-known-fault-2 : tie.Need-enum-known-fault-2 Inv-loop μ-loop
 enum-known-fault-2 c = search needs
 
-refused-behind-requires-5 : tie.Need-refused-behind-requires-5 Inv-loop μ-loop
-refused-behind-requires-5 c κs = search needs
+refused-requires-5 : tie.Need-refused-requires-5 Inv-loop μ-loop
+refused-requires-5 c κs = search needs
 
 enum-known-first : tie.Need-enum-known-first Inv-loop μ-loop
 enum-known-first c = search needs
@@ -154,11 +160,8 @@ enum-known-first c = search needs
 enum-known-fault-3 : tie.Need-enum-known-fault-3 Inv-loop μ-loop
 enum-known-fault-3 c = search needs
 
-owned-by-requires : tie.Need-owned-by-requires Inv-loop μ-loop
-owned-by-requires c κs = search needs
-
-refused-behind-requires-6 : tie.Need-refused-behind-requires-6 Inv-loop μ-loop
-refused-behind-requires-6 c κs = search needs
+refused-requires-6 : tie.Need-refused-requires-6 Inv-loop μ-loop
+refused-requires-6 c κs = search needs
 
 enum-known-next : tie.Need-enum-known-next Inv-loop μ-loop
 enum-known-next c = search needs
@@ -192,26 +195,26 @@ gather-spec =
     end-at-requires
     enum-told
     found-requires
-    refused-behind-requires
+    refused-requires
     returns
     whole-size-requires
     closing-at-requires
     enum-known-fault
-    refused-behind-requires-2
+    refused-requires-2
     returns-2
     enum-told-2
     returns-3
     enum-told-3
     found-requires-2
-    refused-behind-requires-3
+    refused-requires-3
     returns-4
     enum-told-4
     found-requires-3
-    refused-behind-requires-4
+    refused-requires-4
     returns-5
     header-at-requires
     enum-known-fault-2
-    refused-behind-requires-5
+    refused-requires-5
     returns-6
     enum-known-first
     sub-piece-2
@@ -219,8 +222,7 @@ gather-spec =
     add-contents-at
     contents-at-requires
     enum-known-fault-3
-    owned-by-requires
-    refused-behind-requires-6
+    refused-requires-6
     returns-7
     enum-known-next
     mul-rows

@@ -1,6 +1,7 @@
 -- `read` meets its contract. Assumes nothing.
 use borrow.Author.Tests.{lt-ltb, le-ltb, eq-eqb, ne-eqb}
-use Rattle.reader.specs.Parts.{readMessage, readKind}
+use Rattle.transaction.specs.Head.{carriedField}
+use Rattle.reader.specs.Parts.{ownedIn, readMessage, readKind}
 use Rattle.reader.proofs.Whole.{read-as-told}
 use borrow.Author.Needs.{needs}
 use Rattle.reader.proofs.read.Statement.{statement}
@@ -13,7 +14,7 @@ refused-requires : tie.Need-refused-requires
 refused-requires c κs = search needs
 
 returns : tie.Need-returns
-unfolding readMessage
+unfolding readMessage carriedField ownedIn
 returns c = read-as-told _ _ (rw (lt-ltb _ _ (c .before .before .if1 .taken), c .refused .ensures, c .before .found .ensures))
 
 found-requires-2 : tie.Need-found-requires-2
@@ -23,7 +24,7 @@ refused-requires-2 : tie.Need-refused-requires-2
 refused-requires-2 c κs = search needs
 
 returns-2 : tie.Need-returns-2
-unfolding readMessage
+unfolding readMessage carriedField ownedIn
 returns-2 c = read-as-told _ _ (rw (le-ltb _ _ (c .before .before .before .if1 .left), eq-eqb _ _ (c .before .before .if2 .taken), c .refused2 .ensures, c .before .found2 .ensures))
 
 shared-slice-read-kind-of : tie.Need-shared-slice-read-kind-of
@@ -48,7 +49,7 @@ message-at-requires : tie.Need-message-at-requires
 message-at-requires c κs = search needs
 
 returns-3 : tie.Need-returns-3
-unfolding readMessage readKind
+unfolding readMessage readKind carriedField ownedIn
 returns-3 c = read-as-told _ _ (rw (le-ltb _ _ (c .before .before .before .before .before .before .before .if1 .left), ne-eqb _ _ (c .before .before .before .before .before .before .if2 .left), ← (c .before .before .before .before .kind-of .ensures), c .before .before .enum-told .given .1, c .refused3 .ensures, c .before .found3 .ensures))
 
 returns-4 : tie.Need-returns-4

@@ -3,7 +3,9 @@ use mathlib.Core.Path.{sym, ap, _∙_}
 use native.Mathlib.Omega.{arith}
 use lib.ListN.{length, length-drop}
 use borrow.Author.Needs.{needs}
+use Rattle.transaction.specs.Head.{carriedField}
 use Rattle.transaction.proofs.Heads.{head-size}
+use Rattle.reader.specs.Parts.{ownedIn}
 use Rattle.reader.proofs.Rows.{readBy, record-law}
 use Rattle.reader.proofs.record_at.Statement.{statement}
 use Rattle.reader.proofs.record_at.Tie as tie
@@ -15,7 +17,7 @@ rows-for-requires : tie.Need-rows-for-requires
 rows-for-requires c κs = omega (arith, c .before .before .before .before .before .before .pre, head-size _ _ _ _ _ _ _ (c .before .before .before .before .head-at .ensures) (c .before .before .head .given .1), simp length-drop at (ap length (c .after .ensures)))
 
 returns : tie.Need-returns
-unfolding readBy
+unfolding readBy carriedField ownedIn
 returns c = rw (record-law, ← (c .before .before .before .before .head-at .ensures), c .before .before .fault .given .1) (c .refused .ensures)
 
 returns-2 : tie.Need-returns-2

@@ -7,7 +7,13 @@ use Rattle.reader.proofs.refused.Tie as tie
 
 returns : tie.Need-returns
 unfolding refusedBy
-returns c = rw (c .before .before .refusal-of .ensures, c .before .blank .ensures, blank-set 16)
+returns c = rw (c .before .before .refusal-of .ensures, c .before .before .before .carried-by .ensures, c .before .before .before .before .owned-in .ensures, c .before .blank .ensures, blank-set 16)
+
+owned-in-requires : tie.Need-owned-in-requires
+owned-in-requires c κs = search needs
+
+carried-by-requires : tie.Need-carried-by-requires
+carried-by-requires c κs = search needs
 
 refusal-of-requires : tie.Need-refusal-of-requires
 refusal-of-requires c κs = search needs
@@ -25,6 +31,8 @@ pub refused-spec : {M : Type 1} → statement M
 refused-spec =
     tie.close
     (tie.spec
+    owned-in-requires
+    carried-by-requires
     refusal-of-requires
     blank-requires
     mul-rows

@@ -3,6 +3,7 @@ use mathlib.Core.Path.{sym, ap, _∙_}
 use native.Mathlib.Omega.{arith}
 use borrow.Author.Needs.{needs}
 use Rattle.asking.proofs.Sizes.{entry-size}
+use Rattle.reader.specs.Parts.{ownedIn}
 use Rattle.reader.proofs.Rows.{rowsIn, rows-law}
 use Rattle.reader.proofs.rows_at.Statement.{statement}
 use Rattle.reader.proofs.rows_at.Tie as tie
@@ -11,8 +12,8 @@ gather-requires : tie.Need-gather-requires
 gather-requires c κs = (c .before .before .before .before .before .pre, (entry-size _ _ _ _ _ _ (sym (c .before .before .before .entry-at .ensures) ∙ c .before .at .given .1) .1, entry-size _ _ _ _ _ _ (sym (c .before .before .before .entry-at .ensures) ∙ c .before .at .given .1) .2))
 
 returns : tie.Need-returns
-unfolding rowsIn
-returns c = rw (rows-law, ← (c .before .before .before .before .before .before .entry-at .ensures), c .before .before .before .before .kind .given .1, c .refused-behind .ensures, c .before .found .ensures)
+unfolding rowsIn ownedIn
+returns c = rw (rows-law, ← (c .before .before .before .before .before .before .entry-at .ensures), c .before .before .before .before .kind .given .1, c .refused .ensures, c .before .found .ensures)
 
 returns-2 : tie.Need-returns-2
 unfolding rowsIn
@@ -30,8 +31,8 @@ add-here c = search needs
 found-requires : tie.Need-found-requires
 found-requires c κs = search needs
 
-refused-behind-requires : tie.Need-refused-behind-requires
-refused-behind-requires c κs = search needs
+refused-requires : tie.Need-refused-requires
+refused-requires c κs = search needs
 
 enum-known-at : tie.Need-enum-known-at
 enum-known-at c = search needs
@@ -44,7 +45,7 @@ rows-at-spec =
     enum-known-kind
     add-here
     found-requires
-    refused-behind-requires
+    refused-requires
     enum-known-at
     gather-requires
     returns

@@ -12,8 +12,8 @@ transaction-id-requires : tie.Need-transaction-id-requires
 unfolding constructorOf
 transaction-id-requires c κs = (c .before .pre, refl)
 
-enum-known-fault : tie.Need-enum-known-fault
-enum-known-fault c = search needs
+enum-known-kind : tie.Need-enum-known-kind
+enum-known-kind c = search needs
 
 enum-known-octets : tie.Need-enum-known-octets
 enum-known-octets c = search needs
@@ -21,23 +21,20 @@ enum-known-octets c = search needs
 orig-of-requires : tie.Need-orig-of-requires
 orig-of-requires c κs = search needs
 
+add-here : tie.Need-add-here
+unfolding constructorOf
+add-here c = omega (arith, c .before .before .before .before .before .before .pre, id-size _ _ _ _ refl _ _ _ (c .before .before .before .before .transaction-id .ensures) (c .before .before .octets .given .1))
+
 after-requires : tie.Need-after-requires
 unfolding constructorOf
 after-requires c κs = id-size _ _ _ _ refl _ _ _ (c .before .before .before .before .transaction-id .ensures) (c .before .before .octets .given .1)
-
-add-transaction-id : tie.Need-add-transaction-id
-unfolding constructorOf
-add-transaction-id c = omega (arith, c .before .before .before .before .before .before .before .pre, id-size _ _ _ _ refl _ _ _ (c .before .before .before .before .before .transaction-id .ensures) (c .before .before .before .octets .given .1))
 
 transaction-id-requires-2 : tie.Need-transaction-id-requires-2
 unfolding constructorOf
 transaction-id-requires-2 c κs = (omega (arith, c .before .before .before .before .before .before .before .pre, id-size _ _ _ _ refl _ _ _ (c .before .before .before .before .before .transaction-id .ensures) (c .before .before .before .octets .given .1), simp length-drop at (ap length (c .after .ensures))), refl)
 
-enum-known-fault-2 : tie.Need-enum-known-fault-2
-enum-known-fault-2 c = search needs
-
-with-orig-requires : tie.Need-with-orig-requires
-with-orig-requires c κs = search needs
+enum-known-kind-2 : tie.Need-enum-known-kind-2
+enum-known-kind-2 c = search needs
 
 enum-known-second : tie.Need-enum-known-second
 enum-known-second c = search needs
@@ -51,11 +48,11 @@ add-both c = omega (arith, c .before .before .before .before .before .before .be
 
 returns : tie.Need-returns
 unfolding asBoth
-returns c = rw (continue-ids, ← (c .before .before .before .transaction-id .ensures), c .before .fault .given .1)
+returns c = rw (continue-ids, ← (c .before .before .before .transaction-id .ensures), c .before .kind .given .1)
 
 returns-2 : tie.Need-returns-2
 unfolding asBoth asSecond
-returns-2 c = rw (continue-ids, ← (c .before .before .before .before .before .before .before .before .before .before .transaction-id .ensures), c .before .before .before .before .before .before .before .before .octets .given .1, ← (c .before .before .before .before .before .after .ensures), ← (c .before .before .before .before .transaction-id2 .ensures), c .before .before .fault2 .given .1, c .with-orig .ensures, c .before .before .before .before .before .before .orig-of .ensures)
+returns-2 c = rw (continue-ids, ← (c .before .before .before .before .before .before .before .before .before .transaction-id .ensures), c .before .before .before .before .before .before .before .octets .given .1, ← (c .before .before .before .before .after .ensures), ← (c .before .before .before .transaction-id2 .ensures), c .before .kind2 .given .1, c .before .before .before .before .before .orig-of .ensures)
 
 returns-3 : tie.Need-returns-3
 unfolding asBoth asSecond
@@ -66,14 +63,13 @@ both-at-spec =
     tie.close
     (tie.spec
     transaction-id-requires
-    enum-known-fault
+    enum-known-kind
     enum-known-octets
     orig-of-requires
+    add-here
     after-requires
-    add-transaction-id
     transaction-id-requires-2
-    enum-known-fault-2
-    with-orig-requires
+    enum-known-kind-2
     enum-known-second
     dest-of-requires
     add-both

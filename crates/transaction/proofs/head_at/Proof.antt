@@ -11,8 +11,14 @@ use Rattle.transaction.proofs.head_at.Tie as tie
 ids-at-requires : tie.Need-ids-at-requires
 ids-at-requires c κs = search needs
 
-enum-known-fault : tie.Need-enum-known-fault
-enum-known-fault c = search needs
+enum-known-early : tie.Need-enum-known-early
+enum-known-early c = search needs
+
+found-requires : tie.Need-found-requires
+found-requires c κs = search needs
+
+carried-by-requires : tie.Need-carried-by-requires
+carried-by-requires c κs = search needs
 
 enum-known-orig : tie.Need-enum-known-orig
 enum-known-orig c = search needs
@@ -26,11 +32,11 @@ add-portion-for c = omega (arith, c .before .before .before .before .before .bef
 portion-for-requires : tie.Need-portion-for-requires
 portion-for-requires c κs = omega (arith, c .before .before .before .before .before .before .pre, ids-size _ _ _ _ _ _ _ _ (c .before .before .before .before .ids-at .ensures) (c .before .before .orig .given .1), simp length-drop at (ap length (c .after .ensures)))
 
-enum-known-fault-2 : tie.Need-enum-known-fault-2
-enum-known-fault-2 c = search needs
+enum-known-fault : tie.Need-enum-known-fault
+enum-known-fault c = search needs
 
-carried-by-requires : tie.Need-carried-by-requires
-carried-by-requires c κs = search needs
+carried-by-requires-2 : tie.Need-carried-by-requires-2
+carried-by-requires-2 c κs = search needs
 
 enum-known-dialogue : tie.Need-enum-known-dialogue
 enum-known-dialogue c = search needs
@@ -40,11 +46,11 @@ add-whole c = omega (arith, c .before .before .before .before .before .before .b
 
 returns : tie.Need-returns
 unfolding headBy headWith
-returns c = rw (head-law, ← (c .before .before .before .ids-at .ensures), c .before .fault .given .1)
+returns c = rw (head-law, ← (c .before .before .before .before .before .ids-at .ensures), c .before .before .before .early .given .1, c .carried-by .ensures, c .before .found .ensures)
 
 returns-2 : tie.Need-returns-2
 unfolding headBy headWith
-returns-2 c = rw (head-law, ← (c .before .before .before .before .before .before .before .before .before .ids-at .ensures), c .before .before .before .before .before .before .before .orig .given .1, ← (c .before .before .before .before .before .after .ensures), ← (c .before .before .before .before .portion-for .ensures), c .before .before .fault2 .given .1, c .carried-by .ensures)
+returns-2 c = rw (head-law, ← (c .before .before .before .before .before .before .before .before .before .ids-at .ensures), c .before .before .before .before .before .before .before .orig .given .1, ← (c .before .before .before .before .before .after .ensures), ← (c .before .before .before .before .portion-for .ensures), c .before .before .fault .given .1, c .carried-by2 .ensures)
 
 returns-3 : tie.Need-returns-3
 unfolding headBy headWith
@@ -55,13 +61,15 @@ head-at-spec =
     tie.close
     (tie.spec
     ids-at-requires
-    enum-known-fault
+    enum-known-early
+    found-requires
+    carried-by-requires
     enum-known-orig
     after-requires
     add-portion-for
     portion-for-requires
-    enum-known-fault-2
-    carried-by-requires
+    enum-known-fault
+    carried-by-requires-2
     enum-known-dialogue
     add-whole
     returns

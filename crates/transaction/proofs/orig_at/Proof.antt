@@ -10,8 +10,8 @@ transaction-id-requires : tie.Need-transaction-id-requires
 unfolding constructorOf
 transaction-id-requires c κs = (c .before .pre, refl)
 
-enum-known-fault : tie.Need-enum-known-fault
-enum-known-fault c = search needs
+enum-known-kind : tie.Need-enum-known-kind
+enum-known-kind c = search needs
 
 enum-known-octets : tie.Need-enum-known-octets
 enum-known-octets c = search needs
@@ -21,7 +21,7 @@ orig-of-requires c κs = search needs
 
 returns : tie.Need-returns
 unfolding asOrig
-returns c = rw (begin-ids, ← (c .before .before .before .transaction-id .ensures), c .before .fault .given .1)
+returns c = rw (begin-ids, ← (c .before .before .before .transaction-id .ensures), c .before .kind .given .1)
 
 returns-2 : tie.Need-returns-2
 unfolding asOrig
@@ -32,7 +32,7 @@ orig-at-spec =
     tie.close
     (tie.spec
     transaction-id-requires
-    enum-known-fault
+    enum-known-kind
     enum-known-octets
     orig-of-requires
     returns

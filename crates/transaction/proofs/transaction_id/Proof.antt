@@ -13,23 +13,14 @@ field-at-requires c κs = search needs
 enum-known-kind : tie.Need-enum-known-kind
 enum-known-kind c = search needs
 
-found-requires : tie.Need-found-requires
-found-requires c κs = search needs
-
 enum-known-at : tie.Need-enum-known-at
 enum-known-at c = search needs
 
-found-requires-2 : tie.Need-found-requires-2
-found-requires-2 c κs = search needs
-
 returns : tie.Need-returns
-returns c = rw (c .found2 .ensures) (id-short _ _ _ _ (c .before .before .before .before .before .before .before .pre .1) _ _ (sym (c .before .before .before .before .before .field-at .ensures) ∙ c .before .before .before .at .given .1) (c .before .if1 .taken))
-
-found-requires-3 : tie.Need-found-requires-3
-found-requires-3 c κs = search needs
+returns c = id-short _ _ _ _ (c .before .before .before .before .before .before .pre .1) _ _ (sym (c .before .before .before .before .field-at .ensures) ∙ c .before .before .at .given .1) (c .if1 .taken)
 
 returns-2 : tie.Need-returns-2
-returns-2 c = rw (c .found3 .ensures) (id-long _ _ _ _ (c .before .before .before .before .before .before .before .before .pre .1) _ _ (sym (c .before .before .before .before .before .before .field-at .ensures) ∙ c .before .before .before .before .at .given .1) (c .before .before .if1 .left) (c .before .if2 .taken))
+returns-2 c = id-long _ _ _ _ (c .before .before .before .before .before .before .before .pre .1) _ _ (sym (c .before .before .before .before .before .field-at .ensures) ∙ c .before .before .before .at .given .1) (c .before .if1 .left) (c .if2 .taken)
 
 add-span-at : tie.Need-add-span-at
 add-span-at c = omega (arith, c .before .before .before .before .before .before .before .pre .0, field-size _ _ _ _ _ (sym (c .before .before .before .before .before .field-at .ensures) ∙ c .before .before .before .at .given .1))
@@ -41,7 +32,7 @@ add-size : tie.Need-add-size
 add-size c = omega (arith, c .before .before .before .before .before .before .before .before .pre .0, field-size _ _ _ _ _ (sym (c .before .before .before .before .before .before .field-at .ensures) ∙ c .before .before .before .before .at .given .1))
 
 returns-3 : tie.Need-returns-3
-returns-3 c = rw (c .found .ensures) (id-bad _ _ _ _ (c .before .before .before .before .before .before .pre .1) _ (sym (c .before .before .before .before .field-at .ensures) ∙ c .before .before .kind .given .1))
+returns-3 c = id-bad _ _ _ _ (c .before .before .before .before .before .pre .1) _ (sym (c .before .before .before .field-at .ensures) ∙ c .before .kind .given .1)
 
 returns-4 : tie.Need-returns-4
 returns-4 c = rw (c .span-at .ensures) (id-got _ _ _ _ (c .before .before .before .before .before .before .before .before .pre .1) _ _ (sym (c .before .before .before .before .before .before .field-at .ensures) ∙ c .before .before .before .before .at .given .1) (c .before .before .if1 .left) (c .before .if2 .left))
@@ -52,11 +43,8 @@ transaction-id-spec =
     (tie.spec
     field-at-requires
     enum-known-kind
-    found-requires
     enum-known-at
-    found-requires-2
     returns
-    found-requires-3
     returns-2
     add-span-at
     span-at-requires
