@@ -70,7 +70,8 @@ run_command() {
     if [ -n "${RUN64:-}" ]; then
         echo "$RUN64"
     elif [ $native = no ]; then
-        echo qemu-x86_64
+        # -L: for a program that is not static
+        echo qemu-x86_64 -L /usr/x86_64-linux-gnu
     fi
 }
 
