@@ -183,13 +183,18 @@ plain="$root/bench/plain.c $root/bench/plain_read.c $root/bench/plain_write.c $r
 builds fuzz cc $calls -o "$tmp/fuzz" "$here/fuzz.c" $plain "$archive"
 for cases in "$@"; do
     one "calls between guard pages, $(basename "$cases")" run "$tmp/harness" "$cases"
-    cp "$tmp/out" "$tmp/compared"
-    sed -n 's/^cases of /    /p' "$tmp/compared"
+    grep '^cases of ' "$tmp/out" >"$tmp/compared"
+    sed 's/^cases of /    /' "$tmp/compared"
+    if [ "$cases" = "$tmp/model.cases" ]; then
+        tail -n 1 "$tmp/out" | grep -q "^${COUNT:-2000} cases, "
+        count "every case of the model was compared" $?
+    fi
 done
 # Did all of the vectors come through? A record of write.jsonl with a part that no
 # octet of the layout stands for (a linked ID outside an Invoke, a parameter of a
 # Reject) cannot be handed over: 25 are so.
 if [ -n "$left_out" ]; then
+    one "the model gives what the vectors give" python3 "$root/tests/model/selfcheck.py" "$VECTORS"
     read=$(grep -c '^>' "$VECTORS/read.txt")
     write=$(grep -c . "$VECTORS/write.jsonl")
     steer=$(grep -c . "$VECTORS/steer.jsonl")
@@ -197,7 +202,7 @@ if [ -n "$left_out" ]; then
     echo "$left_out left out" >"$tmp/out"
     [ "$left_out" = 25 ]
     count "records to be written that have no layout are 25" $?
-    grep '^cases of ' "$tmp/compared" >"$tmp/out"
+    cp "$tmp/compared" "$tmp/out"
     [ "$(cat "$tmp/out")" = "cases of read $read, write $((write - 25)), steer $steer, list $read" ]
     count "every other vector was compared" $?
 fi
