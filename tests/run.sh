@@ -69,7 +69,7 @@ archive=target/lib/libgoldenskep.a
 rm -rf target/lib target/staticlib
 one "what the tests in C need is installed" sh tests/needs.sh
 one "the archive is built" make --no-print-directory archive
-many "C tests" env -u ROUNDS VECTORS=tests/vectors SEED=1 COUNT=20000 sh tests/c/run.sh $archive
+many "C tests" env VECTORS=tests/vectors SEED=1 COUNT=20000 ROUNDS=20000 sh tests/c/run.sh $archive
 many "install" sh tests/install.sh $archive
 many "README" sh tests/readme.sh $archive
 

@@ -75,6 +75,14 @@ run_command() {
     fi
 }
 
+# need COMMAND...: ends with what to install if the command is not there
+need() {
+    if [ $# -gt 0 ] && ! have "$1"; then
+        echo "cc.sh: there is no $1; missing, by Debian's names:" $(sh "$0" missing) >&2
+        exit 127
+    fi
+}
+
 if [ $# -lt 1 ]; then
     sed -n '2,/^$/s/^#\( \|$\)//p' "$0" >&2
     exit 2
@@ -83,6 +91,7 @@ what=$1
 shift
 case $what in
 cc)
+    need $(cc_command)
     exec $(cc_command) $(static) "$@"
     ;;
 shared)
@@ -111,6 +120,7 @@ objcopy)
     exec "${OBJCOPY64:-$(first ${prefix}objcopy llvm-objcopy objcopy)}" "$@"
     ;;
 run)
+    need $(run_command)
     exec $(run_command) "$@"
     ;;
 count)
