@@ -1,5 +1,26 @@
-# make test: the whole gate. make check: prove what has changed, and run the programs. make list: the listing program.
-.PHONY: test check list fmt clean
+# make test      the whole gate: proves all from nothing, tries the edits that must be refused, runs every test
+# make check     prove what has changed, and run the programs
+# make list      prove and build the listing program, and list a message with it
+# make archive   prove and build the library for C: target/lib/libgoldenskep.a
+# make demo      steer the messages of examples/messages.hex by examples/rules.txt, through the library
+# make examples  build the three examples: target/examples/steer, answer, change
+# make install   header, library and pkg-config file, under DESTDIR PREFIX (/usr/local)
+# make ctest     the tests in C of the library; SEED (1) and COUNT (20000) of the model's cases
+# make fuzz      the same comparisons with fresh seeds until one differs: SEED, COUNT (2000), ROUNDS (0: no end)
+# make bench     instructions of a call beside plain C, the costliest message found, the deepest stack
+# make fmt       lay out the sources
+# make clean     remove target/
+#
+# ARCHIVE may name another archive of the library. C is compiled for x86-64 through tools/cc.sh.
+.PHONY: test check list archive demo examples install ctest fuzz bench fmt clean always
+
+PREFIX = /usr/local
+DESTDIR =
+VERSION = 0.1.0
+ARCHIVE = target/lib/libgoldenskep.a
+CFLAGS = -std=c99 -Wall -Wextra -Wpedantic -O2
+SOURCES := crates.txt $(shell find crates -name '*.rt' -o -name '*.antt')
+EXAMPLES = target/examples/steer target/examples/answer target/examples/change
 
 test:
 	@sh tests/run.sh
@@ -9,7 +30,40 @@ check:
 
 list:
 	rt check list
-	target/bin/list <crates/list/stdin
+	sh tools/cc.sh run target/bin/list <crates/list/stdin
+
+archive: $(ARCHIVE)
+
+target/lib/libgoldenskep.a: $(SOURCES)
+	rt staticlib card
+	mkdir -p target/lib
+	cp target/staticlib/libcard.a $@
+
+examples: $(EXAMPLES)
+
+# always: with another ARCHIVE, which may be older, they are other programs
+target/examples/%: examples/%.c $(ARCHIVE) always
+	@mkdir -p target/examples
+	sh tools/cc.sh cc $(CFLAGS) -Iinclude -o $@ $< $(ARCHIVE)
+
+demo: target/examples/steer
+	sh tools/cc.sh run target/examples/steer examples/rules.txt examples/messages.hex
+
+install: $(ARCHIVE)
+	mkdir -p "$(DESTDIR)$(PREFIX)/include" "$(DESTDIR)$(PREFIX)/lib/pkgconfig"
+	install -m 644 include/goldenskep.h "$(DESTDIR)$(PREFIX)/include/goldenskep.h"
+	install -m 644 $(ARCHIVE) "$(DESTDIR)$(PREFIX)/lib/libgoldenskep.a"
+	sed 's,@PREFIX@,$(abspath $(PREFIX)),; s,@VERSION@,$(VERSION),' goldenskep.pc.in >target/goldenskep.pc
+	install -m 644 target/goldenskep.pc "$(DESTDIR)$(PREFIX)/lib/pkgconfig/goldenskep.pc"
+
+ctest: $(ARCHIVE)
+	@VECTORS=tests/vectors SEED=$(or $(SEED),1) COUNT=$(or $(COUNT),20000) sh tests/c/run.sh $(ARCHIVE)
+
+fuzz: $(ARCHIVE)
+	@SEED=$(SEED) COUNT=$(COUNT) ROUNDS=$(ROUNDS) sh tests/fuzz.sh $(ARCHIVE)
+
+bench: $(ARCHIVE)
+	@sh bench/run.sh $(ARCHIVE)
 
 fmt:
 	rt fmt

@@ -63,5 +63,15 @@ one "layout (rt fmt --check)" rt fmt --check
 one "every crate is listed" listed
 many "rt ci" rt ci
 
+# The library for C, built anew from what was just proved, and its tests. None is left out: without a
+# compiler, an emulator or the archive they fail.
+archive=target/lib/libgoldenskep.a
+rm -rf target/lib target/staticlib
+one "what the tests in C need is installed" sh tests/needs.sh
+one "the archive is built" make --no-print-directory archive
+many "C tests" env VECTORS=tests/vectors SEED=1 COUNT=20000 ROUNDS=20000 sh tests/c/run.sh $archive
+many "install" sh tests/install.sh $archive
+many "README" sh tests/readme.sh $archive
+
 echo "$passed passed, $failed failed"
 [ "$failed" -eq 0 ]

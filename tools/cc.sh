@@ -70,7 +70,16 @@ run_command() {
     if [ -n "${RUN64:-}" ]; then
         echo "$RUN64"
     elif [ $native = no ]; then
-        echo qemu-x86_64
+        # -L: for a program that is not static
+        echo qemu-x86_64 -L /usr/x86_64-linux-gnu
+    fi
+}
+
+# need COMMAND...: ends with what to install if the command is not there
+need() {
+    if [ $# -gt 0 ] && ! have "$1"; then
+        echo "cc.sh: there is no $1; missing, by Debian's names:" $(sh "$0" missing) >&2
+        exit 127
     fi
 }
 
@@ -82,6 +91,7 @@ what=$1
 shift
 case $what in
 cc)
+    need $(cc_command)
     exec $(cc_command) $(static) "$@"
     ;;
 shared)
@@ -110,6 +120,7 @@ objcopy)
     exec "${OBJCOPY64:-$(first ${prefix}objcopy llvm-objcopy objcopy)}" "$@"
     ;;
 run)
+    need $(run_command)
     exec $(run_command) "$@"
     ;;
 count)

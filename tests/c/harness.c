@@ -5,8 +5,8 @@
  * Each case is called with all its strings ending at a guard page, then with all
  * of them beginning behind one, then, if some are empty, with these as NULL.
  * Answer and lent buffer are compared with the file's, octet for octet. The last
- * line says how many cases and calls were compared, and how many differ; the
- * exit status is 1 if any does. */
+ * lines say how many cases of each function and how many calls were compared, and
+ * how many differ; the exit status is 1 if any does. */
 #include "guarded.h"
 #include "cases.h"
 
@@ -101,7 +101,8 @@ static void make_arenas(const char *name, struct arena arenas[3])
 
 int main(int argc, char **argv)
 {
-    unsigned long cases = 0;
+    static const char functions[4] = { 'r', 'w', 's', 'l' };
+    unsigned long cases = 0, of[4] = { 0 };
 
     if (argc < 2) {
         fprintf(stderr, "usage: harness FILE...\n");
@@ -121,11 +122,14 @@ int main(int argc, char **argv)
             compare(argv[i], number, &the, arenas, AT_START, 0);
             if (the.a.len == 0 || the.b.len == 0 || the.c.len == 0)
                 compare(argv[i], number, &the, arenas, AT_END, 1);
+            for (int function = 0; function < 4; function++)
+                of[function] += the.call == functions[function];
             number++;
         }
         free(f.octets);
         cases += number;
     }
+    printf("cases of read %lu, write %lu, steer %lu, list %lu\n", of[0], of[1], of[2], of[3]);
     printf("%lu cases, %lu calls compared, %lu differ\n", cases, calls, differ);
     return differ != 0 || cases == 0;
 }

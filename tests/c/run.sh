@@ -3,7 +3,8 @@
 #
 # CASES are case files (cases.h). Without any, SEED (1) and COUNT (2000) make one
 # by tests/model/cases.py and, if VECTORS names the folder of the vectors, another
-# by tests/model/vector_cases.py. A program that makes many checks counts as one.
+# by tests/model/vector_cases.py, of which none may get lost on the way. A program
+# that makes many checks counts as one.
 # The last line is 'N passed, M failed'.
 set -u
 if [ $# -lt 1 ]; then
@@ -157,11 +158,14 @@ for name in specimens elements; do
     one $name run "$tmp/$name"
 done
 
+left_out=
 if [ $# -eq 0 ]; then
     builds "a case file by the model" python3 "$root/tests/model/cases.py" "${SEED:-1}" "${COUNT:-2000}" "$tmp/model.cases"
     [ -f "$tmp/model.cases" ] && set -- "$tmp/model.cases"
     if [ -n "${VECTORS:-}" ]; then
         builds "a case file by the vectors" python3 "$root/tests/model/vector_cases.py" "$VECTORS" "$tmp/vector.cases"
+        left_out=$(sed -n 's/^.* cases; \([0-9]*\) records of write.jsonl .*$/\1/p' "$tmp/out")
+        left_out=${left_out:-unknown}
         [ -f "$tmp/vector.cases" ] && set -- "$@" "$tmp/vector.cases"
     fi
 fi
@@ -179,7 +183,29 @@ plain="$root/bench/plain.c $root/bench/plain_read.c $root/bench/plain_write.c $r
 builds fuzz cc $calls -o "$tmp/fuzz" "$here/fuzz.c" $plain "$archive"
 for cases in "$@"; do
     one "calls between guard pages, $(basename "$cases")" run "$tmp/harness" "$cases"
+    grep '^cases of ' "$tmp/out" >"$tmp/compared"
+    sed 's/^cases of /    /' "$tmp/compared"
+    if [ "$cases" = "$tmp/model.cases" ]; then
+        tail -n 1 "$tmp/out" | grep -q "^${COUNT:-2000} cases, "
+        count "every case of the model was compared" $?
+    fi
 done
+# Did all of the vectors come through? A record of write.jsonl with a part that no
+# octet of the layout stands for (a linked ID outside an Invoke, a parameter of a
+# Reject) cannot be handed over: 25 are so.
+if [ -n "$left_out" ]; then
+    one "the model gives what the vectors give" python3 "$root/tests/model/selfcheck.py" "$VECTORS"
+    read=$(grep -c '^>' "$VECTORS/read.txt")
+    write=$(grep -c . "$VECTORS/write.jsonl")
+    steer=$(grep -c . "$VECTORS/steer.jsonl")
+    echo "vectors: $read to read, $write to write, $steer to steer"
+    echo "$left_out left out" >"$tmp/out"
+    [ "$left_out" = 25 ]
+    count "records to be written that have no layout are 25" $?
+    cp "$tmp/compared" "$tmp/out"
+    [ "$(cat "$tmp/out")" = "cases of read $read, write $((write - 25)), steer $steer, list $read" ]
+    count "every other vector was compared" $?
+fi
 one "calls on a small stack" run "$tmp/stack" "$@"
 sed '$d' "$tmp/out"
 one "altered calls beside plain C" run "$tmp/fuzz" "${SEED:-1}" "${ROUNDS:-20000}" "$@"
