@@ -82,11 +82,6 @@ module _ (m : List ℕ) where
   series-step rows i d h p n = rw (add-one i, take-suc rows i d h, series-append (take i rows) (getD rows i d ∷ []), series-one (getD rows i d)) (put-then p n)
 
   -- 6C stands before the rows where there are any
-  pub rows-none : (rs : List Row) → rowsSize rs ≡ 0 → octetsOf (rowsForm m rs) ≡ []
-  unfolding rowsForm shortest
-  rows-none [] h = refl
-  rows-none (r ∷ rs) h = absurd (omega (arith, rows-octets r rs))
-
   pub rows-some : (rs : List Row) → 1 ≤ rowsSize rs → every (λ w. rowLies (length m) (w .kind)) rs ≡ true
       → octetsOf (rowsForm m rs) ≡ 0x6C ∷ (lengthOctets (rowsSize rs) ++ octetsOf (seriesForm (rowForm m) rs))
   unfolding rowsForm shortest
