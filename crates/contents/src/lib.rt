@@ -41,14 +41,17 @@ use tcap::OptionalSpan;
 use tcap::Returned;
 use tcap::Row;
 
-// Code and parameter.
+// Code and parameter. A fault is told by all that is known of it here: a whole one would lie across the code in memory.
 pub enum CodedRead {
     Got {
         code: Code,
         parameter: OptionalSpan,
         size: usize,
     },
-    Bad(Fault),
+    Bad {
+        kind: FaultKind,
+        place: usize,
+    },
 }
 
 // What follows the invoke ID of an Invoke.
@@ -59,12 +62,15 @@ pub enum InvokeRead {
         parameter: OptionalSpan,
         size: usize,
     },
-    Bad(Fault),
+    Bad {
+        kind: FaultKind,
+        place: usize,
+    },
 }
 
 pub enum BothRead {
     Got { both: Returned, size: usize },
-    Bad(Fault),
+    Bad { kind: FaultKind, place: usize },
 }
 
 pub enum RowRead {
@@ -96,13 +102,21 @@ fn code_body(part: &[u8], place: usize, definite: bool, left: usize) -> CodedRea
 {
     match code_at(part, place, definite) {
         CodeRead::Bad(fault) => {
-            return CodedRead::Bad(fault);
+            let kind = fault.kind;
+            return CodedRead::Bad {
+                kind: kind,
+                place: fault.place,
+            };
         }
         CodeRead::Got { code, size } => {
             let here = place + size;
             match parameter_at(after(part, size), here, definite, left) {
                 ParameterRead::Bad(fault) => {
-                    return CodedRead::Bad(fault);
+                    let kind = fault.kind;
+                    return CodedRead::Bad {
+                        kind: kind,
+                        place: fault.place,
+                    };
                 }
                 ParameterRead::Got {
                     parameter,
@@ -125,13 +139,20 @@ fn linked_at(part: &[u8], place: usize, definite: bool) -> InvokeRead
 {
     match octet_id(part, place, definite, 0x80) {
         IdRead::Bad(fault) => {
-            return InvokeRead::Bad(fault);
+            let kind = fault.kind;
+            return InvokeRead::Bad {
+                kind: kind,
+                place: fault.place,
+            };
         }
         IdRead::Got { id, size } => {
             let here = place + size;
             match code_body(after(part, size), here, definite, 13) {
-                CodedRead::Bad(fault) => {
-                    return InvokeRead::Bad(fault);
+                CodedRead::Bad { kind, place: there } => {
+                    return InvokeRead::Bad {
+                        kind: kind,
+                        place: there,
+                    };
                 }
                 CodedRead::Got {
                     code,
@@ -157,8 +178,11 @@ fn invoke_rest(part: &[u8], place: usize, definite: bool) -> InvokeRead
         return linked_at(part, place, definite);
     }
     match code_body(part, place, definite, 13) {
-        CodedRead::Bad(fault) => {
-            return InvokeRead::Bad(fault);
+        CodedRead::Bad { kind, place: there } => {
+            return InvokeRead::Bad {
+                kind: kind,
+                place: there,
+            };
         }
         CodedRead::Got {
             code,
@@ -185,8 +209,8 @@ pub fn invoke_at(part: &[u8], place: usize, definite: bool) -> RowRead
         IdRead::Got { id, size } => {
             let here = place + size;
             match invoke_rest(after(part, size), here, definite) {
-                InvokeRead::Bad(fault) => {
-                    return RowRead::Bad(with_id(fault, InvokeId::Id(id)));
+                InvokeRead::Bad { kind, place: there } => {
+                    return RowRead::Bad(with_id(found(kind, there), InvokeId::Id(id)));
                 }
                 InvokeRead::Got {
                     linked,
@@ -221,8 +245,8 @@ pub fn error_at(part: &[u8], place: usize, definite: bool) -> RowRead
         IdRead::Got { id, size } => {
             let here = place + size;
             match code_body(after(part, size), here, definite, 13) {
-                CodedRead::Bad(fault) => {
-                    return RowRead::Bad(with_id(fault, InvokeId::Id(id)));
+                CodedRead::Bad { kind, place: there } => {
+                    return RowRead::Bad(with_id(found(kind, there), InvokeId::Id(id)));
                 }
                 CodedRead::Got {
                     code,
@@ -249,8 +273,11 @@ fn held_at(part: &[u8], place: usize, definite: bool) -> BothRead
     ensures { λ r. ⌜ r ≡ bothGot (next (ask (thenBody (levelAt deepestLevel 5) codeItem (onlyBody (levelAt deepestLevel 5) (parameterItem deepestLevel 5))) definite place (now (part .entry))) (λ v n. got (some v) n)) ⌝ }
 {
     match code_body(part, place, definite, 12) {
-        CodedRead::Bad(fault) => {
-            return BothRead::Bad(fault);
+        CodedRead::Bad { kind, place: there } => {
+            return BothRead::Bad {
+                kind: kind,
+                place: there,
+            };
         }
         CodedRead::Got {
             code,
@@ -258,7 +285,10 @@ fn held_at(part: &[u8], place: usize, definite: bool) -> BothRead
             size,
         } => match parameter {
             OptionalSpan::Absent => {
-                return BothRead::Bad(found(FaultKind::Missing, place + size));
+                return BothRead::Bad {
+                    kind: FaultKind::Missing,
+                    place: place + size,
+                };
             }
             OptionalSpan::Present(span) => BothRead::Got {
                 both: Returned::Both {
@@ -278,7 +308,10 @@ fn both_entry(part: &[u8], place: usize, definite: bool) -> BothRead
 {
     match entry_at(part, definite, 0x30) {
         Entry::Bad(kind) => {
-            return BothRead::Bad(found(kind, place));
+            return BothRead::Bad {
+                kind: kind,
+                place: place,
+            };
         }
         Entry::Open {
             at,
@@ -287,8 +320,11 @@ fn both_entry(part: &[u8], place: usize, definite: bool) -> BothRead
         } => {
             let here = place + at;
             match held_at(piece(part, at, end - at), here, inner) {
-                BothRead::Bad(fault) => {
-                    return BothRead::Bad(fault);
+                BothRead::Bad { kind, place: there } => {
+                    return BothRead::Bad {
+                        kind: kind,
+                        place: there,
+                    };
                 }
                 BothRead::Got { both, size: taken } => {
                     let size = whole_size(at, end, inner, taken);
@@ -315,15 +351,25 @@ fn both_at(part: &[u8], place: usize, definite: bool) -> BothRead
             };
         }
         EndRead::Unfinished => {
-            return BothRead::Bad(found(FaultKind::CutOff, place));
+            return BothRead::Bad {
+                kind: FaultKind::CutOff,
+                place: place,
+            };
         }
         EndRead::More => match both_entry(part, place, definite) {
-            BothRead::Bad(fault) => {
-                return BothRead::Bad(fault);
+            BothRead::Bad { kind, place: there } => {
+                return BothRead::Bad {
+                    kind: kind,
+                    place: there,
+                };
             }
             BothRead::Got { both, size } => match rest_after(part, place, definite, size) {
                 Rest::Bad(fault) => {
-                    return BothRead::Bad(fault);
+                    let kind = fault.kind;
+                    return BothRead::Bad {
+                        kind: kind,
+                        place: fault.place,
+                    };
                 }
                 Rest::Done => BothRead::Got {
                     both: both,
@@ -355,8 +401,8 @@ pub fn result_at(part: &[u8], place: usize, definite: bool, last: bool) -> RowRe
         IdRead::Got { id, size } => {
             let here = place + size;
             match both_at(after(part, size), here, definite) {
-                BothRead::Bad(fault) => {
-                    return RowRead::Bad(with_id(fault, InvokeId::Id(id)));
+                BothRead::Bad { kind, place: there } => {
+                    return RowRead::Bad(with_id(found(kind, there), InvokeId::Id(id)));
                 }
                 BothRead::Got { both, size: more } => {
                     let kind = result_kind(last, both);

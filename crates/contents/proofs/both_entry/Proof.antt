@@ -12,7 +12,8 @@ use Rattle.tcap.specs.Productions.{levelAt, parameterItem, codeItem}
 use Rattle.tcap.specs.Record.{bothField}
 use Rattle.fields.proofs.Steps.{failed-next, gives-next}
 use Rattle.fields.proofs.Fits.{fits-got}
-use Rattle.contents.proofs.Told.{both-bad, both-got, bad-both, got-both}
+use Rattle.contents.proofs.Found.{held-found}
+use Rattle.contents.proofs.Told.{both-bad, both-got, plain-both, got-both}
 use Rattle.contents.proofs.Fitted.{held-fits}
 use Rattle.contents.proofs.Joined.{entry-refused, entry-later, entry-got, entry-room, some-bad, some-got}
 use Rattle.contents.proofs.both_entry.Tie as tie
@@ -23,13 +24,10 @@ entry-at-requires c κs = search needs
 enum-known-kind : tie.Need-enum-known-kind
 enum-known-kind c = search needs
 
-found-requires : tie.Need-found-requires
-found-requires c κs = search needs
-
 returns : tie.Need-returns
 unfolding constructorOf
 returns c =
-    bad-both (failed-next _ (_, entry-refused 0x30 refl (thenBody (levelAt deepestLevel 5) codeItem (onlyBody (levelAt deepestLevel 5) (parameterItem deepestLevel 5))) _ _ _ _ (c .before .before .before .before .entry-at .ensures) _ (c .before .before .kind .given .1), c .found .ensures))
+    plain-both (failed-next _ (_, entry-refused 0x30 refl (thenBody (levelAt deepestLevel 5) codeItem (onlyBody (levelAt deepestLevel 5) (parameterItem deepestLevel 5))) _ _ _ _ (c .before .before .before .entry-at .ensures) _ (c .before .kind .given .1), refl))
 
 enum-known-at : tie.Need-enum-known-at
 enum-known-at c = search needs
@@ -48,13 +46,13 @@ held-at-requires : tie.Need-held-at-requires
 held-at-requires c κs =
     omega (arith, c .before .before .before .before .before .before .pre, entry-room _ _ _ _ (c .before .before .before .before .entry-at .ensures) _ _ _ (c .before .before .at .given .1), simp (length-take, length-drop) at (ap length (c .piece .ensures)))
 
-enum-known-fault : tie.Need-enum-known-fault
-enum-known-fault c = search needs
+enum-known-kind-2 : tie.Need-enum-known-kind-2
+enum-known-kind-2 c = search needs
 
 returns-2 : tie.Need-returns-2
 unfolding constructorOf
 returns-2 c =
-    bad-both (failed-next _ (entry-later 0x30 refl (thenBody (levelAt deepestLevel 5) codeItem (onlyBody (levelAt deepestLevel 5) (parameterItem deepestLevel 5))) _ _ _ _ (c .before .before .before .before .before .before .before .before .entry-at .ensures) _ _ _ (c .before .before .before .before .before .before .at .given .1) _ (c .before .before .before .before .piece .ensures) (some-bad _ (both-bad _ _ (c .before .before .before .held-at .ensures) _ (c .before .fault .given .1)))))
+    plain-both (failed-next _ (entry-later 0x30 refl (thenBody (levelAt deepestLevel 5) codeItem (onlyBody (levelAt deepestLevel 5) (parameterItem deepestLevel 5))) _ _ _ _ (c .before .before .before .before .before .before .before .before .entry-at .ensures) _ _ _ (c .before .before .before .before .before .before .at .given .1) _ (c .before .before .before .before .piece .ensures) (some-bad _ (both-bad (held-found _ _ _) _ (c .before .before .before .held-at .ensures) _ _ (c .before .kind2 .given .1)))))
 
 enum-known-both : tie.Need-enum-known-both
 enum-known-both c = search needs
@@ -75,14 +73,13 @@ both-entry-spec =
     (tie.spec
     entry-at-requires
     enum-known-kind
-    found-requires
     returns
     enum-known-at
     add-here
     sub-piece
     piece-requires
     held-at-requires
-    enum-known-fault
+    enum-known-kind-2
     returns-2
     enum-known-both
     whole-size-requires

@@ -50,8 +50,8 @@ returns-2 c =
 enum-known-parameter : tie.Need-enum-known-parameter
 enum-known-parameter c = search needs
 
-add-t17 : tie.Need-add-t17
-add-t17 c =
+add-t19 : tie.Need-add-t19
+add-t19 c =
     omega (arith, c .before .before .before .before .before .before .before .before .before .before .pre .0, fit-got _ _ _ _ _ code-fit (code-got _ _ (c .before .before .before .before .before .before .before .before .code-at .ensures) _ _ (c .before .before .before .before .before .before .code .given .1)), fits-got _ _ _ (parameter-fits _) (parameter-got _ _ (c .before .before .before .parameter-at .ensures) _ _ (c .before .parameter .given .1)), simp length-drop at (ap length (c .before .before .before .before .after .ensures)))
 
 returns-3 : tie.Need-returns-3
@@ -72,5 +72,5 @@ code-body-spec =
     enum-known-fault-2
     returns-2
     enum-known-parameter
-    add-t17
+    add-t19
     returns-3)

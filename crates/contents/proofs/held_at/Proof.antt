@@ -4,7 +4,8 @@ use mathlib.Core.Option.{some}
 use native.Mathlib.Omega.{arith}
 use Rattle.fields.proofs.Fits.{fits-got}
 use Rattle.fields.proofs.Steps.{failed-next, gives-next}
-use Rattle.contents.proofs.Told.{coded-bad, coded-got, bad-both, got-both}
+use Rattle.contents.proofs.Found.{coded-found}
+use Rattle.contents.proofs.Told.{coded-bad, coded-got, plain-both, got-both}
 use Rattle.contents.proofs.Fitted.{coded-fits}
 use Rattle.contents.proofs.Held.{held-coded, both-refused, both-missing, both-present}
 use borrow.Author.Needs.{needs}
@@ -14,11 +15,11 @@ use Rattle.contents.proofs.held_at.Tie as tie
 code-body-requires : tie.Need-code-body-requires
 code-body-requires c κs = search needs
 
-enum-known-fault : tie.Need-enum-known-fault
-enum-known-fault c = search needs
+enum-known-kind : tie.Need-enum-known-kind
+enum-known-kind c = search needs
 
 returns : tie.Need-returns
-returns c = bad-both (failed-next _ (both-refused _ _ _ (held-coded _ _ _) (coded-bad _ _ (c .before .before .before .code-body .ensures) _ (c .before .fault .given .1))))
+returns c = plain-both (failed-next _ (both-refused _ _ _ (held-coded _ _ _) (coded-bad (coded-found _ _ _ 12) _ (c .before .before .before .code-body .ensures) _ _ (c .before .kind .given .1))))
 
 enum-known-code : tie.Need-enum-known-code
 enum-known-code c = search needs
@@ -26,14 +27,11 @@ enum-known-code c = search needs
 enum-told : tie.Need-enum-told
 enum-told c = search needs
 
-add-found : tie.Need-add-found
-add-found c = omega (arith, c .before .before .before .before .before .before .before .pre, fits-got _ _ _ (coded-fits 12) (coded-got _ _ (c .before .before .before .before .before .code-body .ensures) _ _ _ (c .before .before .before .code .given .1)))
-
-found-requires : tie.Need-found-requires
-found-requires c κs = search needs
+add-t14 : tie.Need-add-t14
+add-t14 c = omega (arith, c .before .before .before .before .before .before .before .pre, fits-got _ _ _ (coded-fits 12) (coded-got _ _ (c .before .before .before .before .before .code-body .ensures) _ _ _ (c .before .before .before .code .given .1)))
 
 returns-2 : tie.Need-returns-2
-returns-2 c = rw (c .found .ensures) (bad-both (failed-next _ (both-missing _ _ _ (held-coded _ _ _) (c .before .enum-told .given .1) (coded-got _ _ (c .before .before .before .before .before .before .code-body .ensures) _ _ _ (c .before .before .before .before .code .given .1)))))
+returns-2 c = plain-both (failed-next _ (both-missing _ _ _ (held-coded _ _ _) (c .enum-told .given .1) (coded-got _ _ (c .before .before .before .before .before .code-body .ensures) _ _ _ (c .before .before .before .code .given .1))))
 
 enum-known-parameter : tie.Need-enum-known-parameter
 enum-known-parameter c = search needs
@@ -46,12 +44,11 @@ held-at-spec =
     tie.close
     (tie.spec
     code-body-requires
-    enum-known-fault
+    enum-known-kind
     returns
     enum-known-code
     enum-told
-    add-found
-    found-requires
+    add-t14
     returns-2
     enum-known-parameter
     returns-3)

@@ -17,6 +17,7 @@ use Rattle.contents.proofs.Joined.{bound-first, bound-later, bound-got}
 use Rattle.element.specs.Parts.{integerItem, optBody}
 use Rattle.tcap.specs.Meaning.{invoke}
 use Rattle.tcap.specs.Productions.{idItem, codeBody}
+use Rattle.contents.proofs.Found.{linked-found}
 use Rattle.contents.proofs.Told.{invoke-bad, invoke-got, bad-row, got-row}
 use Rattle.contents.proofs.Fitted.{id-fit, linked-fits}
 use Rattle.contents.proofs.invoke_at.Tie as tie
@@ -46,22 +47,25 @@ invoke-rest-requires : tie.Need-invoke-rest-requires
 invoke-rest-requires c κs =
     omega (arith, c .before .before .before .before .before .before .pre, fit-got _ _ _ _ _ (id-fit 0x02) (id-got _ _ (c .before .before .before .before .octet-id .ensures) _ _ (c .before .before .id .given .1)), simp length-drop at (ap length (c .after .ensures)))
 
-enum-known-fault-2 : tie.Need-enum-known-fault-2
-enum-known-fault-2 c = search needs
+enum-known-kind : tie.Need-enum-known-kind
+enum-known-kind c = search needs
+
+found-requires : tie.Need-found-requires
+found-requires c κs = search needs
 
 with-id-requires : tie.Need-with-id-requires
 with-id-requires c κs = search needs
 
 returns-2 : tie.Need-returns-2
 returns-2 c =
-    let first = (id-got _ _ (c .before .before .before .before .before .before .before .before .before .octet-id .ensures) _ _ (c .before .before .before .before .before .before .before .id .given .1)) in
-    bad-row (bound-later some idItem (optBody (integerItem 0x80 1) (codeBody deepestLevel)) (λ v. invoke (v .0) (v .1 .0) (v .1 .1 .0) (v .1 .1 .1)) _ _ _ first _ (c .before .before .before .before .before .after .ensures) _ (ap InvokeId.Id (toZ-ofZ {w = w8} {z = c .before .before .before .before .before .before .before .id .given .0 .0} (record { sfits = c .before .before .before .before .before .before .known-told2 .given .0 .1 }) ∙ first .2)) (c .with-id .ensures) (invoke-bad _ _ (c .before .before .before .before .invoke-rest .ensures) _ (c .before .before .fault2 .given .1)))
+    let first = (id-got _ _ (c .before .before .before .before .before .before .before .before .before .before .octet-id .ensures) _ _ (c .before .before .before .before .before .before .before .before .id .given .1)) in
+    bad-row (bound-later some idItem (optBody (integerItem 0x80 1) (codeBody deepestLevel)) (λ v. invoke (v .0) (v .1 .0) (v .1 .1 .0) (v .1 .1 .1)) _ _ _ first _ (c .before .before .before .before .before .before .after .ensures) _ (ap InvokeId.Id (toZ-ofZ {w = w8} {z = c .before .before .before .before .before .before .before .before .id .given .0 .0} (record { sfits = c .before .before .before .before .before .before .before .known-told2 .given .0 .1 }) ∙ first .2)) (rw (c .before .found .ensures) at (c .with-id .ensures)) (invoke-bad (linked-found _ _ _) _ (c .before .before .before .before .before .invoke-rest .ensures) _ _ (c .before .before .before .kind .given .1)))
 
 enum-known-linked : tie.Need-enum-known-linked
 enum-known-linked c = search needs
 
-add-t23 : tie.Need-add-t23
-add-t23 c =
+add-t25 : tie.Need-add-t25
+add-t25 c =
     omega (arith, c .before .before .before .before .before .before .before .before .before .before .pre, fit-got _ _ _ _ _ (id-fit 0x02) (id-got _ _ (c .before .before .before .before .before .before .before .before .octet-id .ensures) _ _ (c .before .before .before .before .before .before .id .given .1)), fits-got _ _ _ linked-fits (invoke-got _ _ (c .before .before .before .invoke-rest .ensures) _ _ _ _ (c .before .linked .given .1)), simp length-drop at (ap length (c .before .before .before .before .after .ensures)))
 
 returns-3 : tie.Need-returns-3
@@ -80,9 +84,10 @@ invoke-at-spec =
     add-here
     after-requires
     invoke-rest-requires
-    enum-known-fault-2
+    enum-known-kind
+    found-requires
     with-id-requires
     returns-2
     enum-known-linked
-    add-t23
+    add-t25
     returns-3)

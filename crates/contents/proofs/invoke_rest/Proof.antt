@@ -9,7 +9,8 @@ use Rattle.tcap.specs.WellFormed.{deepestLevel}
 use Rattle.tcap.specs.Productions.{codeBody}
 use Rattle.asking.proofs.Fronts.{opt-absent}
 use Rattle.fields.proofs.Steps.{failed-as, failed-next, gives-as, gives-next}
-use Rattle.contents.proofs.Told.{coded-bad, coded-got, bad-invoke, got-invoke}
+use Rattle.contents.proofs.Found.{coded-found}
+use Rattle.contents.proofs.Told.{coded-bad, coded-got, plain-invoke, got-invoke}
 use Rattle.contents.proofs.invoke_rest.Tie as tie
 
 begins-with-requires : tie.Need-begins-with-requires
@@ -24,12 +25,12 @@ returns c = search needs
 code-body-requires : tie.Need-code-body-requires
 code-body-requires c κs = search needs
 
-enum-known-fault : tie.Need-enum-known-fault
-enum-known-fault c = search needs
+enum-known-kind : tie.Need-enum-known-kind
+enum-known-kind c = search needs
 
 returns-2 : tie.Need-returns-2
 returns-2 c =
-    bad-invoke (failed-as (opt-absent 0x80 (integerItem 0x80 1) (λ a. refl) (codeBody deepestLevel) refl refl _ _ _ (sym (c .before .before .before .before .before .begins-with .ensures) ∙ c .before .before .before .before .if1 .left)) (failed-next _ (coded-bad _ _ (c .before .before .before .code-body .ensures) _ (c .before .fault .given .1))))
+    plain-invoke (failed-as (opt-absent 0x80 (integerItem 0x80 1) (λ a. refl) (codeBody deepestLevel) refl refl _ _ _ (sym (c .before .before .before .before .before .begins-with .ensures) ∙ c .before .before .before .before .if1 .left)) (failed-next _ (coded-bad (coded-found _ _ _ 13) _ (c .before .before .before .code-body .ensures) _ _ (c .before .kind .given .1))))
 
 enum-known-code : tie.Need-enum-known-code
 enum-known-code c = search needs
@@ -46,7 +47,7 @@ invoke-rest-spec =
     linked-at-requires
     returns
     code-body-requires
-    enum-known-fault
+    enum-known-kind
     returns-2
     enum-known-code
     returns-3)

@@ -15,7 +15,8 @@ use Rattle.tcap.specs.declared.LinkedId.{LinkedId}
 use Rattle.tcap.specs.Productions.{codeBody}
 use Rattle.asking.proofs.Fronts.{opt-present}
 use Rattle.fields.proofs.Told.{id-bad, id-got}
-use Rattle.contents.proofs.Told.{invokeAs, coded-bad, coded-got, bad-invoke, got-invoke}
+use Rattle.contents.proofs.Found.{coded-found}
+use Rattle.contents.proofs.Told.{invokeAs, coded-bad, coded-got, bad-invoke, plain-invoke, got-invoke}
 use Rattle.contents.proofs.Fitted.{id-fit, coded-fits}
 use Rattle.contents.proofs.Joined.{rest-first, rest-later, rest-got, begins-next}
 use Rattle.contents.proofs.linked_at.Tie as tie
@@ -46,19 +47,19 @@ code-body-requires : tie.Need-code-body-requires
 code-body-requires c κs =
     (omega (arith, c .before .before .before .before .before .before .pre .0, fit-got _ _ _ _ _ (id-fit 0x80) (id-got _ _ (c .before .before .before .before .octet-id .ensures) _ _ (c .before .before .id .given .1)), simp length-drop at (ap length (c .after .ensures))), omega arith)
 
-enum-known-fault-2 : tie.Need-enum-known-fault-2
-enum-known-fault-2 c = search needs
+enum-known-kind : tie.Need-enum-known-kind
+enum-known-kind c = search needs
 
 returns-2 : tie.Need-returns-2
 unfolding extendedOf codeZero
 returns-2 c =
-    bad-invoke (rest-later (codeBody deepestLevel) (λ i v. (some i, v)) _ _ _ _ _ (opt-present 0x80 (integerItem 0x80 1) (λ a. refl) (codeBody deepestLevel) refl refl _ _ _ 1 (begins-next _ 0x80 _ refl refl refl (c .before .before .before .before .before .before .before .before .before .before .pre .1))) (id-got _ _ (c .before .before .before .before .before .before .before .before .octet-id .ensures) _ _ (c .before .before .before .before .before .before .id .given .1)) _ (c .before .before .before .before .after .ensures) (coded-bad _ _ (c .before .before .before .code-body .ensures) _ (c .before .fault2 .given .1)))
+    plain-invoke (rest-later (codeBody deepestLevel) (λ i v. (some i, v)) _ _ _ _ _ (opt-present 0x80 (integerItem 0x80 1) (λ a. refl) (codeBody deepestLevel) refl refl _ _ _ 1 (begins-next _ 0x80 _ refl refl refl (c .before .before .before .before .before .before .before .before .before .before .pre .1))) (id-got _ _ (c .before .before .before .before .before .before .before .before .octet-id .ensures) _ _ (c .before .before .before .before .before .before .id .given .1)) _ (c .before .before .before .before .after .ensures) (coded-bad (coded-found _ _ _ 13) _ (c .before .before .before .code-body .ensures) _ _ (c .before .kind .given .1)))
 
 enum-known-code : tie.Need-enum-known-code
 enum-known-code c = search needs
 
-add-t18 : tie.Need-add-t18
-add-t18 c =
+add-t20 : tie.Need-add-t20
+add-t20 c =
     omega (arith, c .before .before .before .before .before .before .before .before .before .before .pre .0, fit-got _ _ _ _ _ (id-fit 0x80) (id-got _ _ (c .before .before .before .before .before .before .before .before .octet-id .ensures) _ _ (c .before .before .before .before .before .before .id .given .1)), fits-got _ _ _ (coded-fits 13) (coded-got _ _ (c .before .before .before .code-body .ensures) _ _ _ (c .before .code .given .1)), simp length-drop at (ap length (c .before .before .before .before .after .ensures)))
 
 returns-3 : tie.Need-returns-3
@@ -78,8 +79,8 @@ linked-at-spec =
     add-here
     after-requires
     code-body-requires
-    enum-known-fault-2
+    enum-known-kind
     returns-2
     enum-known-code
-    add-t18
+    add-t20
     returns-3)

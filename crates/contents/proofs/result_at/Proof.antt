@@ -17,6 +17,7 @@ use Rattle.contents.proofs.Joined.{bound-first, bound-later, bound-got}
 use Rattle.element.specs.Parts.{lastBody}
 use Rattle.tcap.specs.Productions.{levelAt, idItem, bothItem}
 use Rattle.contents.specs.Contents.{resultFor, resultField}
+use Rattle.contents.proofs.Found.{last-found}
 use Rattle.contents.proofs.Told.{both-bad, both-got, bad-row, got-row}
 use Rattle.contents.proofs.Fitted.{id-fit, both-fits}
 use Rattle.contents.proofs.Joined.{result-row}
@@ -47,16 +48,19 @@ both-at-requires : tie.Need-both-at-requires
 both-at-requires c κs =
     omega (arith, c .before .before .before .before .before .before .pre, fit-got _ _ _ _ _ (id-fit 0x02) (id-got _ _ (c .before .before .before .before .octet-id .ensures) _ _ (c .before .before .id .given .1)), simp length-drop at (ap length (c .after .ensures)))
 
-enum-known-fault-2 : tie.Need-enum-known-fault-2
-enum-known-fault-2 c = search needs
+enum-known-kind : tie.Need-enum-known-kind
+enum-known-kind c = search needs
+
+found-requires : tie.Need-found-requires
+found-requires c κs = search needs
 
 with-id-requires : tie.Need-with-id-requires
 with-id-requires c κs = search needs
 
 returns-2 : tie.Need-returns-2
 returns-2 c =
-    let first = (id-got _ _ (c .before .before .before .before .before .before .before .before .before .octet-id .ensures) _ _ (c .before .before .before .before .before .before .before .id .given .1)) in
-    bad-row (bound-later some idItem (lastBody (levelAt deepestLevel 4) (bothItem deepestLevel)) (λ v. resultFor (c .before .before .before .before .before .before .before .before .before .before .before .args .last) (v .0) (v .1)) _ _ _ first _ (c .before .before .before .before .before .after .ensures) _ (ap InvokeId.Id (toZ-ofZ {w = w8} {z = c .before .before .before .before .before .before .before .id .given .0 .0} (record { sfits = c .before .before .before .before .before .before .known-told2 .given .0 .1 }) ∙ first .2)) (c .with-id .ensures) (both-bad _ _ (c .before .before .before .before .both-at .ensures) _ (c .before .before .fault2 .given .1)))
+    let first = (id-got _ _ (c .before .before .before .before .before .before .before .before .before .before .octet-id .ensures) _ _ (c .before .before .before .before .before .before .before .before .id .given .1)) in
+    bad-row (bound-later some idItem (lastBody (levelAt deepestLevel 4) (bothItem deepestLevel)) (λ v. resultFor (c .before .before .before .before .before .before .before .before .before .before .before .before .args .last) (v .0) (v .1)) _ _ _ first _ (c .before .before .before .before .before .before .after .ensures) _ (ap InvokeId.Id (toZ-ofZ {w = w8} {z = c .before .before .before .before .before .before .before .before .id .given .0 .0} (record { sfits = c .before .before .before .before .before .before .before .known-told2 .given .0 .1 }) ∙ first .2)) (rw (c .before .found .ensures) at (c .with-id .ensures)) (both-bad (last-found _ _ _) _ (c .before .before .before .before .before .both-at .ensures) _ _ (c .before .before .before .kind .given .1)))
 
 enum-known-both : tie.Need-enum-known-both
 enum-known-both c = search needs
@@ -64,8 +68,8 @@ enum-known-both c = search needs
 result-kind-requires : tie.Need-result-kind-requires
 result-kind-requires c κs = search needs
 
-add-t22 : tie.Need-add-t22
-add-t22 c =
+add-t24 : tie.Need-add-t24
+add-t24 c =
     omega (arith, c .before .before .before .before .before .before .before .before .before .before .before .pre, fit-got _ _ _ _ _ (id-fit 0x02) (id-got _ _ (c .before .before .before .before .before .before .before .before .before .octet-id .ensures) _ _ (c .before .before .before .before .before .before .before .id .given .1)), fits-got _ _ _ both-fits (both-got _ _ (c .before .before .before .before .both-at .ensures) _ _ (c .before .before .both .given .1)), simp length-drop at (ap length (c .before .before .before .before .before .after .ensures)))
 
 returns-3 : tie.Need-returns-3
@@ -84,10 +88,11 @@ result-at-spec =
     add-here
     after-requires
     both-at-requires
-    enum-known-fault-2
+    enum-known-kind
+    found-requires
     with-id-requires
     returns-2
     enum-known-both
     result-kind-requires
-    add-t22
+    add-t24
     returns-3)
