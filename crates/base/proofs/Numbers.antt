@@ -21,7 +21,7 @@ abbrev pub Octets : List ℕ → Type 0
 Octets l = Every (λ x. x < 256) l
 
 -- the law over the width
-module _ (top n : ℕ) (h : n ≤ top) where
+module _ (top n : ℕ) where
   small-by : (b : Bool) → leb n (top / 2) ≡ b → mag (signedAt top n) ≤ top / 2
   unfolding signedAt
   small-by true e = rw e (leb-true _ _ e)
@@ -30,6 +30,7 @@ module _ (top n : ℕ) (h : n ≤ top) where
   pub signed-small : mag (signedAt top n) ≤ top / 2
   signed-small = small-by (leb n (top / 2)) refl
 
+module _ (top n : ℕ) (h : n ≤ top) where
   back-by : (b : Bool) → leb n (top / 2) ≡ b → bitsAt top (signedAt top n) ≡ n
   unfolding signedAt bitsAt
   back-by true e = rw e

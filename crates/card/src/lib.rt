@@ -67,7 +67,7 @@ fn refusal_bits(refusal: Refusal) -> u64
     let kind = refusal.kind;
     let orig = refusal.orig;
     let answer = refusal.answer;
-    let number = reader::number_of(kind);
+    let number = element::number_of(kind);
     let found = number as u64 + (refusal.place % 65536) as u64 * 256;
     let from = orig_bits(orig);
     let sent = send_bits(answer);

@@ -86,9 +86,9 @@ integer-back z h =
     (signed-bits (topOf k) z small (top-odd k (width-some z)))
 
 -- octets hold the number that they are read as
-octets-hold : (c : List ℕ) → Octets c → holds (length c) (signedOf c) ≡ true
+octets-hold : (c : List ℕ) → holds (length c) (signedOf c) ≡ true
 unfolding signedOf
-octets-hold c o = small-holds (length c) _ (signed-small (topOf (length c)) (numberFrom 0 c) (number-small c o))
+octets-hold c = small-holds (length c) _ (signed-small (topOf (length c)) (numberFrom 0 c))
 
 -- what is written passes, and nothing else does
 pub integer-ok : (most : ℕ) (z : ℤ) → 1 ≤ most → most ≤ mostIntegerOctets → holds most z ≡ true → integerOk most (integerOctets z) ≡ true
@@ -103,7 +103,7 @@ integer-only most c e =
     let (b, s) = and-eq-true-iff (leb 1 (length c) && leb (length c) most) (same (integerOctets (signedOf c)) c) .0 e in
     let q : c ≡ integerOctets (signedOf c) = same-equal (integerOctets (signedOf c)) c s in
     let n : length c ≤ most = leb-true (length c) most (and-eq-true-iff (leb 1 (length c)) (leb (length c) most) .0 b .1) in
-    (q, holds-more (length c) most (signedOf c) n (octets-hold c (rw (← q) at (integer-octets (signedOf c)))))
+    (q, holds-more (length c) most (signedOf c) n (octets-hold c))
 
 pub integer-laws : (t most : ℕ) → extendedOf t ≡ false → codeZero t ≡ false → 1 ≤ most → most ≤ mostIntegerOctets
     → ItemLaws (integerItem t most) (λ z. z) (λ z. leaf t (integerOctets z)) (λ z. holds most z ≡ true)
@@ -153,7 +153,7 @@ nine-tell x y h g = by-two (eqb x 0) (eqb x 255) (leb 128 y) refl refl refl
 -- octets are those of their number if these are as many, and not if these are fewer
 module _ (c : List ℕ) (o : Octets c) (i : 1 ≤ length c) where
   no-more : width (signedOf c) ≤ length c
-  no-more = width-fits (length c) (signedOf c) i (octets-hold c o)
+  no-more = width-fits (length c) (signedOf c) i (octets-hold c)
 
   as-many : length c ≤ width (signedOf c) → same (integerOctets (signedOf c)) c ≡ true
   unfolding integerOctets signedOf
@@ -188,7 +188,7 @@ fewest-test (x ∷ y ∷ r) o i l = let some : 1 < length (x ∷ y ∷ r) = omeg
 
     by-front : (b : Bool) → nineOf x y ≡ b → same (integerOctets z) c ≡ b
     by-front true e =
-        let enough : holds (width z) z ≡ true = width-enough z (holds-more (length c) mostIntegerOctets z l (octets-hold c o)) in
+        let enough : holds (width z) z ≡ true = width-enough z (holds-more (length c) mostIntegerOctets z l (octets-hold c)) in
         let unlike : width z ≤ suc (length r) → ⊥ = λ q. false≢true (sym (front ∙ ap not e) ∙ holds-more (width z) (suc (length r)) z q enough) in
         as-many c o i (omega arith)
     by-front false e = fewer c o i (omega (arith, width-fits (suc (length r)) z (omega arith) (front ∙ ap not e)))

@@ -7,6 +7,7 @@ ghost use lib.ListN.{length};
 ghost use Rattle.base.specs.Number.{numberFrom};
 ghost use Rattle.element.specs.Form.{fewestOf};
 ghost use Rattle.element.specs.Element.{constructorOf, codeZero};
+ghost use Rattle.element.specs.Fault.{numberOf};
 ghost use Rattle.element.specs.Head.{endOf, tagOf, within, lengthOf};
 ghost use Rattle.element.specs.Answers.{frontOf, shortOf, another, elementWalk, seriesWalk};
 use base::after;
@@ -62,6 +63,29 @@ pub enum IntegerRead {
 pub enum Walk {
     Fault { kind: FaultKind, place: usize },
     Whole { size: usize },
+}
+
+// Document 01's number of a fault.
+pub fn number_of(kind: FaultKind) -> u8
+    ensures { λ r. ⌜ r ≡ numberOf kind ⌝ }
+{
+    match kind {
+        FaultKind::CutOff => 1,
+        FaultKind::BadTag => 2,
+        FaultKind::BadLength => 3,
+        FaultKind::PassesEnd => 4,
+        FaultKind::TooDeep => 5,
+        FaultKind::CodeZero => 6,
+        FaultKind::Overlong => 7,
+        FaultKind::NoMessage => 8,
+        FaultKind::OctetsAfter => 9,
+        FaultKind::Missing => 10,
+        FaultKind::Another => 10,
+        FaultKind::TooMany => 10,
+        FaultKind::BadContents => 11,
+        FaultKind::Seventeenth => 12,
+        FaultKind::UnknownComponent => 13,
+    }
 }
 
 // Whether contents end here; those of the definite form end with their octets, the others at 00 00.

@@ -2,7 +2,6 @@
 ghost use mathlib.Core.Path.{_≡_};
 ghost use lib.ListN.{take};
 ghost use Rattle.base.specs.Put.{Put};
-ghost use Rattle.element.specs.Fault.{numberOf};
 ghost use Rattle.listing.specs.Fields.{answerText};
 ghost use Rattle.listing.specs.Listing.{codedText, returnedText, rejectText, partsText, rowText, rowsText, headText, refusalText};
 use crate::field::put_code;
@@ -18,7 +17,7 @@ use crate::number::put_decimal;
 use crate::number::put_number;
 use base::put_octet;
 use base::put_part;
-use element::FaultKind;
+use element::number_of;
 use tcap::Answer;
 use tcap::Code;
 use tcap::ComponentKind;
@@ -138,29 +137,6 @@ pub fn put_head(out: &mut [u8], at: usize, message: &[u8], held: Record) -> usiz
     put_octet(out, e, b'\n')
 }
 
-// Document 01's number of a fault.
-fn fault_number(kind: FaultKind) -> usize
-    ensures { λ r. ⌜ r ≡ numberOf kind ⌝ }
-{
-    match kind {
-        FaultKind::CutOff => 1,
-        FaultKind::BadTag => 2,
-        FaultKind::BadLength => 3,
-        FaultKind::PassesEnd => 4,
-        FaultKind::TooDeep => 5,
-        FaultKind::CodeZero => 6,
-        FaultKind::Overlong => 7,
-        FaultKind::NoMessage => 8,
-        FaultKind::OctetsAfter => 9,
-        FaultKind::Missing => 10,
-        FaultKind::Another => 10,
-        FaultKind::TooMany => 10,
-        FaultKind::BadContents => 11,
-        FaultKind::Seventeenth => 12,
-        FaultKind::UnknownComponent => 13,
-    }
-}
-
 fn put_answer(out: &mut [u8], at: usize, answer: Answer) -> usize
     ensures { λ r. ⌜ Put (now (out .entry)) at (answerText answer) r (now (out .exit)) ⌝ }
 {
@@ -187,7 +163,7 @@ pub fn put_refusal(out: &mut [u8], at: usize, refusal: Refusal) -> usize
 {
     let kind = refusal.kind;
     let answer = refusal.answer;
-    let number = fault_number(kind);
+    let number = number_of(kind) as usize;
     let a = put_part(out, at, b"refused");
     let b = put_number(out, a, number);
     let c = put_number(out, b, refusal.place);

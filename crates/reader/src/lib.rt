@@ -5,7 +5,6 @@ ghost use mathlib.Core.Option.{none};
 ghost use Prim.Native.Nat.{_+_, _-_, _≤_};
 ghost use lib.ListN.{length, drop, take};
 ghost use Rattle.element.specs.declared.FaultKind.{FaultKind as FaultKinds};
-ghost use Rattle.element.specs.Fault.{numberOf};
 ghost use Rattle.element.specs.Head.{endOf};
 ghost use Rattle.element.specs.Ask.{ask, got};
 ghost use Rattle.element.specs.Parts.{onlyBody, seriesBody};
@@ -25,6 +24,7 @@ use components::Opened;
 use contents::RowRead;
 use element::EndRead;
 use element::FaultKind;
+use element::number_of;
 use tcap::Answer;
 use tcap::Dialogue;
 use tcap::InvokeId;
@@ -63,29 +63,6 @@ pub struct Portion {
 pub enum Closing {
     Whole,
     Bad(Fault),
-}
-
-// Document 01's number of a fault.
-pub fn number_of(kind: FaultKind) -> u8
-    ensures { λ r. ⌜ r ≡ numberOf kind ⌝ }
-{
-    match kind {
-        FaultKind::CutOff => 1,
-        FaultKind::BadTag => 2,
-        FaultKind::BadLength => 3,
-        FaultKind::PassesEnd => 4,
-        FaultKind::TooDeep => 5,
-        FaultKind::CodeZero => 6,
-        FaultKind::Overlong => 7,
-        FaultKind::NoMessage => 8,
-        FaultKind::OctetsAfter => 9,
-        FaultKind::Missing => 10,
-        FaultKind::Another => 10,
-        FaultKind::TooMany => 10,
-        FaultKind::BadContents => 11,
-        FaultKind::Seventeenth => 12,
-        FaultKind::UnknownComponent => 13,
-    }
 }
 
 // The general problem of a Reject, for a fault in a component.

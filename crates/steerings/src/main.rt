@@ -8,7 +8,7 @@ ghost use Rattle.steering.specs.Steering.{steering};
 ghost use Rattle.steering.specs.Layout.{rulesIn};
 ghost use Rattle.steerings.specs.Expected.{AnswerIs, RefusalIs, SteeredIs, ruleOr, fourIn};
 use base::after;
-use reader::number_of;
+use element::number_of;
 use report::Tally;
 use report::cases::MOST_CASES;
 use report::cases::Verdict;

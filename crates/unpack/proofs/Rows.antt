@@ -1,14 +1,12 @@
--- One row more, of those that are looked at and of those that are read. Assumes nothing.
+-- One row more of those that are looked at, and each row by its number. Assumes nothing.
 use Prim.Native.Nat.{ℕ, zero, suc, _+_, _-_, _*_, _≤_, _<_}
 use native.Mathlib.Omega.{arith}
-use native.Mathlib.Numerals.{add-one}
 use mathlib.Core.Path.{_≡_, refl, sym, ap, _∙_}
 use mathlib.Core.Bool.{Bool, true, false, _&&_}
-use mathlib.Core.List.{List, [], _∷_, _++_}
-use lib.ListN.{length, drop, set, getD, replicate, length-drop}
-use lib.Seq.{set-at, append-snoc, drop-drop}
+use mathlib.Core.List.{List, [], _∷_}
+use lib.ListN.{length, drop, getD, length-drop}
+use lib.Seq.{drop-drop}
 use Rattle.tcap.specs.declared.{Row.Row}
-use Rattle.tcap.specs.Record.{blankRow}
 use Rattle.layout.specs.Layout.{headSize, rowSize, mostRows, recordSize, isRow, rowIn, areRows, rowsIn}
 
 module _ (l : List ℕ) where
@@ -44,12 +42,6 @@ unfolding rowsIn
 rows-length zero m = refl
 rows-length (suc i) m = ap suc (rows-length i (drop rowSize m))
 
--- one row more at the end
-rows-more : (i : ℕ) (m : List ℕ) → rowsIn (suc i) m ≡ rowsIn i m ++ (rowIn (drop (i * rowSize) m) ∷ [])
-unfolding rowsIn
-rows-more zero m = refl
-rows-more (suc i) m = let e : rowSize + i * rowSize ≡ suc i * rowSize = omega arith in ap (λ (t : List Row). rowIn m ∷ t) (rows-more i (drop rowSize m) ∙ ap (λ (t : List ℕ). rowsIn i (drop rowSize m) ++ (rowIn t ∷ [])) (drop-drop (i * rowSize) rowSize m ∙ ap (λ (k : ℕ). drop k m) e))
-
 rows-nth : (n i : ℕ) (m : List ℕ) (d : Row) → i < n → getD (rowsIn n m) i d ≡ rowIn (drop (i * rowSize) m)
 unfolding rowsIn
 rows-nth zero i m d h = absurd (omega arith)
@@ -59,10 +51,3 @@ rows-nth (suc n) (suc i) m d h = let e : rowSize + i * rowSize ≡ suc i * rowSi
 -- row i, of n
 pub row-at : (l : List ℕ) (n i : ℕ) (d : Row) → i < n → rowIn (rowsFrom l i) ≡ getD (rowsIn n (drop headSize l)) i d
 row-at l n i d h = sym (rows-nth n i (drop headSize l) d h ∙ ap rowIn (drop-drop (i * rowSize) headSize l))
-
--- stored where the first blank row was
-pub rows-step : (l : List ℕ) (i : ℕ) → i < mostRows → set (rowsIn i (drop headSize l) ++ replicate (mostRows - i) blankRow) i (rowIn (rowsFrom l i)) ≡ rowsIn (i + 1) (drop headSize l) ++ replicate (mostRows - (i + 1)) blankRow
-rows-step l i h =
-    let e : mostRows - i ≡ suc (mostRows - (i + 1)) = omega arith in
-    rw (e, add-one i, rows-more i (drop headSize l), drop-drop (i * rowSize) headSize l, append-snoc)
-    (set-at (rowsIn i (drop headSize l)) blankRow (replicate (mostRows - suc i) blankRow) (rowIn (rowsFrom l i)) i (rows-length i (drop headSize l)))

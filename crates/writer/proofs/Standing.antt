@@ -8,11 +8,10 @@ use mathlib.Core.List.{List, [], _∷_, _++_, append-nil}
 use lib.ListN.{length, take, drop, replicate, length-append, length-replicate}
 use lib.Seq.{take-at, take-all}
 use lib.Dec.{leb, eqb}
-use lib.Signed.{mag}
 use borrow.Author.Tests.{leb-true, leb-false, eqb-true}
 use Rattle.base.specs.Number.{topOf, signedAt, holds}
 use Rattle.base.specs.Value.{Every}
-use Rattle.base.proofs.Numbers.{small-holds}
+use Rattle.base.proofs.Numbers.{signed-small, small-holds}
 use Rattle.element.specs.Form.{seriesForm}
 use Rattle.tcap.specs.declared.{Span.Span, InvokeId.InvokeId, LinkedId.LinkedId, Code.Code, Returned.Returned, ComponentKind.ComponentKind, Row.Row, Record.Record}
 use Rattle.tcap.specs.Record.{blankRow}
@@ -42,14 +41,6 @@ record-long l h = by-length (leb recordSize (length l)) refl
     by-length false e = absurd (false≢true (rw e at h))
 
 -- What octets stand for has 16 rows, IDs of 8 bits and local codes of 32
-
-signed-small : (top n : ℕ) → mag (signedAt top n) ≤ top / 2
-unfolding signedAt
-signed-small top n = by-half (leb n (top / 2)) refl
-  where
-    by-half : (b : Bool) → leb n (top / 2) ≡ b → mag (signedAt top n) ≤ top / 2
-    by-half true e = rw e (leb-true _ _ e)
-    by-half false e = rw e (omega (arith, leb-false n (top / 2) e))
 
 signed-holds : (k n : ℕ) → holds k (signedAt (topOf k) n) ≡ true
 signed-holds k n = small-holds k (signedAt (topOf k) n) (signed-small (topOf k) n)

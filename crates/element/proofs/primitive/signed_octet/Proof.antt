@@ -15,7 +15,7 @@ read : (c : tie.After-signed) → toZ w32 (ofZ w32 (c .signed .result)) ≡ sign
 read c = toZ-ofZ {w = w32} {z = c .signed .result} (record { sfits = c .signed .ok }) ∙ c .signed .ensures
 
 held : (c : tie.After-signed) → SFits w8 (signedAt 255 (c .before .args .octet))
-held c = record { sfits = omega (arith, signed-small 255 (c .before .args .octet) (omega arith)) }
+held c = record { sfits = omega (arith, signed-small 255 (c .before .args .octet)) }
 
 signed-requires : tie.Need-signed-requires
 signed-requires c κs = search needs

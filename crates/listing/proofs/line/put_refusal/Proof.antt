@@ -5,8 +5,11 @@ use Rattle.listing.specs.Listing.{refusalText}
 use Rattle.listing.proofs.line.put_refusal.Statement.{statement}
 use Rattle.listing.proofs.line.put_refusal.Tie as tie
 
-fault-number-requires : tie.Need-fault-number-requires
-fault-number-requires c κs = search needs
+number-of-requires : tie.Need-number-of-requires
+number-of-requires c κs = search needs
+
+cast-number : tie.Need-cast-number
+cast-number c = search needs
 
 slice-aggregate-put-part : tie.Need-slice-aggregate-put-part
 slice-aggregate-put-part c = search needs
@@ -31,13 +34,14 @@ same-length c = search needs
 
 returns : tie.Need-returns
 unfolding refusalText
-returns c = rw (← c .before .before .before .before .before .before .before .before .before .before .before .before .before .before .before .before .before .before .before .before .before .fault-number .ensures) (put-then (put-then (put-then (put-then (c .before .before .before .before .before .before .before .before .before .before .before .before .before .before .before .before .before .before .put-part .ensures) (c .before .before .before .before .before .before .before .before .before .before .before .before .before .before .put-number .ensures)) (c .before .before .before .before .before .before .before .before .before .before .put-number2 .ensures)) (c .before .before .before .before .before .before .put-answer .ensures)) (c .before .before .put-octet .ensures))
+returns c = rw (← c .before .before .before .before .before .before .before .before .before .before .before .before .before .before .before .before .before .before .before .before .before .number-of .ensures) (put-then (put-then (put-then (put-then (c .before .before .before .before .before .before .before .before .before .before .before .before .before .before .before .before .before .before .put-part .ensures) (c .before .before .before .before .before .before .before .before .before .before .before .before .before .before .put-number .ensures)) (c .before .before .before .before .before .before .before .before .before .before .put-number2 .ensures)) (c .before .before .before .before .before .before .put-answer .ensures)) (c .before .before .put-octet .ensures))
 
 pub put-refusal-spec : {M : Type 1} → statement M
 put-refusal-spec =
     tie.close
     (tie.spec
-    fault-number-requires
+    number-of-requires
+    cast-number
     slice-aggregate-put-part
     put-part-requires
     put-number-requires

@@ -1,9 +1,9 @@
 -- `number_of` meets its contract. Assumes nothing.
 use mathlib.Core.Path.{sym, ap}
 use Rattle.element.specs.Fault.{numberOf}
 use borrow.Author.Needs.{needs}
-use Rattle.reader.proofs.number_of.Statement.{statement}
-use Rattle.reader.proofs.number_of.Tie as tie
+use Rattle.element.proofs.number_of.Statement.{statement}
+use Rattle.element.proofs.number_of.Tie as tie
 
 enum-told : tie.Need-enum-told
 enum-told c = search needs
