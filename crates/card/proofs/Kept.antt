@@ -8,13 +8,17 @@ use lib.ListN.{length, drop, length-append, length-drop}
 use lib.Dec.{ltb}
 use borrow.Author.Tests.{le-ltb, ltb-true, ltb-false}
 use Rattle.element.specs.Fault.{numberOf}
-use Rattle.tcap.specs.declared.{Refusal.Refusal, Outcome.Outcome}
+use Rattle.tcap.specs.declared.{Refusal.Refusal, Outcome.Outcome, Reading.Reading}
 use Rattle.tcap.specs.Reading.{reading}
 use Rattle.tcap.proofs.Refusals.{numbered}
 use Rattle.layout.specs.Layout.{recordSize, isRecord, recordIn, recordOctets}
 use Rattle.layout.proofs.RoundTrip.{record-is, record-length}
 use Rattle.layout.proofs.Readings.{reading-fits, reading-back}
 use Rattle.card.specs.Answer.{refusalBits, outcomeBits, readAnswer, recordRoom, readRoom}
+
+-- what is laid out of an accepted message has at most 428 octets
+pub laid-most : (m : List ℕ) (r : Reading) → r ≡ reading m → r .outcome ≡ Outcome.Accepted → length (recordOctets (r .message)) ≤ recordSize
+laid-most m r e h = rw e (record-length (reading m .message) (reading-fits m (rw e at h) .sixteen))
 
 module _ (m room : List ℕ) (enough : recordSize ≤ length room) where
   pub accepted-kept : reading m .outcome ≡ Outcome.Accepted → (readAnswer m room ≡ 0) × (isRecord (readRoom m room) ≡ true) × (recordIn (readRoom m room) ≡ reading m .message)

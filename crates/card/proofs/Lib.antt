@@ -3,4 +3,5 @@ pub mod Fields
 pub mod Kept
 pub mod Sent
 pub mod Steered
+pub mod Tags
 pub mod Told

@@ -6,7 +6,7 @@ use lib.{ListN.length, ListN.drop, Dec.ltb}
 use Rattle.element.specs.{Fault.numberOf}
 use Rattle.tcap.specs.{declared.OptionalOrig.OptionalOrig, declared.Answer.Answer, declared.Refusal.Refusal, declared.Outcome.Outcome, declared.Record.Record, declared.Reading.Reading, Reading.reading}
 use Rattle.listing.specs.{declared.Listed.Listed, Listing.listingOf, Listing.listedOf, Listing.bufferAfter}
-use Rattle.steering.specs.{declared.Steered.Steered, Layout.rulesIn, Steering.steering}
+use Rattle.steering.specs.{declared.Steered.Steered, Layout.ruleSize, Layout.rulesIn, Steering.steering}
 use Rattle.writer.specs.{declared.Written.Written, Writing.writeNumber, Octets.writingOctets}
 use Rattle.layout.specs.Layout.{recordSize, origSpan, idFlag, idOctet, recordOctets}
 
@@ -83,6 +83,6 @@ listAnswer m out = listedBits (listedOf (listingOf m (reading m)) out)
 unfoldable pub listRoom : List ℕ → List ℕ → List ℕ
 listRoom m out = bufferAfter (listingOf m (reading m)) out
 
--- version 1, rules of 12 octets, records of 428
+-- version 1, and the sizes of a rule and a record
 abbrev pub layoutBits : ℕ
-layoutBits = 1 * 2 ^ 24 + 12 * 2 ^ 16 + recordSize
+layoutBits = 1 * 2 ^ 24 + ruleSize * 2 ^ 16 + recordSize

@@ -1,16 +1,16 @@
--- A row behind those before it, and how long a record is as octets. Assumes nothing.
+-- A row behind those before it, in room for sixteen. Assumes nothing.
 use Prim.Native.Nat.{ℕ, _+_, _*_, _≤_, _<_, min}
 use native.Mathlib.Omega.{arith}
 use native.Mathlib.Numerals.{add-one}
 use mathlib.Core.Path.{_≡_, refl, ap}
 use mathlib.Core.List.{List, [], _∷_, _++_, append-assoc, append-nil}
 use lib.ListN.{length, take, getD, length-append, length-take}
-use lib.Seq.{take-suc, take-at, length-take-le}
+use lib.Seq.{take-suc, length-take-le}
 use Rattle.base.specs.Put.{Put}
-use Rattle.base.proofs.Puts.{put-then, put-front, put-length}
-use Rattle.tcap.specs.declared.{OptionalOrig.OptionalOrig, OptionalDest.OptionalDest, Row.Row, Dialogue.Dialogue, MessageKind.MessageKind, Record.Record}
-use Rattle.layout.specs.Layout.{headSize, rowSize, mostRows, recordSize, rowOctets, rowsOctets, headOctets, recordOctets}
-use Rattle.layout.proofs.RoundTrip.{head-length, rows-length, record-length}
+use Rattle.base.proofs.Puts.{put-then, put-length}
+use Rattle.tcap.specs.declared.{OptionalOrig.OptionalOrig, OptionalDest.OptionalDest, Row.Row, Dialogue.Dialogue, MessageKind.MessageKind}
+use Rattle.layout.specs.Layout.{headSize, rowSize, mostRows, recordSize, rowOctets, rowsOctets, headOctets}
+use Rattle.layout.proofs.RoundTrip.{head-length, rows-length}
 use Rattle.pack.proofs.Rooms.{put-room}
 
 rows-append : (a b : List Row) → rowsOctets (a ++ b) ≡ rowsOctets a ++ rowsOctets b
@@ -30,14 +30,3 @@ module _ (rows : List Row) (i : ℕ) {d : List ℕ} {at : ℕ} {o : ℕ} {e : Li
 
   pub rows-room : length rows ≡ mostRows → at + mostRows * rowSize ≤ length d → o + rowSize ≤ length e
   rows-room k w = omega (arith, p .ends, p .within, put-length p, rows-length (take i rows), length-take-le i rows (omega arith))
-
--- a record laid out in enough room is at its front
-module _ (r : Record) (k : length (r .rows) ≡ mostRows) {d : List ℕ} {o : ℕ} {e : List ℕ} (p : Put d 0 (recordOctets r) o e) (h : recordSize ≤ length d) where
-  pub laid-size : o ≤ length e
-  laid-size = omega (arith, p .ends, p .within, put-length p, record-length r k)
-
-  pub laid-octets : take o e ≡ recordOctets r
-  laid-octets =
-      let l : length (recordOctets r) ≤ length d = omega (arith, record-length r k) in
-      let n : length (recordOctets r) ≡ o = omega (arith, p .ends, p .within) in
-      rw (put-front p l) (take-at (recordOctets r) _ o n)

@@ -9,11 +9,12 @@ ghost use lib.ListN.{length};
 ghost use Rattle.base.specs.Put.{Put};
 ghost use Rattle.layout.specs.Layout.{recordOctets};
 use crate::head::put_head;
-use crate::row::put_rows;
+use crate::row::put_row;
 use tcap::Record;
 
-// The head and the rows below the count, where there is room for sixteen.
-fn lay_record(out: &mut [u8], held: Record) -> usize
+// The head and the rows below the count, at the front of a buffer with room for sixteen.
+// The rows are taken where they are: a call that takes them by value copies all sixteen.
+pub fn put_record(out: &mut [u8], held: Record) -> usize
     requires { ⌜ 428 ≤ length (now out) ⌝ }
     ensures { λ r. ⌜ Put (now (out .entry)) 0 (recordOctets held) r (now (out .exit)) ⌝ }
 {
@@ -21,19 +22,15 @@ fn lay_record(out: &mut [u8], held: Record) -> usize
     let orig = held.orig;
     let dest = held.dest;
     let dialogue = held.dialogue;
-    let rows = held.rows;
-    let next = put_head(out, 0, kind, orig, dest, dialogue, held.count);
-    put_rows(out, next, rows, held.count)
-}
-
-// A record at the front of a buffer, as far as the buffer reaches.
-pub fn put_record(out: &mut [u8], held: Record) -> usize
-    ensures { λ r. ⌜ Put (now (out .entry)) 0 (recordOctets held) r (now (out .exit)) × (length (recordOctets held) ≤ 428) ⌝ }
-{
-    if out.len() < 428 {
-        let mut laid = [0u8; 428];
-        let size = lay_record(&mut laid, held);
-        return base::put_part(out, 0, &laid[..size]);
+    let mut o = put_head(out, 0, kind, orig, dest, dialogue, held.count);
+    let mut i = 0;
+    while i < 16 {
+        if held.count <= i {
+            return o;
+        }
+        let row = held.rows[i];
+        o = put_row(out, o, row);
+        i += 1;
     }
-    lay_record(out, held)
+    o
 }

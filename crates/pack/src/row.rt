@@ -2,9 +2,9 @@
 ghost use mathlib.Core.Path.{_≡_};
 ghost use mathlib.Core.List.{[], _∷_, _++_};
 ghost use Prim.Native.Nat.{_+_, _≤_};
-ghost use lib.ListN.{length, take};
+ghost use lib.ListN.{length};
 ghost use Rattle.base.specs.Put.{Put};
-ghost use Rattle.layout.specs.Layout.{linkedFlag, linkedOctet, idsOctets, partsOctets, noSpan, optionalFlag, optionalSpan, codedOctets, returnedOctets, problemOctets, kindOctets, rowOctets, rowsOctets};
+ghost use Rattle.layout.specs.Layout.{linkedFlag, linkedOctet, idsOctets, partsOctets, noSpan, optionalFlag, optionalSpan, codedOctets, returnedOctets, problemOctets, kindOctets, rowOctets};
 use crate::number::octet_of;
 use crate::number::put_four;
 use crate::number::put_span;
@@ -214,22 +214,4 @@ pub fn put_row(out: &mut [u8], at: usize, row: Row) -> usize
     let id = row.id;
     let kind = row.kind;
     put_kind(out, at, id, kind)
-}
-
-// The first `count` rows of the sixteen.
-pub fn put_rows(out: &mut [u8], at: usize, rows: [Row; 16], count: usize) -> usize
-    requires { ⌜ at + 384 ≤ length (now out) ⌝ }
-    ensures { λ r. ⌜ Put (now (out .entry)) at (rowsOctets (take count rows)) r (now (out .exit)) ⌝ }
-{
-    let mut i = 0;
-    let mut o = at;
-    while i < 16 {
-        if count <= i {
-            return o;
-        }
-        let row = rows[i];
-        o = put_row(out, o, row);
-        i += 1;
-    }
-    o
 }

@@ -5,6 +5,7 @@ use native.Mathlib.Omega.{arith}
 use borrow.Author.Tests.{lt-ltb, le-ltb}
 use Rattle.base.proofs.Puts.{put-front}
 use Rattle.card.specs.Answer.{outcomeBits, readAnswer, recordRoom, readRoom}
+use Rattle.card.proofs.Kept.{laid-most}
 use Rattle.card.proofs.goldenskep_read.Statement.{statement}
 use Rattle.card.proofs.goldenskep_read.Tie as tie
 
@@ -19,7 +20,7 @@ enum-told : tie.Need-enum-told
 enum-told c = search needs
 
 put-record-requires : tie.Need-put-record-requires
-put-record-requires c κs = search needs
+put-record-requires c κs = omega arith
 
 enum-known-outcome : tie.Need-enum-known-outcome
 enum-known-outcome c = search needs
@@ -33,8 +34,8 @@ same-length c = search needs
 returns-2 : tie.Need-returns-2
 unfolding readAnswer readRoom outcomeBits recordRoom
 returns-2 c =
-    let p = c .before .before .put-record .ensures in
-    rw (le-ltb _ _ (c .before .before .before .before .before .before .before .before .if1 .left), ← (c .before .before .before .before .before .before .before .read .ensures), c .before .before .before .before .before .enum-told .given .1) (refl, put-front (p .0) (omega (arith, p .1)))
+    let l = laid-most _ _ (c .before .before .before .before .before .before .before .read .ensures) (c .before .before .before .before .before .enum-told .given .1) in
+    rw (le-ltb _ _ (c .before .before .before .before .before .before .before .before .if1 .left), ← (c .before .before .before .before .before .before .before .read .ensures), c .before .before .before .before .before .enum-told .given .1) (refl, put-front (c .before .before .put-record .ensures) (omega (arith, l)))
 
 returns-3 : tie.Need-returns-3
 unfolding readAnswer readRoom outcomeBits recordRoom

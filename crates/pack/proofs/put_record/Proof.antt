@@ -1,59 +1,86 @@
--- Where the buffer is too short, the octets are laid elsewhere first, and put as far as it reaches. Assumes nothing.
--- what a record's array tells of itself
-use borrow.Author.Needs.{needs}
-use mathlib.Core.Path.{_≡_, sym, _∙_}
-use lib.ListN.{length, length-map}
-use lib.Seq.{length-take-le}
+-- The rows passed stand behind the head; the loop ends at the count or after sixteen. Assumes nothing.
+use Prim.Native.Nat.{_≤_, _-_, _+_}
 use native.Mathlib.Omega.{arith}
-use Rattle.layout.proofs.RoundTrip.{record-length}
-use Rattle.pack.proofs.Rows.{laid-size, laid-octets}
+use mathlib.Core.Path.{_≡_, sym, _∙_}
+use lib.ListN.{length, take, length-map}
+use lib.Seq.{take-all}
+use Rattle.base.specs.Put.{Put}
+use Rattle.base.proofs.Puts.{put-none, put-length, put-then}
+use Rattle.layout.specs.Layout.{rowsOctets, recordOctets}
+use Rattle.pack.proofs.Rows.{behind-head, rows-step, rows-room}
 use Rattle.pack.proofs.put_record.Statement.{statement}
 use Rattle.pack.proofs.put_record.Tie as tie
 
-sixteen : (c : tie.Start) → length (c .args .held .rows) ≡ 16
-sixteen c = sym (length-map (c .args .held .rows) _) ∙ c .good .1 .0 .1 .1 .1 .1 .1 .1 .1 .0 .1 .0 .1
+abbrev Inv-loop : tie.InvT-loop
+Inv-loop out₀ held o₀ i₀ out o i = (i ≤ held .count) × Put out₀ o₀ (rowsOctets (take i (held .rows))) o out
 
-slice-aggregate-lay-record : tie.Need-slice-aggregate-lay-record
-slice-aggregate-lay-record c = search needs
+abbrev μ-loop : tie.MeasureT-loop
+μ-loop out₀ held o₀ i₀ out o i = 16 - i
 
-lay-record-requires : tie.Need-lay-record-requires
-lay-record-requires c κs = search needs
+-- as the type of the rows says
+sixteen : (c : tie.Start Inv-loop μ-loop) → length (c .args .t2 .rows) ≡ 16
+sixteen c = simp length-map at (c .good .1 .0 .1 .1 .1 .1 .1 .1 .1 .0 .1 .0 .1)
 
-array-share-prefix-laid : tie.Need-array-share-prefix-laid
-array-share-prefix-laid c = laid-size _ (sixteen (c .before .before .before .before .before .before)) (c .before .before .lay-record .ensures) (omega arith)
+put-head-requires : tie.Need-put-head-requires Inv-loop μ-loop
+put-head-requires c κs = omega (arith, c .before .before .pre)
 
-slice-aggregate-put-part : tie.Need-slice-aggregate-put-part
-slice-aggregate-put-part c = sym (length-take-le _ _ (laid-size _ (sixteen (c .before .before .before .before .before .before .before)) (c .before .before .before .lay-record .ensures) (omega arith)))
+loop-holds : tie.Need-loop-holds Inv-loop μ-loop
+unfolding rowsOctets
+loop-holds c = (omega arith, put-none _ _ (omega arith) (omega arith))
 
-put-part-requires : tie.Need-put-part-requires
-put-part-requires c κs = search needs
+same-length : tie.Need-same-length Inv-loop μ-loop
+same-length c = put-length (put-then (c .before .before .before .before .before .put-head .ensures) (c .before .before .loop .inv .1))
 
-same-length : tie.Need-same-length
-same-length c = search needs
+returns : tie.Need-returns Inv-loop μ-loop
+unfolding recordOctets
+returns c =
+    let e : c .before .before .loop .i ≡ c .before .before .before .before .before .before .before .before .args .t2 .count = omega (arith, c .before .before .loop .inv .0, c .if1 .taken) in
+    put-then (c .before .before .before .before .before .put-head .ensures) (rw e at (c .before .before .loop .inv .1))
 
-returns : tie.Need-returns
-returns c = (rw (laid-octets _ (sixteen (c .before .before .before .before .before .before .before .before .before .before)) (c .before .before .before .before .before .before .lay-record .ensures) (omega arith)) at (c .before .before .put-part .ensures), record-length _ (sixteen (c .before .before .before .before .before .before .before .before .before .before)))
+mul-row : tie.Need-mul-row Inv-loop μ-loop
+mul-row c = omega (arith, c .before .loop-test .taken)
 
-lay-record-requires-2 : tie.Need-lay-record-requires-2
-lay-record-requires-2 c κs = search needs
+element-copy-out-row : tie.Need-element-copy-out-row Inv-loop μ-loop
+element-copy-out-row c = omega (arith, c .before .loop-test .taken)
 
-same-length-2 : tie.Need-same-length-2
-same-length-2 c = search needs
+put-row-requires : tie.Need-put-row-requires Inv-loop μ-loop
+put-row-requires c κs = rows-room (c .before .before .before .before .before .before .before .before .before .before .args .t2 .rows) (c .before .before .before .before .loop .i) (omega (arith, sixteen (c .before .before .before .before .before .before .before .before .before .before), c .before .before .before .loop-test .taken)) (c .before .before .before .before .loop .inv .1) (sixteen (c .before .before .before .before .before .before .before .before .before .before)) (behind-head _ _ _ _ _ (c .before .before .before .before .before .before .before .put-head .ensures) (c .before .before .before .before .before .before .before .before .before .before .pre))
 
-returns-2 : tie.Need-returns-2
-returns-2 c = (c .before .before .lay-record2 .ensures, record-length _ (sixteen (c .before .before .before .before .before .before)))
+add-i : tie.Need-add-i Inv-loop μ-loop
+add-i c = omega (arith, c .before .before .before .before .before .before .loop-test .taken)
+
+loop-less : tie.Need-loop-less Inv-loop μ-loop
+loop-less c = omega (arith, c .before .before .before .before .before .before .loop-test .taken)
+
+loop-again : tie.Need-loop-again Inv-loop μ-loop
+loop-again c = (omega (arith, c .before .before .before .before .before .if1 .left), rows-step (c .before .before .before .before .before .before .before .before .before .before .before .before .before .args .t2 .rows) (c .before .before .before .before .before .before .before .loop .i) (omega (arith, sixteen (c .before .before .before .before .before .before .before .before .before .before .before .before .before), c .before .before .before .before .before .before .loop-test .taken)) (c .before .before .before .before .before .before .before .loop .inv .1) _ (c .before .before .put-row .ensures))
+
+same-length-2 : tie.Need-same-length-2 Inv-loop μ-loop
+same-length-2 c = put-length (put-then (c .before .before .before .before .put-head .ensures) (c .before .loop .inv .1))
+
+returns-2 : tie.Need-returns-2 Inv-loop μ-loop
+unfolding recordOctets
+returns-2 c =
+    let r = c .before .before .before .before .before .before .before .args .t2 in
+    let i = c .before .loop .i in
+    let e : take (r .count) (r .rows) ≡ take i (r .rows) = take-all (r .count) (r .rows) (omega (arith, sixteen (c .before .before .before .before .before .before .before), c .loop-test .left, c .before .loop .inv .0)) ∙ sym (take-all i (r .rows) (omega (arith, sixteen (c .before .before .before .before .before .before .before), c .loop-test .left))) in
+    rw e (put-then (c .before .before .before .before .put-head .ensures) (c .before .loop .inv .1))
 
 pub put-record-spec : {M : Type 1} → statement M
 put-record-spec =
     tie.close
     (tie.spec
-    slice-aggregate-lay-record
-    lay-record-requires
-    array-share-prefix-laid
-    slice-aggregate-put-part
-    put-part-requires
+    Inv-loop
+    μ-loop
+    put-head-requires
+    loop-holds
     same-length
     returns
-    lay-record-requires-2
+    mul-row
+    element-copy-out-row
+    put-row-requires
+    add-i
+    loop-less
+    loop-again
     same-length-2
     returns-2)
