@@ -20,6 +20,7 @@ use Rattle.writer.specs.Octets.{writingOctets, leavesOctets}
 use Rattle.writer.proofs.Promises.{success, success-buffer, reads-back}
 use Rattle.writer.proofs.Standing.{octets-fit}
 use Rattle.layout.specs.Layout.{mostRows, recordSize, isRecord, recordIn, recordOctets}
+use Rattle.layout.specs.Fits.{RecordFits}
 use Rattle.layout.proofs.RoundTrip as layout
 use Rattle.card.specs.Answer.{lengthBits, writtenBits, writeAnswer}
 
@@ -95,7 +96,7 @@ module _ (r : Record) (sixteen : length (r .rows) ≡ mostRows) where
   unfolding writing allParts allRanges allLie allShaped layout.blanked
   kept-writing m room = rw (kept-message m, kept-rows)
 
-module _ (r : Record) (fits : layout.RecordFits r) (rest m out : List ℕ) where
+module _ (r : Record) (fits : RecordFits r) (rest m out : List ℕ) where
   pub laid-writes : recordSize ≤ length (recordOctets r ++ rest) → (writeAnswer (recordOctets r ++ rest) m out ≡ writtenBits (writing r m (length out))) × (leavesOctets (recordOctets r ++ rest) m out ≡ leaves r m out)
   unfolding writeAnswer writingOctets leavesOctets leaves
   laid-writes h =

@@ -3,7 +3,9 @@ ghost use mathlib.Core.Path.{_≡_};
 ghost use Rattle.card.specs.Answer.{origBits, sendBits, refusalBits, listedBits, readAnswer, readRoom, writtenBits, writeAnswer, steeredBits, steerAnswer, listAnswer, listRoom, layoutBits};
 ghost use Rattle.writer.specs.Octets.{leavesOctets};
 ghost use Rattle.writer.specs.Writing.{writeNumber};
+use base::put_part;
 use listing::Listed;
+use pack::head::put_head;
 use steering::Steered;
 use tcap::Answer;
 use tcap::InvokeId;
@@ -83,12 +85,18 @@ pub extern "C" fn goldenskep_read(message: &[u8], room: &mut [u8]) -> u64
     if room.len() < 428 {
         return 25;
     }
-    let reading = reader::read(message);
-    let outcome = reading.outcome;
+    let mut octets = [0u8; 384];
+    let outline = reader::read_rows(message, &mut octets);
+    let outcome = outline.outcome;
     match outcome {
         Outcome::Accepted => {
-            let held = reading.message;
-            pack::put_record(room, held);
+            let kind = outline.kind;
+            let orig = outline.orig;
+            let dest = outline.dest;
+            let dialogue = outline.dialogue;
+            let count = outline.count;
+            let o = put_head(room, 0, kind, orig, dest, dialogue, count);
+            put_part(room, o, &octets[..count * 24]);
             0
         }
         Outcome::Refused(refusal) => refusal_bits(refusal),

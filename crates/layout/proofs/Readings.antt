@@ -23,7 +23,8 @@ use Rattle.tcap.proofs.Records.{Sits, components}
 use Rattle.tcap.proofs.Places.{strings-sit}
 use Rattle.tcap.proofs.Promises.{located-reads}
 use Rattle.layout.specs.Layout.{mostRows, recordIn, recordOctets}
-use Rattle.layout.proofs.RoundTrip.{SpanFits, OptionalFits, IdFits, LinkedFits, CodeFits, ReturnedFits, KindFits, RowFits, OrigFits, DestFits, DialogueFits, RecordFits, blanked, record-back}
+use Rattle.layout.specs.Fits.{SpanFits, OptionalFits, IdFits, LinkedFits, CodeFits, ReturnedFits, KindFits, RowFits, OrigFits, DestFits, DialogueFits, RecordFits}
+use Rattle.layout.proofs.RoundTrip.{blanked, record-back}
 
 module _ (m : List ℕ) (short : length m ≤ mostOctets) where
   abbrev AllSit : Strings → Type 0

@@ -14,69 +14,8 @@ use Rattle.base.specs.Value.{Every}
 use Rattle.base.proofs.Numbers.{signed-bits, bits-within, top-odd, holds-small, number-octets}
 use Rattle.tcap.specs.declared.{Span.Span, OptionalSpan.OptionalSpan, OptionalOrig.OptionalOrig, OptionalDest.OptionalDest, InvokeId.InvokeId, LinkedId.LinkedId, Code.Code, Problem.Problem, Returned.Returned, ComponentKind.ComponentKind, Row.Row, Diagnostic.Diagnostic, Dialogue.Dialogue, MessageKind.MessageKind, Record.Record}
 use Rattle.tcap.specs.Record.{blankRow}
+use Rattle.layout.specs.Fits.{SpanFits, OptionalFits, IdFits, LinkedFits, CodeFits, ReturnedFits, KindFits, RowFits, OrigFits, DestFits, DialogueFits, RecordFits}
 use Rattle.layout.specs.Layout.{headSize, rowSize, mostRows, recordSize, octet, numberAt, spanAt, spanOctets, noSpan, isFlag, optionalIn, optionalFlag, optionalSpan, isMessageTag, messageKindIn, messageTag, origIn, origFlag, origSpan, destIn, destFlag, destSpan, isSourceTag, diagnosticIn, sourceTag, diagnosticNumber, isDialogue, pduIn, outsideIn, dialogueIn, dialogueNumber, portionOctets, dialogueOctets, idIn, idFlag, idOctet, linkedIn, linkedFlag, linkedOctet, isCodeTag, codeIn, codeTag, codeSpan, isProblemTag, problemIn, problemTag, problemNumber, isCoded, isReturned, returnedIn, isKind, kindIn, idsOctets, partsOctets, codedOctets, returnedOctets, problemOctets, kindOctets, isRow, rowIn, rowOctets, areRows, rowsIn, rowsOctets, isHead, isRecord, recordIn, headOctets, recordOctets}
-
--- Which records the octets can hold: numbers of four octets, IDs of one, codes of four
-
-abbrev pub SpanFits : Span → Type 0
-SpanFits s = (s .place ≤ topOf 4) × (s .len ≤ topOf 4)
-
-abbrev pub OptionalFits : OptionalSpan → Type 0
-OptionalFits OptionalSpan.Absent = Unit {0}
-OptionalFits (OptionalSpan.Present s) = SpanFits s
-
-abbrev pub IdFits : InvokeId → Type 0
-IdFits InvokeId.Null = Unit {0}
-IdFits (InvokeId.Id i) = holds 1 i ≡ true
-
-abbrev pub LinkedFits : LinkedId → Type 0
-LinkedFits LinkedId.Unlinked = Unit {0}
-LinkedFits (LinkedId.Linked i) = holds 1 i ≡ true
-
-abbrev pub CodeFits : Code → Type 0
-CodeFits (Code.Local z) = holds 4 z ≡ true
-CodeFits (Code.Global s) = SpanFits s
-
-abbrev pub ReturnedFits : Returned → Type 0
-ReturnedFits Returned.Bare = Unit {0}
-ReturnedFits (Returned.Both c p) = CodeFits c × SpanFits p
-
-abbrev pub KindFits : ComponentKind → Type 0
-KindFits (ComponentKind.Invoke l c p) = LinkedFits l × CodeFits c × OptionalFits p
-KindFits (ComponentKind.ResultLast r) = ReturnedFits r
-KindFits (ComponentKind.ReturnError c p) = CodeFits c × OptionalFits p
-KindFits (ComponentKind.Reject q) = Unit {0}
-KindFits (ComponentKind.ResultNotLast r) = ReturnedFits r
-
-abbrev pub RowFits : Row → Type 0
-RowFits r = IdFits (r .id) × KindFits (r .kind)
-
-abbrev pub OrigFits : OptionalOrig → Type 0
-OrigFits OptionalOrig.NoOrig = Unit {0}
-OrigFits (OptionalOrig.Orig o) = SpanFits (o .0 .octets)
-
-abbrev pub DestFits : OptionalDest → Type 0
-DestFits OptionalDest.NoDest = Unit {0}
-DestFits (OptionalDest.Dest e) = SpanFits (e .0 .octets)
-
-abbrev pub DialogueFits : Dialogue → Type 0
-DialogueFits Dialogue.NoDialogue = Unit {0}
-DialogueFits (Dialogue.Cause n) = Unit {0}
-DialogueFits (Dialogue.Request n u) = SpanFits n × OptionalFits u
-DialogueFits (Dialogue.Response n r s u) = SpanFits n × OptionalFits u
-DialogueFits (Dialogue.DialogueAbort r u) = OptionalFits u
-DialogueFits (Dialogue.Unidialogue n u) = SpanFits n × OptionalFits u
-DialogueFits (Dialogue.OutsideElement n e) = SpanFits n × SpanFits e
-DialogueFits (Dialogue.OutsideOctets n c) = SpanFits n × SpanFits c
-
--- rows from the count on do not matter
-pub record RecordFits (r : Record) : Type 0 where
-  pub orig : OrigFits (r .orig)
-  pub dest : DestFits (r .dest)
-  pub dialogue : DialogueFits (r .dialogue)
-  pub count : r .count ≤ topOf 4
-  pub sixteen : length (r .rows) ≡ mostRows
-  pub rows : Every RowFits (take (r .count) (r .rows))
 
 -- Each field
 
@@ -229,7 +168,7 @@ unfolding areRows rowsOctets
 rows-are [] rest = refl
 rows-are (r ∷ rs) rest = rw (append-assoc, row-is r, row-cut r) (rows-are rs rest)
 
-rows-back : (rs : List Row) (rest : List ℕ) → Every RowFits rs → rowsIn (length rs) (rowsOctets rs ++ rest) ≡ rs
+pub rows-back : (rs : List Row) (rest : List ℕ) → Every RowFits rs → rowsIn (length rs) (rowsOctets rs ++ rest) ≡ rs
 unfolding rowsIn rowsOctets Every
 rows-back [] rest h = refl
 rows-back (r ∷ rs) rest h = rw (append-assoc, row-back r (rowsOctets rs ++ rest) (h .0), row-cut r) (ap (λ (t : List Row). r ∷ t) (rows-back rs rest (h .1)))

@@ -4,6 +4,7 @@ ghost use mathlib.Core.List.{[], _∷_, _++_};
 ghost use Prim.Native.Nat.{_+_, _≤_};
 ghost use lib.ListN.{length};
 ghost use Rattle.base.specs.Put.{Put};
+ghost use Rattle.layout.specs.Fits.{RowFits};
 ghost use Rattle.layout.specs.Layout.{linkedFlag, linkedOctet, idsOctets, partsOctets, noSpan, optionalFlag, optionalSpan, codedOctets, returnedOctets, problemOctets, kindOctets, rowOctets};
 use crate::number::octet_of;
 use crate::number::put_four;
@@ -209,7 +210,7 @@ fn put_kind(out: &mut [u8], at: usize, id: InvokeId, kind: ComponentKind) -> usi
 // One row at a place.
 pub fn put_row(out: &mut [u8], at: usize, row: Row) -> usize
     requires { ⌜ at + 24 ≤ length (now out) ⌝ }
-    ensures { λ r. ⌜ Put (now (out .entry)) at (rowOctets row) r (now (out .exit)) ⌝ }
+    ensures { λ r. ⌜ Put (now (out .entry)) at (rowOctets row) r (now (out .exit)) × RowFits row ⌝ }
 {
     let id = row.id;
     let kind = row.kind;

@@ -1,13 +1,13 @@
 -- The loop over the components: the rows of those that were read, and then those of the rest. Assumes nothing.
-use Prim.Native.Nat.{ℕ, zero, suc, _+_, _-_, _≤_, _<_}
+use Prim.Native.Nat.{ℕ, zero, suc, _+_, _-_, _*_, _≤_, _<_}
 use native.Mathlib.Omega.{arith}
 use native.Mathlib.Nat.{add-zero, zero-add, add-assoc}
 use mathlib.Core.Path.{_≡_, refl, sym, ap, ap₂, _∙_}
 use mathlib.Core.Bool.{Bool, true, false, cond}
 use mathlib.Core.List.{List, [], _∷_, _++_, map, append-nil}
 use mathlib.Core.Option.{Option, none, some}
-use lib.ListN.{length, take, drop, set, replicate, length-map, length-drop, take-append-drop}
-use lib.Seq.{drop-drop, take-suc-set, append-snoc, drop-set-lt, length-take-le}
+use lib.ListN.{length, take, drop, replicate, length-map, length-drop}
+use lib.Seq.{drop-drop, append-snoc, length-take-le, take-at}
 use lib.Dec.{eqb}
 use borrow.Author.Tests.{eq-eqb, ne-eqb}
 use Rattle.element.specs.declared.{FaultKind.FaultKind, EndRead.EndRead}
@@ -16,12 +16,14 @@ use Rattle.element.specs.Head.{endOf}
 use Rattle.element.specs.Ask.{Got, got, bad, next, Body, ask}
 use Rattle.element.specs.Parts.{seriesBody}
 use Rattle.element.proofs.Asking.{ask-ends, ask-missing, ask-unfinished, ask-full}
-use Rattle.tcap.specs.declared.Row.{Row}
+use Rattle.base.proofs.Puts.{put-front}
+use Rattle.tcap.specs.declared.{Row.Row, Outcome.Outcome}
+use Rattle.reader.proofs.Held.{Held, held-rows}
 use Rattle.tcap.specs.Meaning.{Component}
 use Rattle.tcap.specs.WellFormed.{deepestLevel, mostComponents}
 use Rattle.tcap.specs.Productions.{componentItem, componentAt}
 use Rattle.tcap.specs.Record.{rowOf, blankRow}
-use Rattle.asking.specs.declared.Fault.{Fault}
+use Rattle.asking.specs.declared.{Fault.Fault, Closed.Closed}
 use Rattle.asking.specs.Asked.{faultField}
 use Rattle.asking.proofs.Opened.{rest}
 use Rattle.asking.proofs.Fronts.{series-more}
@@ -33,8 +35,24 @@ use Rattle.asking.specs.Asked.{closeOf, wholeOf}
 use Rattle.transaction.proofs.Taken.{whole-within}
 use Rattle.transaction.specs.declared.{Head.Head}
 use Rattle.transaction.specs.Head.{carriedField}
-use Rattle.reader.specs.declared.{Frame.Frame, Closing.Closing}
-use Rattle.reader.specs.Parts.{refusedBy, acceptedWith, closingOf, closedWith, gathered}
+use Rattle.layout.specs.Layout.{rowSize, rowsIn, rowsOctets}
+use Rattle.layout.proofs.RoundTrip.{rows-length}
+use Rattle.reader.specs.declared.{Frame.Frame, Outline.Outline, Closing.Closing}
+use Rattle.reader.specs.Parts.{refusedBy, acceptedWith, closingOf, closedWith, gathered, rowsRead, rowsHeld, assembled, outlineOf, Laid}
+
+-- of a refused message the octets of the rows mean nothing
+pub refused-as : {r : Outline} (g : Fault) (l : List ℕ) → r ≡ outlineOf (refusedBy g) → Laid r l (refusedBy g)
+unfolding assembled outlineOf rowsHeld rowsIn rowsOctets refusedBy
+refused-as g l e = record { same = rw e; rows = rw e }
+
+-- without components there are no rows to be laid out
+pub bare-as : (h : Head) (f : Frame) (n : ℕ) (r : Outline) (l : List ℕ) → r ≡ outlineOf (rowsRead h f n (got [] 0)) → Laid r l (rowsRead h f n (got [] 0))
+unfolding rowsRead closedWith assembled outlineOf rowsHeld rowsIn rowsOctets refusedBy
+bare-as h f n r l e = rw e (by-closing (closingOf f n 0 Closed.Done))
+  where
+    by-closing : (c : Closing) → Laid (outlineOf (closedWith h [] c)) l (closedWith h [] c)
+    by-closing Closing.Whole = record { same = refl; rows = refl }
+    by-closing (Closing.Bad g) = record { same = refl; rows = refl }
 
 -- the first must be there
 abbrev endsAt : ℕ → Option (List (Component Text))
@@ -49,7 +67,7 @@ rowsThen l at (got cs n) = got (l ++ map rowOf cs) (at + n)
 rowsThen l at (bad f) = bad f
 
 pub record Left (d : Bool) (p : ℕ) (part : List ℕ) (rows : List Row) (count i : ℕ) : Type 0 where
-  same : rowsThen [] 0 (ask (bodyAt none mostComponents 0) d p part) ≡ rowsThen (take count rows) i (ask (bodyAt (endsAt count) (mostComponents - count) count) d (p + i) (drop i part))
+  same : rowsThen [] 0 (ask (bodyAt none mostComponents 0) d p part) ≡ rowsThen rows i (ask (bodyAt (endsAt count) (mostComponents - count) count) d (p + i) (drop i part))
 
 -- as handed out
 unfoldable pub closedAs : Head → ℕ → List Row → Closing → Reading
@@ -95,10 +113,11 @@ module _ (d : Bool) (p : ℕ) (part : List ℕ) (rows : List Row) (count i : ℕ
   more = ask (bodyAt (endsAt count) (mostComponents - count) count) d (p + i) (drop i part)
 
   -- a fault ends it
-  pub refused-by : {g : Fault} (h : Head) (f : Frame) (n : ℕ) (behind : List ℕ) (m : ℕ → ℕ) (r : Reading) → r ≡ refusedBy (carriedField (h .orig) g) → Failed more g → r ≡ gathered h f n behind m all
+  pub refused-by : (k : Fault) (h : Head) (f : Frame) (n : ℕ) (behind : List ℕ) (m : ℕ → ℕ) (r : Outline) (l : List ℕ) → r ≡ outlineOf (refusedBy (carriedField (h .orig) k)) → Failed more k → Laid r l (gathered h f n behind m all)
   unfolding handed rowsThen
-  refused-by h f n behind m r is (g, e, j) =
-      is ∙ ap (λ (x : Fault). refusedBy (carriedField (h .orig) x)) j ∙ sym (handed-rows h f n behind m all ∙ ap (handed h f n behind m) (left .same ∙ ap (rowsThen (take count rows) i) e))
+  refused-by k h f n behind m r l is (g, failed, j) =
+      let e : refusedBy (carriedField (h .orig) k) ≡ gathered h f n behind m all = ap (λ (x : Fault). refusedBy (carriedField (h .orig) x)) j ∙ sym (handed-rows h f n behind m all ∙ ap (handed h f n behind m) (left .same ∙ ap (rowsThen rows i) failed)) in
+      rw e at (refused-as _ l is)
 
   module _ (r : EndRead) (is : r ≡ endOf d q) where
     told : (e : EndRead) → r ≡ e → endOf d (drop i part) ≡ e
@@ -117,13 +136,12 @@ module _ (d : Bool) (p : ℕ) (part : List ℕ) (rows : List Row) (count i : ℕ
         ask-full (bodyAt (endsAt count) (mostComponents - count) count) d (p + i) (drop i part) (told EndRead.More e) (rw none-left)
 
     -- the last has been read
-    pub handed-out : (h : Head) (f : Frame) (n : ℕ) (behind : List ℕ) (m : ℕ → ℕ) → r ≡ EndRead.Ended → (count ≡ 0 → ⊥) → count ≤ 16 → length rows ≡ 16 → drop count rows ≡ replicate (16 - count) blankRow
-        → gathered h f n behind m all ≡ closedAs h count rows (closingOf f n (m i) (closeOf (f .definite) (drop (m i) behind)))
+    pub handed-out : (h : Head) (f : Frame) (n : ℕ) (behind : List ℕ) (m : ℕ → ℕ) → r ≡ EndRead.Ended → (count ≡ 0 → ⊥) → length rows ≡ count
+        → gathered h f n behind m all ≡ closedAs h count (rows ++ replicate (16 - count) blankRow) (closingOf f n (m i) (closeOf (f .definite) (drop (m i) behind)))
     unfolding handed rowsThen
-    handed-out h f n behind m e z k sixteen blanks =
-        let l : length (take count rows) ≡ count = length-take-le count rows (omega arith) in
+    handed-out h f n behind m e z l =
         let g : more ≡ got [] 0 = ask-ends (bodyAt (endsAt count) (mostComponents - count) count) d (p + i) (drop i part) [] (told EndRead.Ended e) (ended-by (mostComponents - count) count (endsAt count) ∙ rw (ne-eqb count 0 z)) in
-        handed-rows h f n behind m all ∙ ap (handed h f n behind m) (left .same ∙ ap (rowsThen (take count rows) i) g) ∙ rw (append-nil, l, add-zero, ← blanks, take-append-drop)
+        handed-rows h f n behind m all ∙ ap (handed h f n behind m) (left .same ∙ ap (rowsThen rows i) g) ∙ rw (append-nil, l, add-zero)
 
     -- one more
     module _ (e : r ≡ EndRead.More) (few : count < 16) where
@@ -145,11 +163,11 @@ module _ (d : Bool) (p : ℕ) (part : List ℕ) (rows : List Row) (count i : ℕ
       unfolding next
       more-bad (g, h, j) = (g, more-is ∙ rw h, j)
 
-      module _ (row : Row) (n : ℕ) (sixteen : length rows ≡ 16) where
+      module _ (row : Row) (n : ℕ) where
         step : (a : Component Text) → row ≡ rowOf a → (y : Got (List (Component Text)))
-            → rowsThen (take count rows) i (next y (λ ws m. got (a ∷ ws) (n + m))) ≡ rowsThen (take (suc count) (set rows count row)) (i + n) y
+            → rowsThen rows i (next y (λ ws m. got (a ∷ ws) (n + m))) ≡ rowsThen (rows ++ (row ∷ [])) (i + n) y
         unfolding next rowsThen
-        step a j (got ws m) = rw (take-suc-set rows count row (omega arith), append-snoc, add-assoc, j)
+        step a j (got ws m) = rw (append-snoc, add-assoc, j)
         step a j (bad f) = refl
 
         follows : ask (bodyAt (some []) (mostComponents - suc count) (suc count)) d (p + i + n) (drop n q) ≡ ask (bodyAt (endsAt (count + 1)) (mostComponents - (count + 1)) (count + 1)) d (p + (i + n)) (drop (i + n) part)
@@ -161,29 +179,17 @@ module _ (d : Bool) (p : ℕ) (part : List ℕ) (rows : List Row) (count i : ℕ
             ∙ ap₂ (λ (place : ℕ) (c : List ℕ). ask (bodyAt (some []) (mostComponents - (count + 1)) (count + 1)) d place c) t (ap (drop n) cut ∙ drop-drop n i part)
             ∙ ap (λ (t : Bool). ask (bodyAt (cond t none (some [])) (mostComponents - (count + 1)) (count + 1)) d (p + (i + n)) (drop (i + n) part)) (sym (ne-eqb (count + 1) 0 later))
 
-        pub more-got : Gives rowOf (component-here count true (p + i) q) row n → Left d p part (set rows count row) (count + 1) (i + n)
+        pub more-got : Gives rowOf (component-here count true (p + i) q) row n → Left d p part (rows ++ (row ∷ [])) (count + 1) (i + n)
         unfolding next
         more-got (a, h, j) =
-            let z : suc count ≡ count + 1 = omega arith in
             record {
-              same = left .same ∙ ap (rowsThen (take count rows) i) (more-is ∙ rw h) ∙ step a j (ask (bodyAt (some []) (mostComponents - suc count) (suc count)) d (p + i + n) (drop n q))
-                  ∙ ap₂ (λ (k : ℕ) (y : Got (List (Component Text))). rowsThen (take k (set rows count row)) (i + n) y) z follows;
+              same = left .same ∙ ap (rowsThen rows i) (more-is ∙ rw h) ∙ step a j (ask (bodyAt (some []) (mostComponents - suc count) (suc count)) d (p + i + n) (drop n q))
+                  ∙ ap (rowsThen (rows ++ (row ∷ [])) (i + n)) follows;
             }
 
 -- nothing has been read
-pub left-all : (d : Bool) (p : ℕ) (part : List ℕ) (rows : List Row) → Left d p part rows 0 0
-left-all d p part rows = record { same = rw (add-zero p) }
-
-pub blank-step : (rows : List Row) (count : ℕ) (row : Row) → count < 16 → drop count rows ≡ replicate (16 - count) blankRow → drop (count + 1) (set rows count row) ≡ replicate (16 - (count + 1)) blankRow
-blank-step rows count row h e =
-    let room : 16 - count ≡ suc (16 - (count + 1)) = omega arith in
-    drop-set-lt (count + 1) rows count row (omega arith) ∙ sym (drop-drop 1 count rows) ∙ ap (drop 1) (e ∙ ap (λ (k : ℕ). replicate k blankRow) room)
-
--- a blank row set among blank rows
-pub blank-set : (n k : ℕ) → set (replicate n blankRow) k blankRow ≡ replicate n blankRow
-blank-set zero k = refl
-blank-set (suc n) zero = refl
-blank-set (suc n) (suc k) = ap (λ (l : List Row). blankRow ∷ l) (blank-set n k)
+pub left-all : (d : Bool) (p : ℕ) (part : List ℕ) → Left d p part [] 0 0
+left-all d p part = record { same = rw (add-zero p) }
 
 -- 6C, whose contents end where they were read to, lies in the rest of the message
 pub end-within : (rest part : List ℕ) (u e n : ℕ) (f : Bool) (q : List ℕ) (r : EndRead) → part ≡ take (e - u) (drop u rest) → u ≤ e → e ≤ length rest → n ≤ length part
@@ -200,3 +206,15 @@ piece-bound part q u e cut h i =
 
 pub after-bound : (part q : List ℕ) (i : ℕ) → q ≡ drop i part → i ≤ length part → i + length q ≤ length part
 after-bound part q i cut h = omega (arith, ap length cut ∙ length-drop i part)
+
+-- all rows have been laid out
+pub whole-laid : (h : Head) (n : ℕ) {old : List ℕ} {rs : List Row} {o : ℕ} {new : List ℕ} → Held old rs o new → 384 ≤ length old → n ≤ 16 → length rs ≡ n
+    → Laid (record { outcome = Outcome.Accepted; kind = h .kind; orig = h .orig; dest = h .dest; dialogue = h .dialogue; count = n }) new (closedAs h n (rs ++ replicate (16 - n) blankRow) Closing.Whole)
+unfolding closedAs assembled rowsHeld
+whole-laid h n {old} {rs} {o} {new} held w k l =
+    let e : rowsIn n new ≡ rs = ap (λ (i : ℕ). rowsIn i new) (sym l) ∙ held-rows held w (omega (arith, l)) in
+    let long : length (rowsOctets rs) ≡ rowSize * n = rows-length rs ∙ ap (λ (i : ℕ). rowSize * i) l in
+    record {
+      same = rw e;
+      rows = ap (take (rowSize * n)) (put-front (held .put) (omega (arith, long))) ∙ take-at (rowsOctets rs) _ (rowSize * n) long ∙ ap rowsOctets (sym (take-at rs (replicate (16 - n) blankRow) n l));
+    }

@@ -3,3 +3,5 @@ pub mod Whole
 pub mod Tails
 pub mod Gathered
 pub mod Rows
+pub mod Held
+pub mod Few

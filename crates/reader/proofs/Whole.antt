@@ -161,6 +161,3 @@ by-length m false e = rw (le-leb (length m) mostOctets (ltb-false mostOctets (le
 pub message-read : (m : List ℕ) → readMessage m ≡ reading m
 unfolding readMessage reading readingUpTo locatedUpTo
 message-read m = by-length m (ltb mostOctets (length m)) refl
-
-pub read-as-told : (m : List ℕ) (r : Reading) → r ≡ readMessage m → r ≡ reading m
-read-as-told m r e = e ∙ message-read m

@@ -13,7 +13,7 @@ ghost use Rattle.tcap.specs.Productions.{levelAt, componentAt, componentItem, c
 ghost use Rattle.tcap.specs.Reading.{reading};
 ghost use Rattle.asking.specs.Asked.{innerOf, closeOf, wholeOf};
 ghost use Rattle.transaction.specs.Head.{carriedField};
-ghost use Rattle.reader.specs.Parts.{causeBy, problemBy, answerFrom, refusalFrom, ownedIn, refusedBy, kindOf, closingOf, gathered, rowsRead, leftOut, bareFor, rowsFor, recordRead, finished, readAs};
+ghost use Rattle.reader.specs.Parts.{outlineOf, rowsHeld, Laid, causeBy, problemBy, answerFrom, refusalFrom, ownedIn, refusedBy, kindOf, closingOf, gathered, rowsRead, leftOut, bareFor, rowsFor, recordRead, finished, readAs};
 use asking::Closed;
 use asking::Entry;
 use asking::Fault;
@@ -25,6 +25,7 @@ use contents::RowRead;
 use element::EndRead;
 use element::FaultKind;
 use element::number_of;
+use pack::row::put_row;
 use tcap::Answer;
 use tcap::Dialogue;
 use tcap::InvokeId;
@@ -35,8 +36,10 @@ use tcap::Outcome;
 use tcap::Reading;
 use tcap::Record;
 use tcap::Refusal;
+use tcap::Row;
 use transaction::Head;
 use transaction::HeadRead;
+use unpack::row::row_in;
 
 // The kind of a message by its first octet.
 pub enum KindRead {
@@ -57,6 +60,16 @@ pub struct Portion {
     pub at: usize,
     pub end: usize,
     pub definite: bool,
+}
+
+// What a message is but for its rows.
+pub struct Outline {
+    pub outcome: Outcome,
+    pub kind: MessageKind,
+    pub orig: OptionalOrig,
+    pub dest: OptionalDest,
+    pub dialogue: Dialogue,
+    pub count: usize,
 }
 
 // How a message ends.
@@ -145,25 +158,17 @@ fn owned_in(owner: Owner, fault: Fault) -> Fault
 
 // A refusal hands back the blank record; a fault found behind the IDs carries the originating one. Callers hand over the fault as they have it, so that the
 // compiler does not take it apart before it is needed.
-fn refused(orig: OptionalOrig, owner: Owner, fault: Fault) -> Reading
-    ensures { λ r. ⌜ r ≡ refusedBy (carriedField orig (ownedIn owner fault)) ⌝ }
+fn refused(orig: OptionalOrig, owner: Owner, fault: Fault) -> Outline
+    ensures { λ r. ⌜ r ≡ outlineOf (refusedBy (carriedField orig (ownedIn owner fault))) ⌝ }
 {
     let refusal = refusal_of(transaction::carried_by(orig, owned_in(owner, fault)));
-    let row = components::blank();
-    let mut rows = [row; 16];
-    // One row is set at a place that the compiler does not know: so it copies the rows as a whole, and not field by field.
-    rows[fault.place % 16] = row;
-    let record = Record {
+    Outline {
+        outcome: Outcome::Refused(refusal),
         kind: MessageKind::Unidirectional,
         orig: OptionalOrig::NoOrig,
         dest: OptionalDest::NoDest,
         dialogue: Dialogue::NoDialogue,
         count: 0,
-        rows: rows,
-    };
-    Reading {
-        outcome: Outcome::Refused(refusal),
-        message: record,
     }
 }
 
@@ -210,10 +215,18 @@ fn closing_at(frame: Frame, rest: &[u8], before: usize, size: usize) -> Closing
 }
 
 // The components, at most 16, each into its row; then the end of the message. The record is made once, where all is known.
-fn gather(head: Head, frame: Frame, rest: &[u8], before: usize, portion: Portion) -> Reading
+fn gather(
+    rows: &mut [u8],
+    head: Head,
+    frame: Frame,
+    rest: &[u8],
+    before: usize,
+    portion: Portion,
+) -> Outline
+    requires { ⌜ 384 ≤ length (now rows) ⌝ }
     requires { ⌜ frame .start + before + length (now rest) ≤ 4096 ⌝ }
     requires { ⌜ (portion .at ≤ portion .end) × (portion .end ≤ length (now rest)) ⌝ }
-    ensures { λ r. ⌜ r ≡ gathered head frame before (now (rest .entry)) (wholeOf (portion .at) (portion .end) (portion .definite)) (ask (seriesBody (componentAt deepestLevel) FaultKinds.UnknownComponent (componentItem deepestLevel) none mostComponents 0) (portion .definite) (frame .start + before + portion .at) (take (portion .end - portion .at) (drop (portion .at) (now (rest .entry))))) ⌝ }
+    ensures { λ r. ⌜ Laid r (now (rows .exit)) (gathered head frame before (now (rest .entry)) (wholeOf (portion .at) (portion .end) (portion .definite)) (ask (seriesBody (componentAt deepestLevel) FaultKinds.UnknownComponent (componentItem deepestLevel) none mostComponents 0) (portion .definite) (frame .start + before + portion .at) (take (portion .end - portion .at) (drop (portion .at) (now (rest .entry)))))) ⌝ }
 {
     let kind = head.kind;
     let orig = head.orig;
@@ -221,8 +234,7 @@ fn gather(head: Head, frame: Frame, rest: &[u8], before: usize, portion: Portion
     let dialogue = head.dialogue;
     let part = piece(rest, portion.at, portion.end - portion.at);
     let place = frame.start + before + portion.at;
-    let row = components::blank();
-    let mut rows = [row; 16];
+    let mut o: usize = 0;
     let mut count: usize = 0;
     let mut at: usize = 0;
     loop {
@@ -243,16 +255,13 @@ fn gather(head: Head, frame: Frame, rest: &[u8], before: usize, portion: Portion
                         return refused(orig, Owner::Portion, fault);
                     }
                     Closing::Whole => {
-                        return Reading {
+                        return Outline {
                             outcome: Outcome::Accepted,
-                            message: Record {
-                                kind: kind,
-                                orig: orig,
-                                dest: dest,
-                                dialogue: dialogue,
-                                count: count,
-                                rows: rows,
-                            },
+                            kind: kind,
+                            orig: orig,
+                            dest: dest,
+                            dialogue: dialogue,
+                            count: count,
                         };
                     }
                 }
@@ -284,7 +293,7 @@ fn gather(head: Head, frame: Frame, rest: &[u8], before: usize, portion: Portion
                                 return refused(orig, Owner::Component(count), fault);
                             }
                             RowRead::Got { row: next, size } => {
-                                rows[count] = next;
+                                o = put_row(rows, o, next);
                                 count += 1;
                                 at += asking::whole_size(from, to, inner, size);
                             }
@@ -297,9 +306,10 @@ fn gather(head: Head, frame: Frame, rest: &[u8], before: usize, portion: Portion
 }
 
 // 6C, and nothing after it.
-fn rows_at(head: Head, frame: Frame, rest: &[u8], before: usize) -> Reading
+fn rows_at(rows: &mut [u8], head: Head, frame: Frame, rest: &[u8], before: usize) -> Outline
+    requires { ⌜ 384 ≤ length (now rows) ⌝ }
     requires { ⌜ frame .start + before + length (now rest) ≤ 4096 ⌝ }
-    ensures { λ r. ⌜ r ≡ rowsRead head frame before (ask (onlyBody (levelAt deepestLevel 2) (componentsItem deepestLevel)) (frame .definite) (frame .start + before) (now (rest .entry))) ⌝ }
+    ensures { λ r. ⌜ Laid r (now (rows .exit)) (rowsRead head frame before (ask (onlyBody (levelAt deepestLevel 2) (componentsItem deepestLevel)) (frame .definite) (frame .start + before) (now (rest .entry)))) ⌝ }
 {
     match asking::entry_at(rest, frame.definite, 0x6C) {
         Entry::Bad(kind) => {
@@ -313,15 +323,15 @@ fn rows_at(head: Head, frame: Frame, rest: &[u8], before: usize) -> Reading
                 end: end,
                 definite: definite,
             };
-            gather(head, frame, rest, before, portion)
+            gather(rows, head, frame, rest, before, portion)
         }
     }
 }
 
 // A message without components, whose contents have `before` octets.
-fn bare(head: Head, frame: Frame, before: usize) -> Reading
+fn bare(head: Head, frame: Frame, before: usize) -> Outline
     requires { ⌜ frame .start + before ≤ 4096 ⌝ }
-    ensures { λ r. ⌜ r ≡ rowsRead head frame before (got [] 0) ⌝ }
+    ensures { λ r. ⌜ r ≡ outlineOf (rowsRead head frame before (got [] 0)) ⌝ }
 {
     let kind = head.kind;
     let orig = head.orig;
@@ -335,20 +345,13 @@ fn bare(head: Head, frame: Frame, before: usize) -> Reading
             asking::found(FaultKind::OctetsAfter, whole),
         );
     }
-    let row = components::blank();
-    let mut rows = [row; 16];
-    // As in a refusal: the rows stay one piece.
-    rows[before % 16] = row;
-    Reading {
+    Outline {
         outcome: Outcome::Accepted,
-        message: Record {
-            kind: kind,
-            orig: orig,
-            dest: dest,
-            dialogue: dialogue,
-            count: 0,
-            rows: rows,
-        },
+        kind: kind,
+        orig: orig,
+        dest: dest,
+        dialogue: dialogue,
+        count: 0,
     }
 }
 
@@ -377,31 +380,41 @@ fn is_bare(kind: MessageKind, rest: &[u8], definite: bool) -> bool
 }
 
 // The components that the kind has.
-fn rows_for(kind: MessageKind, head: Head, frame: Frame, rest: &[u8], before: usize) -> Reading
+fn rows_for(
+    rows: &mut [u8],
+    kind: MessageKind,
+    head: Head,
+    frame: Frame,
+    rest: &[u8],
+    before: usize,
+) -> Outline
+    requires { ⌜ 384 ≤ length (now rows) ⌝ }
     requires { ⌜ frame .start + before + length (now rest) ≤ 4096 ⌝ }
-    ensures { λ r. ⌜ r ≡ rowsRead head frame before (rowsFor kind (frame .definite) (frame .start + before) (now (rest .entry))) ⌝ }
+    ensures { λ r. ⌜ Laid r (now (rows .exit)) (rowsRead head frame before (rowsFor kind (frame .definite) (frame .start + before) (now (rest .entry)))) ⌝ }
 {
     if is_bare(kind, rest, frame.definite) {
         return bare(head, frame, before);
     }
-    rows_at(head, frame, rest, before)
+    rows_at(rows, head, frame, rest, before)
 }
 
 // The contents of a message of a kind.
-fn record_at(kind: MessageKind, part: &[u8], frame: Frame) -> Reading
+fn record_at(rows: &mut [u8], kind: MessageKind, part: &[u8], frame: Frame) -> Outline
+    requires { ⌜ 384 ≤ length (now rows) ⌝ }
     requires { ⌜ frame .start + length (now part) ≤ 4096 ⌝ }
-    ensures { λ r. ⌜ r ≡ finished (frame .len) (frame .start) (frame .end) (frame .definite) (recordRead kind (frame .definite) (frame .start) (now (part .entry))) ⌝ }
+    ensures { λ r. ⌜ Laid r (now (rows .exit)) (finished (frame .len) (frame .start) (frame .end) (frame .definite) (recordRead kind (frame .definite) (frame .start) (now (part .entry)))) ⌝ }
 {
     match transaction::head_at(kind, part, frame.start, frame.definite) {
         HeadRead::Bad(fault) => refused(OptionalOrig::NoOrig, Owner::Portion, fault),
-        HeadRead::Got { head, size } => rows_for(kind, head, frame, after(part, size), size),
+        HeadRead::Got { head, size } => rows_for(rows, kind, head, frame, after(part, size), size),
     }
 }
 
 // A message of a kind, whose tag is its first octet.
-fn message_at(kind: MessageKind, message: &[u8]) -> Reading
+fn message_at(rows: &mut [u8], kind: MessageKind, message: &[u8]) -> Outline
+    requires { ⌜ 384 ≤ length (now rows) ⌝ }
     requires { ⌜ (length (now message) ≤ 255) × (1 ≤ length (now message)) ⌝ }
-    ensures { λ r. ⌜ r ≡ readAs kind (now (message .entry)) (innerOf (now (message .entry)) 1) ⌝ }
+    ensures { λ r. ⌜ Laid r (now (rows .exit)) (readAs kind (now (message .entry)) (innerOf (now (message .entry)) 1)) ⌝ }
 {
     match asking::inner_at(message, 1) {
         Entry::Bad(fault) => refused(
@@ -416,14 +429,15 @@ fn message_at(kind: MessageKind, message: &[u8]) -> Reading
                 definite: definite,
                 len: message.len(),
             };
-            record_at(kind, piece(message, at, end - at), frame)
+            record_at(rows, kind, piece(message, at, end - at), frame)
         }
     }
 }
 
-// The reading of a message by document 01: every octet string has one.
-pub fn read(message: &[u8]) -> Reading
-    ensures { λ r. ⌜ r ≡ reading (now (message .entry)) ⌝ }
+// The reading of a message by document 01: every octet string has one. Its rows are laid out as octets, 24 a row; of a refused message they mean nothing.
+pub fn read_rows(message: &[u8], rows: &mut [u8]) -> Outline
+    requires { ⌜ 384 ≤ length (now rows) ⌝ }
+    ensures { λ r. ⌜ Laid r (now (rows .exit)) (reading (now (message .entry))) ⌝ }
 {
     let len = message.len();
     if len > 255 {
@@ -446,6 +460,48 @@ pub fn read(message: &[u8]) -> Reading
             Owner::Portion,
             asking::found(FaultKind::NoMessage, 0),
         ),
-        KindRead::Kind(kind) => message_at(kind, message),
+        KindRead::Kind(kind) => message_at(rows, kind, message),
+    }
+}
+
+// The rows that octets hold, and blank rows behind them.
+fn rows_in(octets: &[u8], count: usize) -> [Row; 16]
+    requires { ⌜ (384 ≤ length (now octets)) × (count ≤ 16) ⌝ }
+    ensures { λ r. ⌜ r ≡ rowsHeld count (now (octets .entry)) ⌝ }
+{
+    let blank = components::blank();
+    let mut rows = [blank; 16];
+    let mut i = 0;
+    while i < count {
+        let row = row_in(after(octets, i * 24));
+        rows[i] = row;
+        i += 1;
+    }
+    rows
+}
+
+// The same as one record.
+pub fn read(message: &[u8]) -> Reading
+    ensures { λ r. ⌜ r ≡ reading (now (message .entry)) ⌝ }
+{
+    let mut octets = [0u8; 384];
+    let outline = read_rows(message, &mut octets);
+    let outcome = outline.outcome;
+    let kind = outline.kind;
+    let orig = outline.orig;
+    let dest = outline.dest;
+    let dialogue = outline.dialogue;
+    let count = outline.count;
+    let rows = rows_in(&octets, count);
+    Reading {
+        outcome: outcome,
+        message: Record {
+            kind: kind,
+            orig: orig,
+            dest: dest,
+            dialogue: dialogue,
+            count: count,
+            rows: rows,
+        },
     }
 }

@@ -3,3 +3,4 @@ pub mod Rules
 pub mod Steps
 pub mod Promises
 pub mod Layouts
+pub mod First

@@ -11,6 +11,7 @@ use tcap::ComponentKind;
 use tcap::MessageKind;
 use tcap::Outcome;
 use tcap::Refusal;
+use unpack::row::row_in;
 
 // The kind that asks for any.
 const ANY_KIND: u8 = 0;
@@ -94,7 +95,7 @@ fn invoked_by(component: ComponentKind) -> FirstCode
     }
 }
 
-// The count is asked first: where there is no component, the first row looks like an Invoke of code 0.
+// The count is asked first: where there is no component, the octets of the first row mean nothing.
 fn first_of(count: usize, component: ComponentKind) -> FirstCode
     ensures { λ r. ⌜ r ≡ firstOf count component ⌝ }
 {
@@ -108,14 +109,14 @@ fn first_of(count: usize, component: ComponentKind) -> FirstCode
 fn key_of(message: &[u8]) -> Key
     ensures { λ r. ⌜ r ≡ keyOf (reading (now (message .entry))) ⌝ }
 {
-    let reading = reader::read(message);
-    let outcome = reading.outcome;
-    let record = reading.message;
-    let kind = record.kind;
-    let row = record.rows[0];
+    let mut octets = [0u8; 384];
+    let outline = reader::read_rows(message, &mut octets);
+    let outcome = outline.outcome;
+    let kind = outline.kind;
+    let row = row_in(&octets);
     let component = row.kind;
     let tag = tag_of(kind);
-    let first = first_of(record.count, component);
+    let first = first_of(outline.count, component);
     Key {
         outcome: outcome,
         tag: tag,

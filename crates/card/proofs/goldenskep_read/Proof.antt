@@ -1,11 +1,18 @@
--- The room is known first; what is accepted stands at its front. Assumes nothing.
+-- The room is known first; what is accepted stands at its front, the head and then the octets of the rows. Assumes nothing.
 use borrow.Author.Needs.{needs}
-use mathlib.Core.Path.{refl}
+use denote.Ref.{now}
 use native.Mathlib.Omega.{arith}
+use Prim.Native.Nat.{_≤_}
+use mathlib.Core.Path.{_≡_, refl, sym, ap, _∙_}
+use lib.Seq.{length-take-le}
 use borrow.Author.Tests.{lt-ltb, le-ltb}
-use Rattle.base.proofs.Puts.{put-front}
+use Rattle.base.proofs.Puts.{put-front, put-then, put-length}
+use Rattle.tcap.specs.declared.{Outcome.Outcome, Reading.Reading}
+use Rattle.tcap.specs.Reading.{reading}
+use Rattle.reader.specs.Parts.{assembled}
+use Rattle.reader.proofs.Few.{outline-few}
 use Rattle.card.specs.Answer.{outcomeBits, readAnswer, recordRoom, readRoom}
-use Rattle.card.proofs.Kept.{laid-most}
+use Rattle.card.proofs.Kept.{laid-most, laid-record, laid-outcome}
 use Rattle.card.proofs.goldenskep_read.Statement.{statement}
 use Rattle.card.proofs.goldenskep_read.Tie as tie
 
@@ -13,14 +20,29 @@ returns : tie.Need-returns
 unfolding readAnswer readRoom
 returns c = (rw (lt-ltb _ _ (c .if1 .taken)), rw (lt-ltb _ _ (c .if1 .taken)))
 
-read-requires : tie.Need-read-requires
-read-requires c κs = search needs
+slice-aggregate-read-rows : tie.Need-slice-aggregate-read-rows
+slice-aggregate-read-rows c = search needs
+
+read-rows-requires : tie.Need-read-rows-requires
+read-rows-requires c κs = search needs
 
 enum-told : tie.Need-enum-told
 enum-told c = search needs
 
-put-record-requires : tie.Need-put-record-requires
-put-record-requires c κs = omega arith
+put-head-requires : tie.Need-put-head-requires
+put-head-requires c κs = omega (arith, c .before .before .before .before .before .before .if1 .left)
+
+mul-octets : tie.Need-mul-octets
+mul-octets c = omega (arith, outline-few _ _ _ (c .before .before .before .before .before .before .before .before .read-rows .ensures .same))
+
+array-share-prefix-octets : tie.Need-array-share-prefix-octets
+array-share-prefix-octets c = omega (arith, outline-few _ _ _ (c .before .before .before .before .before .before .before .before .read-rows .ensures .same))
+
+slice-aggregate-put-part : tie.Need-slice-aggregate-put-part
+slice-aggregate-put-part c = sym (length-take-le _ _ (omega (arith, outline-few _ _ _ (c .before .before .before .before .before .before .before .before .before .read-rows .ensures .same))))
+
+put-part-requires : tie.Need-put-part-requires
+put-part-requires c κs = search needs
 
 enum-known-outcome : tie.Need-enum-known-outcome
 enum-known-outcome c = search needs
@@ -29,26 +51,34 @@ refusal-bits-requires : tie.Need-refusal-bits-requires
 refusal-bits-requires c κs = search needs
 
 same-length : tie.Need-same-length
-same-length c = search needs
+same-length c = put-length (put-then (c .before .before .before .before .before .before .before .put-head .ensures) (c .before .before .put-part .ensures))
 
 returns-2 : tie.Need-returns-2
 unfolding readAnswer readRoom outcomeBits recordRoom
 returns-2 c =
-    let l = laid-most _ _ (c .before .before .before .before .before .before .before .read .ensures) (c .before .before .before .before .before .enum-told .given .1) in
-    rw (le-ltb _ _ (c .before .before .before .before .before .before .before .before .if1 .left), ← (c .before .before .before .before .before .before .before .read .ensures), c .before .before .before .before .before .enum-told .given .1) (refl, put-front (c .before .before .put-record .ensures) (omega (arith, l)))
+    let m = now (c .before .before .before .before .before .before .before .before .before .before .before .before .before .before .before .before .before .args .message) in
+    let d = c .before .before .before .before .before .before .before .before .before .before .before .before .read-rows .ensures in
+    let h : reading m .outcome ≡ Outcome.Accepted = laid-outcome m d ∙ c .before .before .before .before .before .before .before .before .before .enum-told .given .1 in
+    let p = rw (laid-record m d) at (put-then (c .before .before .before .before .before .before .before .put-head .ensures) (c .before .before .put-part .ensures)) in
+    rw (le-ltb _ _ (c .before .before .before .before .before .before .before .before .before .before .before .before .before .before .if1 .left), h) (refl, put-front p (omega (arith, laid-most m h)))
 
 returns-3 : tie.Need-returns-3
 unfolding readAnswer readRoom outcomeBits recordRoom
-returns-3 c = rw (le-ltb _ _ (c .before .before .before .before .before .if1 .left), ← (c .before .before .before .before .read .ensures), c .before .before .outcome .given .1) (c .refusal-bits .ensures, refl)
+returns-3 c = rw (le-ltb _ _ (c .before .before .before .before .before .before .before .if1 .left), laid-outcome _ (c .before .before .before .before .before .read-rows .ensures) ∙ c .before .before .outcome .given .1) (c .refusal-bits .ensures, refl)
 
 pub goldenskep-read-spec : {M : Type 1} → statement M
 goldenskep-read-spec =
     tie.close
     (tie.spec
     returns
-    read-requires
+    slice-aggregate-read-rows
+    read-rows-requires
     enum-told
-    put-record-requires
+    put-head-requires
+    mul-octets
+    array-share-prefix-octets
+    slice-aggregate-put-part
+    put-part-requires
     enum-known-outcome
     refusal-bits-requires
     same-length

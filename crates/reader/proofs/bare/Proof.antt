@@ -4,8 +4,7 @@ use native.Mathlib.Omega.{arith}
 use native.Mathlib.Nat.{add-zero}
 use borrow.Author.Needs.{needs}
 use borrow.Author.Tests.{eq-eqb, ne-eqb}
-use Rattle.reader.specs.Parts.{ownedIn, closingOf, closedWith, rowsRead}
-use Rattle.reader.proofs.Gathered.{blank-set}
+use Rattle.reader.specs.Parts.{outlineOf, ownedIn, closingOf, closedWith, rowsRead}
 use Rattle.reader.proofs.bare.Statement.{statement}
 use Rattle.reader.proofs.bare.Tie as tie
 
@@ -13,27 +12,18 @@ whole-size-requires : tie.Need-whole-size-requires
 whole-size-requires c κs = omega (arith, c .pre)
 
 returns : tie.Need-returns
-unfolding rowsRead closingOf closedWith ownedIn
+unfolding outlineOf rowsRead closingOf closedWith ownedIn
 returns c = rw (add-zero, ← (c .before .before .before .before .whole-size .ensures), ne-eqb _ _ (c .before .before .if1 .taken), c .refused .ensures, c .before .found .ensures)
 
 returns-2 : tie.Need-returns-2
-unfolding rowsRead closingOf closedWith
-returns-2 c = rw (add-zero, ← (c .before .before .before .whole-size .ensures), eq-eqb _ _ (c .before .if1 .left), c .blank .ensures, blank-set 16)
+unfolding rowsRead closingOf closedWith outlineOf
+returns-2 c = rw (add-zero, ← (c .before .before .whole-size .ensures), eq-eqb _ _ (c .if1 .left))
 
 found-requires : tie.Need-found-requires
 found-requires c κs = search needs
 
 refused-requires : tie.Need-refused-requires
 refused-requires c κs = search needs
-
-blank-requires : tie.Need-blank-requires
-blank-requires c κs = search needs
-
-mul-rows : tie.Need-mul-rows
-mul-rows c = search needs
-
-array-set-from-rows : tie.Need-array-set-from-rows
-array-set-from-rows c = search needs
 
 pub bare-spec : {M : Type 1} → statement M
 bare-spec =
@@ -43,7 +33,4 @@ bare-spec =
     found-requires
     refused-requires
     returns
-    blank-requires
-    mul-rows
-    array-set-from-rows
     returns-2)

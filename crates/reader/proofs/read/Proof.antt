@@ -1,77 +1,33 @@
--- `read` meets its contract. Assumes nothing.
-use borrow.Author.Tests.{lt-ltb, le-ltb, eq-eqb, ne-eqb}
-use Rattle.transaction.specs.Head.{carriedField}
-use Rattle.reader.specs.Parts.{ownedIn, readMessage, readKind}
-use Rattle.reader.proofs.Whole.{read-as-told}
+-- The rows are taken from their octets. Assumes nothing.
 use borrow.Author.Needs.{needs}
+use native.Mathlib.Omega.{arith}
+use Rattle.reader.specs.Parts.{assembled}
+use Rattle.reader.proofs.Few.{outline-few}
 use Rattle.reader.proofs.read.Statement.{statement}
 use Rattle.reader.proofs.read.Tie as tie
 
-found-requires : tie.Need-found-requires
-found-requires c κs = search needs
+slice-aggregate-read-rows : tie.Need-slice-aggregate-read-rows
+slice-aggregate-read-rows c = search needs
 
-refused-requires : tie.Need-refused-requires
-refused-requires c κs = search needs
+read-rows-requires : tie.Need-read-rows-requires
+read-rows-requires c κs = search needs
+
+slice-aggregate-rows-in : tie.Need-slice-aggregate-rows-in
+slice-aggregate-rows-in c = search needs
+
+rows-in-requires : tie.Need-rows-in-requires
+rows-in-requires c κs = (omega arith, outline-few _ _ _ (c .before .before .read-rows .ensures .same))
 
 returns : tie.Need-returns
-unfolding readMessage carriedField ownedIn
-returns c = read-as-told _ _ (rw (lt-ltb _ _ (c .before .before .if1 .taken), c .refused .ensures, c .before .found .ensures))
-
-found-requires-2 : tie.Need-found-requires-2
-found-requires-2 c κs = search needs
-
-refused-requires-2 : tie.Need-refused-requires-2
-refused-requires-2 c κs = search needs
-
-returns-2 : tie.Need-returns-2
-unfolding readMessage carriedField ownedIn
-returns-2 c = read-as-told _ _ (rw (le-ltb _ _ (c .before .before .before .if1 .left), eq-eqb _ _ (c .before .before .if2 .taken), c .refused2 .ensures, c .before .found2 .ensures))
-
-shared-slice-read-kind-of : tie.Need-shared-slice-read-kind-of
-shared-slice-read-kind-of c = search needs
-
-kind-of-requires : tie.Need-kind-of-requires
-kind-of-requires c κs = search needs
-
-enum-told : tie.Need-enum-told
-enum-told c = search needs
-
-found-requires-3 : tie.Need-found-requires-3
-found-requires-3 c κs = search needs
-
-refused-requires-3 : tie.Need-refused-requires-3
-refused-requires-3 c κs = search needs
-
-enum-known-kind : tie.Need-enum-known-kind
-enum-known-kind c = search needs
-
-message-at-requires : tie.Need-message-at-requires
-message-at-requires c κs = search needs
-
-returns-3 : tie.Need-returns-3
-unfolding readMessage readKind carriedField ownedIn
-returns-3 c = read-as-told _ _ (rw (le-ltb _ _ (c .before .before .before .before .before .before .before .if1 .left), ne-eqb _ _ (c .before .before .before .before .before .before .if2 .left), ← (c .before .before .before .before .kind-of .ensures), c .before .before .enum-told .given .1, c .refused3 .ensures, c .before .found3 .ensures))
-
-returns-4 : tie.Need-returns-4
-unfolding readMessage readKind
-returns-4 c = read-as-told _ _ (rw (le-ltb _ _ (c .before .before .before .before .before .before .before .if1 .left), ne-eqb _ _ (c .before .before .before .before .before .before .if2 .left), ← (c .before .before .before .before .kind-of .ensures), c .before .before .kind .given .1) (c .message-at .ensures))
+unfolding assembled
+returns c = rw (c .rows-in .ensures) (c .before .before .before .read-rows .ensures .same)
 
 pub read-spec : {M : Type 1} → statement M
 read-spec =
     tie.close
     (tie.spec
-    found-requires
-    refused-requires
-    returns
-    found-requires-2
-    refused-requires-2
-    returns-2
-    shared-slice-read-kind-of
-    kind-of-requires
-    enum-told
-    found-requires-3
-    refused-requires-3
-    enum-known-kind
-    message-at-requires
-    returns-3
-    returns-4)
+    slice-aggregate-read-rows
+    read-rows-requires
+    slice-aggregate-rows-in
+    rows-in-requires
+    returns)

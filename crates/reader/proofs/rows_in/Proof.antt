@@ -1,0 +1,72 @@
+-- The rows passed stand at the front, blank rows behind them. Assumes nothing.
+use borrow.Author.Needs.{needs}
+use denote.Ref.{now}
+use Prim.Native.Nat.{_≤_, _-_, _*_}
+use native.Mathlib.Omega.{arith}
+use mathlib.Core.Path.{_≡_, refl}
+use lib.ListN.{length, drop, length-drop}
+use Rattle.layout.specs.Layout.{rowsIn}
+use Rattle.reader.specs.Parts.{rowsHeld}
+use Rattle.reader.proofs.Held.{rows-step}
+use Rattle.reader.proofs.rows_in.Statement.{statement}
+use Rattle.reader.proofs.rows_in.Tie as tie
+
+abbrev Inv-loop : tie.InvT-loop
+Inv-loop octets count rows₀ i₀ rows i = (i ≤ count) × (rows ≡ rowsHeld i octets)
+
+abbrev μ-loop : tie.MeasureT-loop
+μ-loop octets count rows₀ i₀ rows i = count - i
+
+blank-requires : tie.Need-blank-requires Inv-loop μ-loop
+blank-requires c κs = search needs
+
+loop-holds : tie.Need-loop-holds Inv-loop μ-loop
+unfolding rowsHeld rowsIn
+loop-holds c = (omega arith, rw (c .blank .ensures))
+
+mul-after : tie.Need-mul-after Inv-loop μ-loop
+mul-after c = omega (arith, c .before .before .before .before .pre)
+
+after-requires : tie.Need-after-requires Inv-loop μ-loop
+after-requires c κs = omega (arith, c .before .before .before .before .pre)
+
+row-in-requires : tie.Need-row-in-requires Inv-loop μ-loop
+row-in-requires c κs = rw (c .after .ensures, length-drop) (omega (arith, c .before .before .before .before .before .pre))
+
+mul-rows : tie.Need-mul-rows Inv-loop μ-loop
+mul-rows c = omega (arith, c .before .before .before .before .before .before .pre)
+
+array-set-from-rows : tie.Need-array-set-from-rows Inv-loop μ-loop
+array-set-from-rows c = omega (arith, c .before .before .before .before .before .before .pre)
+
+add-i : tie.Need-add-i Inv-loop μ-loop
+add-i c = omega (arith, c .before .before .before .before .before .before .pre)
+
+loop-less : tie.Need-loop-less Inv-loop μ-loop
+loop-less c = omega arith
+
+loop-again : tie.Need-loop-again Inv-loop μ-loop
+loop-again c = (omega arith, rw (c .before .before .before .loop .inv .1, c .row-in .ensures, c .before .after .ensures) (rows-step (now (c .before .before .before .before .before .before .args .octets)) (c .before .before .before .loop .i) (omega (arith, c .before .before .before .before .before .before .pre))))
+
+returns : tie.Need-returns Inv-loop μ-loop
+returns c =
+    let e : c .before .loop .i ≡ c .before .before .before .before .args .count = omega arith in
+    rw (← e) (c .before .loop .inv .1)
+
+pub rows-in-spec : {M : Type 1} → statement M
+rows-in-spec =
+    tie.close
+    (tie.spec
+    Inv-loop
+    μ-loop
+    blank-requires
+    loop-holds
+    mul-after
+    after-requires
+    row-in-requires
+    mul-rows
+    array-set-from-rows
+    add-i
+    loop-less
+    loop-again
+    returns)
