@@ -156,7 +156,7 @@ fn owned_in(owner: Owner, fault: Fault) -> Fault
     }
 }
 
-// A refusal hands back the blank record; a fault found behind the IDs carries the originating one. Callers hand over the fault as they have it, so that the
+// A refusal has no components; a fault found behind the IDs carries the originating one. Callers hand over the fault as they have it, so that the
 // compiler does not take it apart before it is needed.
 fn refused(orig: OptionalOrig, owner: Owner, fault: Fault) -> Outline
     ensures { λ r. ⌜ r ≡ outlineOf (refusedBy (carriedField orig (ownedIn owner fault))) ⌝ }
@@ -214,7 +214,7 @@ fn closing_at(frame: Frame, rest: &[u8], before: usize, size: usize) -> Closing
     }
 }
 
-// The components, at most 16, each into its row; then the end of the message. The record is made once, where all is known.
+// The components, at most 16, each laid out as a row behind those before it; then the end of the message.
 fn gather(
     rows: &mut [u8],
     head: Head,
