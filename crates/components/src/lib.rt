@@ -8,7 +8,7 @@ ghost use Rattle.tcap.specs.WellFormed.{deepestLevel};
 ghost use Rattle.tcap.specs.Productions.{componentItem};
 ghost use Rattle.tcap.specs.Record.{blankRow};
 ghost use Rattle.asking.specs.Asked.{nextOf, innerOf};
-ghost use Rattle.contents.specs.Contents.{rowGot};
+ghost use Rattle.contents.specs.Contents.{RowLaid};
 ghost use Rattle.components.specs.Rows.{ownedBy, bodyOf, insideOf, headerOf};
 use asking::Entry;
 use asking::Fault;
@@ -57,22 +57,30 @@ pub fn owned_by(fault: Fault, index: usize) -> Fault
     }
 }
 
-// The contents of a component by its tag.
-pub fn contents_at(part: &[u8], place: usize, definite: bool, first: u8) -> RowRead
+// The contents of a component by its tag, and its row.
+pub fn contents_at(
+    rows: &mut [u8],
+    o: usize,
+    part: &[u8],
+    place: usize,
+    definite: bool,
+    first: u8,
+) -> RowRead
+    requires { ⌜ o + 24 ≤ length (now rows) ⌝ }
     requires { ⌜ place + length (now part) ≤ 4096 ⌝ }
-    ensures { λ r. ⌜ r ≡ rowGot (ask (bodyOf first) definite place (now (part .entry))) ⌝ }
+    ensures { λ r. ⌜ RowLaid (now (rows .entry)) o (ask (bodyOf first) definite place (now (part .entry))) r (now (rows .exit)) ⌝ }
 {
     if first == 0xA1 {
-        return invoke_at(part, place, definite);
+        return invoke_at(rows, o, part, place, definite);
     }
     if first == 0xA3 {
-        return error_at(part, place, definite);
+        return error_at(rows, o, part, place, definite);
     }
     if first == 0xA4 {
-        return reject_at(part, place, definite);
+        return reject_at(rows, o, part, place, definite);
     }
     let last = first == 0xA2;
-    result_at(part, place, definite, last)
+    result_at(rows, o, part, place, definite, last)
 }
 
 // Whether a first octet is the tag of a component.

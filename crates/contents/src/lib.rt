@@ -1,4 +1,4 @@
-// The contents of the five components.
+// The contents of the five components, whose rows are laid out as octets where they have been read.
 ghost use mathlib.Core.Path.{_≡_};
 ghost use mathlib.Core.Bool.{true};
 ghost use mathlib.Core.Option.{some};
@@ -10,7 +10,7 @@ ghost use Rattle.tcap.specs.WellFormed.{deepestLevel};
 ghost use Rattle.tcap.specs.Productions.{levelAt, parameterItem, codeItem, problemItem, codeBody, invokeBody, bothItem, resultBody, errorBody, rejectBody};
 ghost use Rattle.asking.specs.Asked.{begins};
 ghost use Rattle.fields.specs.Fields.{field, problemGot};
-ghost use Rattle.contents.specs.Contents.{codedBody, codedGot, invokeGot, bothGot, rowGot, withId, resultFor, resultField};
+ghost use Rattle.contents.specs.Contents.{codedBody, codedGot, invokeGot, bothGot, RowLaid, withId, resultFor, resultTag};
 use asking::Entry;
 use asking::Fault;
 use asking::begins_with;
@@ -33,13 +33,14 @@ use fields::parameter_at;
 use fields::problem_at;
 use fields::reject_id_at;
 use fields::rest_after;
+use pack::row::put_reject;
+use pack::row::put_result;
+use pack::row::put_with_code;
 use tcap::Code;
-use tcap::ComponentKind;
 use tcap::InvokeId;
 use tcap::LinkedId;
 use tcap::OptionalSpan;
 use tcap::Returned;
-use tcap::Row;
 
 // Code and parameter. A fault is told by all that is known of it here: a whole one would lie across the code in memory.
 pub enum CodedRead {
@@ -73,8 +74,9 @@ pub enum BothRead {
     Bad { kind: FaultKind, place: usize },
 }
 
+// A component whose row was laid out: how many octets its contents take.
 pub enum RowRead {
-    Got { row: Row, size: usize },
+    Got { size: usize },
     Bad(Fault),
 }
 
@@ -198,9 +200,10 @@ fn invoke_rest(part: &[u8], place: usize, definite: bool) -> InvokeRead
 }
 
 // A1
-pub fn invoke_at(part: &[u8], place: usize, definite: bool) -> RowRead
+pub fn invoke_at(rows: &mut [u8], o: usize, part: &[u8], place: usize, definite: bool) -> RowRead
+    requires { ⌜ o + 24 ≤ length (now rows) ⌝ }
     requires { ⌜ place + length (now part) ≤ 4096 ⌝ }
-    ensures { λ r. ⌜ r ≡ rowGot (ask (invokeBody deepestLevel) definite place (now (part .entry))) ⌝ }
+    ensures { λ r. ⌜ RowLaid (now (rows .entry)) o (ask (invokeBody deepestLevel) definite place (now (part .entry))) r (now (rows .exit)) ⌝ }
 {
     match octet_id(part, place, definite, 0x02) {
         IdRead::Bad(fault) => {
@@ -217,26 +220,20 @@ pub fn invoke_at(part: &[u8], place: usize, definite: bool) -> RowRead
                     code,
                     parameter,
                     size: more,
-                } => RowRead::Got {
-                    row: Row {
-                        id: InvokeId::Id(id),
-                        kind: ComponentKind::Invoke {
-                            linked: linked,
-                            code: code,
-                            parameter: parameter,
-                        },
-                    },
-                    size: size + more,
-                },
+                } => {
+                    put_with_code(rows, o, 0xA1, InvokeId::Id(id), linked, code, parameter);
+                    RowRead::Got { size: size + more }
+                }
             }
         }
     }
 }
 
 // A3
-pub fn error_at(part: &[u8], place: usize, definite: bool) -> RowRead
+pub fn error_at(rows: &mut [u8], o: usize, part: &[u8], place: usize, definite: bool) -> RowRead
+    requires { ⌜ o + 24 ≤ length (now rows) ⌝ }
     requires { ⌜ place + length (now part) ≤ 4096 ⌝ }
-    ensures { λ r. ⌜ r ≡ rowGot (ask (errorBody deepestLevel) definite place (now (part .entry))) ⌝ }
+    ensures { λ r. ⌜ RowLaid (now (rows .entry)) o (ask (errorBody deepestLevel) definite place (now (part .entry))) r (now (rows .exit)) ⌝ }
 {
     match octet_id(part, place, definite, 0x02) {
         IdRead::Bad(fault) => {
@@ -252,16 +249,18 @@ pub fn error_at(part: &[u8], place: usize, definite: bool) -> RowRead
                     code,
                     parameter,
                     size: more,
-                } => RowRead::Got {
-                    row: Row {
-                        id: InvokeId::Id(id),
-                        kind: ComponentKind::ReturnError {
-                            code: code,
-                            parameter: parameter,
-                        },
-                    },
-                    size: size + more,
-                },
+                } => {
+                    put_with_code(
+                        rows,
+                        o,
+                        0xA3,
+                        InvokeId::Id(id),
+                        LinkedId::Unlinked,
+                        code,
+                        parameter,
+                    );
+                    RowRead::Got { size: size + more }
+                }
             }
         }
     }
@@ -380,19 +379,28 @@ fn both_at(part: &[u8], place: usize, definite: bool) -> BothRead
     }
 }
 
-fn result_kind(last: bool, both: Returned) -> ComponentKind
-    ensures { λ r. ⌜ r ≡ resultField last both ⌝ }
+// The tag of a result.
+fn result_tag(last: bool) -> u8
+    ensures { λ r. ⌜ r ≡ resultTag last ⌝ }
 {
     if last {
-        return ComponentKind::ResultLast(both);
+        return 0xA2;
     }
-    ComponentKind::ResultNotLast(both)
+    0xA7
 }
 
 // A2 and A7
-pub fn result_at(part: &[u8], place: usize, definite: bool, last: bool) -> RowRead
+pub fn result_at(
+    rows: &mut [u8],
+    o: usize,
+    part: &[u8],
+    place: usize,
+    definite: bool,
+    last: bool,
+) -> RowRead
+    requires { ⌜ o + 24 ≤ length (now rows) ⌝ }
     requires { ⌜ place + length (now part) ≤ 4096 ⌝ }
-    ensures { λ r. ⌜ r ≡ rowGot (ask (resultBody deepestLevel (resultFor last)) definite place (now (part .entry))) ⌝ }
+    ensures { λ r. ⌜ RowLaid (now (rows .entry)) o (ask (resultBody deepestLevel (resultFor last)) definite place (now (part .entry))) r (now (rows .exit)) ⌝ }
 {
     match octet_id(part, place, definite, 0x02) {
         IdRead::Bad(fault) => {
@@ -405,14 +413,8 @@ pub fn result_at(part: &[u8], place: usize, definite: bool, last: bool) -> RowRe
                     return RowRead::Bad(with_id(found(kind, there), InvokeId::Id(id)));
                 }
                 BothRead::Got { both, size: more } => {
-                    let kind = result_kind(last, both);
-                    RowRead::Got {
-                        row: Row {
-                            id: InvokeId::Id(id),
-                            kind: kind,
-                        },
-                        size: size + more,
-                    }
+                    put_result(rows, o, result_tag(last), InvokeId::Id(id), both);
+                    RowRead::Got { size: size + more }
                 }
             }
         }
@@ -441,9 +443,10 @@ fn sole_problem(part: &[u8], place: usize, definite: bool) -> ProblemRead
 }
 
 // A4
-pub fn reject_at(part: &[u8], place: usize, definite: bool) -> RowRead
+pub fn reject_at(rows: &mut [u8], o: usize, part: &[u8], place: usize, definite: bool) -> RowRead
+    requires { ⌜ o + 24 ≤ length (now rows) ⌝ }
     requires { ⌜ place + length (now part) ≤ 4096 ⌝ }
-    ensures { λ r. ⌜ r ≡ rowGot (ask (rejectBody deepestLevel) definite place (now (part .entry))) ⌝ }
+    ensures { λ r. ⌜ RowLaid (now (rows .entry)) o (ask (rejectBody deepestLevel) definite place (now (part .entry))) r (now (rows .exit)) ⌝ }
 {
     match reject_id_at(part, place, definite) {
         NullRead::Bad(fault) => {
@@ -458,13 +461,10 @@ pub fn reject_at(part: &[u8], place: usize, definite: bool) -> RowRead
                 ProblemRead::Got {
                     problem,
                     size: more,
-                } => RowRead::Got {
-                    row: Row {
-                        id: id,
-                        kind: ComponentKind::Reject(problem),
-                    },
-                    size: size + more,
-                },
+                } => {
+                    put_reject(rows, o, id, problem);
+                    RowRead::Got { size: size + more }
+                }
             }
         }
     }

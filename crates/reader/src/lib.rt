@@ -25,7 +25,6 @@ use contents::RowRead;
 use element::EndRead;
 use element::FaultKind;
 use element::number_of;
-use pack::row::put_row;
 use tcap::Answer;
 use tcap::Dialogue;
 use tcap::InvokeId;
@@ -288,12 +287,12 @@ fn gather(
                         definite: inner,
                     } => {
                         let inside = piece(left, from, to - from);
-                        match components::contents_at(inside, here + from, inner, first) {
+                        match components::contents_at(rows, o, inside, here + from, inner, first) {
                             RowRead::Bad(fault) => {
                                 return refused(orig, Owner::Component(count), fault);
                             }
-                            RowRead::Got { row: next, size } => {
-                                o = put_row(rows, o, next);
+                            RowRead::Got { size } => {
+                                o += 24;
                                 count += 1;
                                 at += asking::whole_size(from, to, inner, size);
                             }
