@@ -4,7 +4,7 @@ use Prim.Native.Nat.{ℕ}
 use mathlib.Core.{List.List, List.[], List._∷_}
 use lib.{ListN.length}
 use Rattle.element.specs.{Form.Form, Form.exactly, Form.then, Form.leaf, Form.around, Form.seriesForm, Form.shortest, Form.document01}
-use Rattle.tcap.specs.{declared.Span.Span, declared.OptionalSpan.OptionalSpan, declared.OptionalOrig.OptionalOrig, declared.OptionalDest.OptionalDest, declared.InvokeId.InvokeId, declared.LinkedId.LinkedId, declared.Code.Code, declared.Returned.Returned, declared.ComponentKind.ComponentKind, declared.Row.Row, declared.Dialogue.Dialogue, declared.MessageKind.MessageKind, declared.Record.Record, Meaning.octet, Meaning.integer, Meaning.problemForm, Meaning.structured, Meaning.unstructured, Meaning.versionForm, Meaning.contextForm, Meaning.sourceForm, Meaning.external}
+use Rattle.tcap.specs.{declared.Span.Span, declared.OptionalSpan.OptionalSpan, declared.OptionalOrig.OptionalOrig, declared.OptionalDest.OptionalDest, declared.InvokeId.InvokeId, declared.LinkedId.LinkedId, declared.Code.Code, declared.Returned.Returned, declared.ComponentKind.ComponentKind, declared.Row.Row, declared.Dialogue.Dialogue, declared.Record.Record, Record.messageTag, Meaning.octet, Meaning.integer, Meaning.problemForm, Meaning.structured, Meaning.unstructured, Meaning.versionForm, Meaning.contextForm, Meaning.sourceForm, Meaning.external}
 use Rattle.judging.specs.{Verdict.octetsIn, Verdict.counted}
 
 unfoldable pub idForm : InvokeId → Form
@@ -14,13 +14,6 @@ idForm (InvokeId.Id i) = integer 0x02 i
 unfoldable pub linkedForm : LinkedId → Form
 linkedForm LinkedId.Unlinked = exactly []
 linkedForm (LinkedId.Linked i) = integer 0x80 i
-
-abbrev pub tagOf : MessageKind → ℕ
-tagOf MessageKind.Unidirectional = 0x61
-tagOf MessageKind.Begin = 0x62
-tagOf MessageKind.End = 0x64
-tagOf MessageKind.Continue = 0x65
-tagOf MessageKind.Abort = 0x67
 
 module _ (m : List ℕ) where
   unfoldable pub codeForm : Code → Form
@@ -93,7 +86,7 @@ module _ (m : List ℕ) where
   insideForm r = then (origForm (r .orig)) (then (destForm (r .dest)) (then (dialogueForm (r .dialogue)) (rowsForm (counted r))))
 
   unfoldable pub recordForm : Record → Form
-  recordForm r = around (tagOf (r .kind)) (insideForm r)
+  recordForm r = around (messageTag (r .kind)) (insideForm r)
 
 -- the octets of a form, as short as they can be
 abbrev pub octetsOf : Form → List ℕ

@@ -13,9 +13,9 @@ use Rattle.base.specs.Number.{numberFrom, octetsIn, topOf, signedAt, bitsAt, ho
 use Rattle.base.specs.Value.{Every}
 use Rattle.base.proofs.Numbers.{signed-bits, bits-within, top-odd, holds-small, number-octets}
 use Rattle.tcap.specs.declared.{Span.Span, OptionalSpan.OptionalSpan, OptionalOrig.OptionalOrig, OptionalDest.OptionalDest, InvokeId.InvokeId, LinkedId.LinkedId, Code.Code, Problem.Problem, Returned.Returned, ComponentKind.ComponentKind, Row.Row, Diagnostic.Diagnostic, Dialogue.Dialogue, MessageKind.MessageKind, Record.Record}
-use Rattle.tcap.specs.Record.{blankRow}
+use Rattle.tcap.specs.Record.{blankRow, messageTag}
 use Rattle.layout.specs.Fits.{SpanFits, OptionalFits, IdFits, LinkedFits, CodeFits, ReturnedFits, KindFits, RowFits, OrigFits, DestFits, DialogueFits, RecordFits}
-use Rattle.layout.specs.Layout.{headSize, rowSize, mostRows, recordSize, octet, numberAt, spanAt, spanOctets, noSpan, isFlag, optionalIn, optionalFlag, optionalSpan, isMessageTag, messageKindIn, messageTag, origIn, origFlag, origSpan, destIn, destFlag, destSpan, isSourceTag, diagnosticIn, sourceTag, diagnosticNumber, isDialogue, pduIn, outsideIn, dialogueIn, dialogueNumber, portionOctets, dialogueOctets, idIn, idFlag, idOctet, linkedIn, linkedFlag, linkedOctet, isCodeTag, codeIn, codeTag, codeSpan, isProblemTag, problemIn, problemTag, problemNumber, isCoded, isReturned, returnedIn, isKind, kindIn, idsOctets, partsOctets, codedOctets, returnedOctets, problemOctets, kindOctets, isRow, rowIn, rowOctets, areRows, rowsIn, rowsOctets, isHead, isRecord, recordIn, headOctets, recordOctets}
+use Rattle.layout.specs.Layout.{headSize, rowSize, mostRows, recordSize, octet, numberAt, spanAt, spanOctets, noSpan, isFlag, optionalIn, optionalFlag, optionalSpan, isMessageTag, messageKindIn, origIn, origFlag, origSpan, destIn, destFlag, destSpan, isSourceTag, diagnosticIn, sourceTag, diagnosticNumber, isDialogue, pduIn, outsideIn, dialogueIn, dialogueNumber, portionOctets, dialogueOctets, idIn, idFlag, idOctet, linkedIn, linkedFlag, linkedOctet, isCodeTag, codeIn, codeTag, codeSpan, isProblemTag, problemIn, problemTag, problemNumber, isCoded, isReturned, returnedIn, isKind, kindIn, idsOctets, partsOctets, codedOctets, returnedOctets, problemOctets, kindOctets, isRow, rowIn, rowOctets, areRows, rowsIn, rowsOctets, isHead, isRecord, recordIn, headOctets, recordOctets}
 
 -- Each field
 
@@ -191,7 +191,7 @@ flag-dest OptionalDest.NoDest = refl
 flag-dest (OptionalDest.Dest e) = refl
 
 tag-message : (k : MessageKind) → (isMessageTag (messageTag k) ≡ true) × (messageKindIn (messageTag k) ≡ k)
-unfolding isMessageTag messageKindIn messageTag
+unfolding isMessageTag messageKindIn
 tag-message MessageKind.Unidirectional = (refl, refl)
 tag-message MessageKind.Begin = (refl, refl)
 tag-message MessageKind.End = (refl, refl)

@@ -5,7 +5,8 @@ use mathlib.Core.{Bool.Bool, Bool.true, Bool.false, Bool.cond, Bool._&&_, Bool._
 use lib.{ListN.length, ListN.take, ListN.drop, ListN.getD, ListN.replicate, Dec.leb, Dec.eqb}
 use Rattle.base.specs.{Number.numberFrom, Number.octetsIn, Number.topOf, Number.signedAt, Number.bitsAt}
 use Rattle.tcap.specs.declared.{Span.Span, OptionalSpan.OptionalSpan, OptionalOrig.OptionalOrig, OptionalDest.OptionalDest, InvokeId.InvokeId, LinkedId.LinkedId, Code.Code, Problem.Problem, Returned.Returned, ComponentKind.ComponentKind, Row.Row, Diagnostic.Diagnostic, Dialogue.Dialogue, MessageKind.MessageKind, Record.Record}
-use Rattle.tcap.specs.Record.{blankRow}
+use Rattle.tcap.specs.WellFormed.{mostComponents}
+use Rattle.tcap.specs.Record.{blankRow, messageTag}
 
 -- Sizes: the head of a record, one row, the rows there are
 
@@ -16,7 +17,7 @@ abbrev pub rowSize : ℕ
 rowSize = 24
 
 abbrev pub mostRows : ℕ
-mostRows = 16
+mostRows = mostComponents
 
 -- 44 + 16 * 24
 abbrev pub recordSize : ℕ
@@ -66,13 +67,6 @@ messageKindIn x =
     (cond (eqb x 0x62) MessageKind.Begin
     (cond (eqb x 0x64) MessageKind.End
     (cond (eqb x 0x65) MessageKind.Continue MessageKind.Abort)))
-
-unfoldable pub messageTag : MessageKind → ℕ
-messageTag MessageKind.Unidirectional = 0x61
-messageTag MessageKind.Begin = 0x62
-messageTag MessageKind.End = 0x64
-messageTag MessageKind.Continue = 0x65
-messageTag MessageKind.Abort = 0x67
 
 -- 1, 8..15: originating ID
 unfoldable pub origIn : ℕ → Span → OptionalOrig

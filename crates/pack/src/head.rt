@@ -5,7 +5,8 @@ ghost use Prim.Native.Nat.{_+_, _≤_};
 ghost use lib.ListN.{length};
 ghost use Rattle.base.specs.Number.{octetsIn};
 ghost use Rattle.base.specs.Put.{Put};
-ghost use Rattle.layout.specs.Layout.{messageTag, origFlag, origSpan, destFlag, destSpan, spanOctets, dialogueNumber, portionOctets, pduOctets, dialogueOctets, sourceTag, diagnosticNumber, headOctets};
+ghost use Rattle.tcap.specs.Record.{messageTag};
+ghost use Rattle.layout.specs.Layout.{origFlag, origSpan, destFlag, destSpan, spanOctets, dialogueNumber, portionOctets, pduOctets, dialogueOctets, sourceTag, diagnosticNumber, headOctets};
 use crate::number::put_four;
 use crate::number::put_number;
 use crate::number::put_span;
@@ -16,18 +17,7 @@ use tcap::OptionalDest;
 use tcap::OptionalOrig;
 use tcap::OptionalSpan;
 use tcap::Span;
-
-fn message_tag(kind: MessageKind) -> u8
-    ensures { λ r. ⌜ r ≡ messageTag kind ⌝ }
-{
-    match kind {
-        MessageKind::Unidirectional => 0x61,
-        MessageKind::Begin => 0x62,
-        MessageKind::End => 0x64,
-        MessageKind::Continue => 0x65,
-        MessageKind::Abort => 0x67,
-    }
-}
+use tcap::message_tag;
 
 fn orig_flag(orig: OptionalOrig) -> u8
     ensures { λ r. ⌜ r ≡ origFlag orig ⌝ }

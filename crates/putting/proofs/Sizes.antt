@@ -11,8 +11,9 @@ use Rattle.tcap.specs.declared.OptionalDest.{OptionalDest}
 use Rattle.tcap.specs.declared.Dialogue.{Dialogue}
 use Rattle.tcap.specs.declared.Row.{Row}
 use Rattle.tcap.specs.declared.Record.{Record}
+use Rattle.tcap.specs.Record.{messageTag}
 use Rattle.judging.specs.Verdict.{every, counted, origLies, destLies, dialogueLies, rowLies, allLie, octetsIn}
-use Rattle.judging.specs.Forms.{tagOf, origForm, destForm, dialogueForm, rowForm, rowsForm, insideForm, recordForm, octetsOf}
+use Rattle.judging.specs.Forms.{origForm, destForm, dialogueForm, rowForm, rowsForm, insideForm, recordForm, octetsOf}
 use Rattle.heads.specs.Size.{elementSize}
 use Rattle.heads.proofs.Strings.{span-length}
 use Rattle.heads.proofs.Lengths.{inner, held, leaf-size, around-size}
@@ -106,13 +107,13 @@ module _ (m : List ℕ) where
 
     pub inside-small : length (octetsOf (recordForm m r)) ≤ 255 → insideSize (r .orig) (r .dest) (r .dialogue) (rowsSize (counted r)) < 256
     unfolding recordForm
-    inside-small k = omega (arith, around-size (tagOf (r .kind)) (insideForm m r), inner (length (octetsOf (insideForm m r))), inside-size)
+    inside-small k = omega (arith, around-size (messageTag (r .kind)) (insideForm m r), inner (length (octetsOf (insideForm m r))), inside-size)
 
     parts : octetsOf (recordForm m r) ≡ frontOctets m (r .kind) (r .orig) (r .dest) (r .dialogue) (insideSize (r .orig) (r .dest) (r .dialogue) (rowsSize (counted r))) ++ octetsOf (rowsForm m (counted r))
     unfolding recordForm insideForm shortest frontOctets
     parts =
         rw inside-size
-        (regroup (tagOf (r .kind) ∷ lengthOctets (insideSize (r .orig) (r .dest) (r .dialogue) (rowsSize (counted r)))) (octetsOf (origForm m (r .orig))) (octetsOf (destForm m (r .dest))) (octetsOf (dialogueForm m (r .dialogue))) (octetsOf (rowsForm m (counted r))))
+        (regroup (messageTag (r .kind) ∷ lengthOctets (insideSize (r .orig) (r .dest) (r .dialogue) (rowsSize (counted r)))) (octetsOf (origForm m (r .orig))) (octetsOf (destForm m (r .dest))) (octetsOf (dialogueForm m (r .dialogue))) (octetsOf (rowsForm m (counted r))))
 
     -- the message: what is before the first component, and the components
     pub record-octets : octetsOf (recordForm m r) ≡ openingOctets m (r .kind) (r .orig) (r .dest) (r .dialogue) (rowsSize (counted r)) ++ octetsOf (seriesForm (rowForm m) (counted r))

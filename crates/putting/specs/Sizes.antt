@@ -3,8 +3,8 @@
 use Prim.Native.Nat.{ℕ, zero, suc, _+_}
 use mathlib.Core.{List.List, List.[], List._∷_, List._++_}
 use Rattle.element.specs.{Form.lengthOctets}
-use Rattle.tcap.specs.{declared.MessageKind.MessageKind, declared.OptionalOrig.OptionalOrig, declared.OptionalDest.OptionalDest, declared.Dialogue.Dialogue}
-use Rattle.judging.specs.{Forms.tagOf, Forms.origForm, Forms.destForm, Forms.dialogueForm, Forms.octetsOf}
+use Rattle.tcap.specs.{declared.MessageKind.MessageKind, declared.OptionalOrig.OptionalOrig, declared.OptionalDest.OptionalDest, declared.Dialogue.Dialogue, Record.messageTag}
+use Rattle.judging.specs.{Forms.origForm, Forms.destForm, Forms.dialogueForm, Forms.octetsOf}
 use Rattle.heads.specs.{Size.elementSize}
 use Rattle.portions.specs.{Sizes.dialogueSize}
 
@@ -27,7 +27,7 @@ insideSize o e d n = origSize o + (destSize e + (dialogueSize d + portionSize n)
 
 -- all before the components, with `inside` octets from the first ID on
 unfoldable pub frontOctets : List ℕ → MessageKind → OptionalOrig → OptionalDest → Dialogue → ℕ → List ℕ
-frontOctets m k o e d inside = (tagOf k ∷ lengthOctets inside) ++ (octetsOf (origForm m o) ++ (octetsOf (destForm m e) ++ octetsOf (dialogueForm m d)))
+frontOctets m k o e d inside = (messageTag k ∷ lengthOctets inside) ++ (octetsOf (origForm m o) ++ (octetsOf (destForm m e) ++ octetsOf (dialogueForm m d)))
 
 -- tag and length of a 6C around components of n octets
 unfoldable pub portionHead : ℕ → List ℕ

@@ -6,7 +6,7 @@ ghost use lib.ListN.{length};
 ghost use Rattle.base.specs.Put.{Put};
 ghost use Rattle.element.specs.Form.{leaf};
 ghost use Rattle.judging.specs.Verdict.{lies, octetsIn, origLies, destLies, dialogueLies, allLie};
-ghost use Rattle.judging.specs.Forms.{tagOf, origForm, destForm, recordForm, octetsOf};
+ghost use Rattle.judging.specs.Forms.{origForm, destForm, recordForm, octetsOf};
 ghost use Rattle.heads.specs.Size.{elementSize};
 ghost use Rattle.portions.specs.Sizes.{dialogueSize};
 ghost use Rattle.putting.specs.Sizes.{origSize, destSize, portionSize, insideSize, frontOctets, openingOctets};
@@ -23,6 +23,7 @@ use tcap::OptionalDest;
 use tcap::OptionalOrig;
 use tcap::Record;
 use tcap::TransactionId;
+use tcap::message_tag;
 
 // The octets of an element around a transaction ID.
 fn transaction_size(id: TransactionId) -> usize
@@ -117,18 +118,6 @@ fn put_dest(out: &mut [u8], at: usize, material: &[u8], dest: OptionalDest) -> u
             let id = theirs.0;
             put_transaction(out, at, material, 0x49, id)
         }
-    }
-}
-
-fn message_tag(kind: MessageKind) -> u8
-    ensures { λ r. ⌜ r ≡ tagOf kind ⌝ }
-{
-    match kind {
-        MessageKind::Unidirectional => 0x61,
-        MessageKind::Begin => 0x62,
-        MessageKind::End => 0x64,
-        MessageKind::Continue => 0x65,
-        MessageKind::Abort => 0x67,
     }
 }
 

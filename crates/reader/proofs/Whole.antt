@@ -22,7 +22,7 @@ use Rattle.tcap.specs.declared.{MessageKind.MessageKind, Answer.Answer, InvokeI
 use Rattle.tcap.specs.Meaning.{Message, unidirectional, begin, finish, continue, abort}
 use Rattle.tcap.specs.WellFormed.{mostOctets, deepestLevel}
 use Rattle.tcap.specs.Productions.{messageItem}
-use Rattle.tcap.specs.Record.{idField, recordOf, blankRecord}
+use Rattle.tcap.specs.Record.{idField, recordOf, blankRecord, messageTag}
 use Rattle.tcap.specs.Reading.{learnt, aloneBody, readFirst, locatedUpTo, byOwner, answerFor, refusalOf, answered, readingUpTo, reading}
 use Rattle.asking.specs.declared.{Next.Next, Entry.Entry}
 use Rattle.asking.specs.Asked.{ownerField, faultField, onFront, onEnd, nextOf, innerOf, wholeOf}
@@ -31,7 +31,7 @@ use Rattle.asking.proofs.Opened.{sizeFor, byTag, byNext, ask-next, byEntry, len
 use Rattle.asking.proofs.Fronts.{around-open}
 use Rattle.transaction.specs.Head.{Ids, carriedBy}
 use Rattle.reader.specs.declared.{KindRead.KindRead}
-use Rattle.reader.specs.Parts.{bodyOf, tagFor, recordRead, causeBy, problemBy, answerBy, answerFrom, refusalFrom, refusedBy, acceptedWith, finished, readAs, kindOf, readKind, readMessage}
+use Rattle.reader.specs.Parts.{bodyOf, recordRead, causeBy, problemBy, answerBy, answerFrom, refusalFrom, refusedBy, acceptedWith, finished, readAs, kindOf, readKind, readMessage}
 use Rattle.reader.proofs.Bodies.{idsIn, toRecord, body-read}
 
 -- The refusal of a fault
@@ -85,31 +85,31 @@ next-one a r e z = rw (tag-complete a [] r e, z)
 
 module _ (k : MessageKind) (r : List ℕ) where
   abbrev m : List ℕ
-  m = tagFor k ∷ r
+  m = messageTag k ∷ r
 
   abbrev whole : Body (Message Text)
   whole = aloneBody deepestLevel (messageItem deepestLevel)
 
   by-entry : (x : Entry) → innerOf m 1 ≡ x
-      → ((u e : ℕ) (f : Bool) → messageItem deepestLevel .contents (head (tagFor k) u (sizeFor u e f)) 0 m ≡ aroundItem (tagFor k) (bodyOf k) .contents (head (tagFor k) u (sizeFor u e f)) 0 m)
-      → answered (byEntry whole true 0 m (tagFor k) x) ≡ readAs k m x
+      → ((u e : ℕ) (f : Bool) → messageItem deepestLevel .contents (head (messageTag k) u (sizeFor u e f)) 0 m ≡ aroundItem (messageTag k) (bodyOf k) .contents (head (messageTag k) u (sizeFor u e f)) 0 m)
+      → answered (byEntry whole true 0 m (messageTag k) x) ≡ readAs k m x
   unfolding byEntry readAs
   by-entry (Entry.Bad f) h c = sym (refused-same (at f 0))
   by-entry (Entry.Open u e f) h c =
       let s = inner-size m 1 (omega arith) u e f h in
-      ap (λ (x : Got (Message Text)). answered (next x (closing (length m) u e f))) (c u e f ∙ around-open (bodyOf k) (tagFor k) 0 m (tagFor k) u e f (s .1) (inner-open m 1 u e f h))
+      ap (λ (x : Got (Message Text)). answered (next x (closing (length m) u e f))) (c u e f ∙ around-open (bodyOf k) (messageTag k) 0 m (messageTag k) u e f (s .1) (inner-open m 1 u e f h))
       ∙ finished-same (length m) u e f (ask (bodyOf k) f (0 + u) (take (e - u) (drop u m)))
       ∙ ap (finished (length m) u e f) (body-read f (0 + u) (take (e - u) (drop u m)) k)
 
-  of-kind : extendedOf (tagFor k) ≡ false → codeZero (tagFor k) ≡ false → constructorOf (tagFor k) ≡ true → messageItem deepestLevel .mine (tagFor k) ≡ true
-      → ((u e : ℕ) (f : Bool) → messageItem deepestLevel .contents (head (tagFor k) u (sizeFor u e f)) 0 m ≡ aroundItem (tagFor k) (bodyOf k) .contents (head (tagFor k) u (sizeFor u e f)) 0 m)
+  of-kind : extendedOf (messageTag k) ≡ false → codeZero (messageTag k) ≡ false → constructorOf (messageTag k) ≡ true → messageItem deepestLevel .mine (messageTag k) ≡ true
+      → ((u e : ℕ) (f : Bool) → messageItem deepestLevel .contents (head (messageTag k) u (sizeFor u e f)) 0 m ≡ aroundItem (messageTag k) (bodyOf k) .contents (head (messageTag k) u (sizeFor u e f)) 0 m)
       → answered (ask whole true 0 m) ≡ readAs k m (innerOf m 1)
   unfolding byNext byTag check
   of-kind x z c o g =
-      ap answered (ask-next whole true 0 m refl refl ∙ ap (byNext whole true 0 m) (next-one (tagFor k) r x z) ∙ rw o (length-inner whole true 0 m (tagFor k) 1 c))
+      ap answered (ask-next whole true 0 m refl refl ∙ ap (byNext whole true 0 m) (next-one (messageTag k) r x z) ∙ rw o (length-inner whole true 0 m (messageTag k) 1 c))
       ∙ by-entry (innerOf m 1) refl g
 
-kind-read : (k : MessageKind) (r : List ℕ) → answered (ask (aloneBody deepestLevel (messageItem deepestLevel)) true 0 (tagFor k ∷ r)) ≡ readAs k (tagFor k ∷ r) (innerOf (tagFor k ∷ r) 1)
+kind-read : (k : MessageKind) (r : List ℕ) → answered (ask (aloneBody deepestLevel (messageItem deepestLevel)) true 0 (messageTag k ∷ r)) ≡ readAs k (messageTag k ∷ r) (innerOf (messageTag k ∷ r) 1)
 unfolding extendedOf codeZero constructorOf
 kind-read MessageKind.Unidirectional r = of-kind MessageKind.Unidirectional r refl refl refl refl (λ u e f. refl)
 kind-read MessageKind.Begin r = of-kind MessageKind.Begin r refl refl refl refl (λ u e f. refl)
@@ -135,7 +135,7 @@ module _ (x : ℕ) (r : List ℕ) where
   abbrev asks : Got (Message Text)
   asks = ask (aloneBody deepestLevel (messageItem deepestLevel)) true 0 (x ∷ r)
 
-  at-tag : (k : MessageKind) → x ≡ tagFor k → answered asks ≡ readAs k (x ∷ r) (innerOf (x ∷ r) 1)
+  at-tag : (k : MessageKind) → x ≡ messageTag k → answered asks ≡ readAs k (x ∷ r) (innerOf (x ∷ r) 1)
   at-tag k e = rw e (kind-read k r)
 
   by-first : (a b c d e : Bool) → eqb x 0x61 ≡ a → eqb x 0x62 ≡ b → eqb x 0x64 ≡ c → eqb x 0x65 ≡ d → eqb x 0x67 ≡ e → readKind (x ∷ r) (kindBy a b c d e) ≡ answered (check (mineOf a b c d e) (at FaultKind.NoMessage 0) asks)

@@ -25,13 +25,6 @@ bodyOf MessageKind.End = endBody deepestLevel
 bodyOf MessageKind.Continue = continueBody deepestLevel
 bodyOf MessageKind.Abort = abortBody deepestLevel
 
-abbrev pub tagFor : MessageKind → ℕ
-tagFor MessageKind.Unidirectional = 0x61
-tagFor MessageKind.Begin = 0x62
-tagFor MessageKind.End = 0x64
-tagFor MessageKind.Continue = 0x65
-tagFor MessageKind.Abort = 0x67
-
 abbrev pub Rest : Type 0
 Rest = Dialogue × List (Component Text)
 

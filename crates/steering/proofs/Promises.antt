@@ -15,11 +15,10 @@ use Rattle.element.specs.Ask.{got}
 use Rattle.tcap.specs.declared.{MessageKind.MessageKind, Refusal.Refusal, Outcome.Outcome, Record.Record, Reading.Reading}
 use Rattle.tcap.specs.Meaning.{local, global, Component, invoke, last, notLast, error, reject, Message, unidirectional, begin, finish, continue, abort, Meaning}
 use Rattle.tcap.specs.WellFormed.{deepestLevel, Reads}
-use Rattle.tcap.specs.Record.{rowOf, blankRow, recordOf}
+use Rattle.tcap.specs.Record.{rowOf, blankRow, recordOf, messageTag}
 use Rattle.tcap.specs.Reading.{locatedUpTo, answered as answeredAs, readingUpTo, reading}
 use Rattle.tcap.proofs.Strings.{octetsOf, componentAs, forget}
 use Rattle.tcap.proofs.Promises.{reads-located}
-use Rattle.reader.specs.Parts.{tagFor}
 use Rattle.steering.specs.declared.{Rule.Rule, FirstCode.FirstCode, Key.Key, Choice.Choice, Steered.Steered}
 use Rattle.steering.specs.Steering.{localOf, invoked, firstOf, keyOf, anyKind, kindFits, ruleFits, firstFit, chosen, answered, steeredBy, steering, linkOf, refusalOf}
 use Rattle.steering.specs.Layout.{noKind, kindIn, ruleOf}
@@ -108,13 +107,13 @@ module _ (m : List ℕ) (rules : List Rule) where
 -- Rules that fit nothing: a kind that is neither any nor one of the five, and so octets that are no rule
 
 abbrev pub Strange : ℕ → Type 0
-Strange asked = (asked ≡ anyKind → ⊥) × ((kind : MessageKind) → asked ≡ tagFor kind → ⊥)
+Strange asked = (asked ≡ anyKind → ⊥) × ((kind : MessageKind) → asked ≡ messageTag kind → ⊥)
 
-pub strange-misses : (rule : Rule) → Strange (rule .kind) → (kind : MessageKind) (first : FirstCode) → ruleFits rule (tagFor kind) first ≡ false
+pub strange-misses : (rule : Rule) → Strange (rule .kind) → (kind : MessageKind) (first : FirstCode) → ruleFits rule (messageTag kind) first ≡ false
 unfolding ruleFits kindFits
-strange-misses rule s kind first = rw (ne-eqb (rule .kind) anyKind (s .0), ne-eqb (rule .kind) (tagFor kind) (s .1 kind))
+strange-misses rule s kind first = rw (ne-eqb (rule .kind) anyKind (s .0), ne-eqb (rule .kind) (messageTag kind) (s .1 kind))
 
-no-kind : (kind : MessageKind) → noKind ≡ tagFor kind → ⊥
+no-kind : (kind : MessageKind) → noKind ≡ messageTag kind → ⊥
 no-kind MessageKind.Unidirectional e = omega (arith, e)
 no-kind MessageKind.Begin e = omega (arith, e)
 no-kind MessageKind.End e = omega (arith, e)
@@ -125,7 +124,7 @@ no-rule-strange : (kind flag : ℕ) → 1 < flag → Strange (kindIn kind flag)
 unfolding kindIn
 no-rule-strange kind flag l = rw (lt-leb flag 1 l) (λ e. omega (arith, e), no-kind)
 
-pub no-rule-misses : (octets : List ℕ) → 1 < getD octets 1 0 → (kind : MessageKind) (first : FirstCode) → ruleFits (ruleOf octets) (tagFor kind) first ≡ false
+pub no-rule-misses : (octets : List ℕ) → 1 < getD octets 1 0 → (kind : MessageKind) (first : FirstCode) → ruleFits (ruleOf octets) (messageTag kind) first ≡ false
 unfolding ruleOf
 no-rule-misses octets h = strange-misses (ruleOf octets) (no-rule-strange (getD octets 0 0) (getD octets 1 0) h)
 

@@ -4,16 +4,16 @@ use Prim.Native.Nat.{ℕ}
 use mathlib.Core.{List.List, List.[], List._∷_}
 use Rattle.tcap.specs.Meaning.{local, global, Component, invoke, last, notLast, error, reject, Message, unidirectional, begin, finish, continue, abort}
 use Rattle.tcap.specs.declared.{MessageKind.MessageKind}
-use Rattle.reader.specs.Parts.{tagFor}
+use Rattle.tcap.specs.Record.{messageTag}
 use Rattle.steering.specs.declared.{FirstCode.FirstCode}
 
 module _ {S : Type 0} where
   abbrev pub tagMeant : Message S → ℕ
-  tagMeant (unidirectional d cs) = tagFor MessageKind.Unidirectional
-  tagMeant (begin o d cs) = tagFor MessageKind.Begin
-  tagMeant (finish e d cs) = tagFor MessageKind.End
-  tagMeant (continue o e d cs) = tagFor MessageKind.Continue
-  tagMeant (abort e s) = tagFor MessageKind.Abort
+  tagMeant (unidirectional d cs) = messageTag MessageKind.Unidirectional
+  tagMeant (begin o d cs) = messageTag MessageKind.Begin
+  tagMeant (finish e d cs) = messageTag MessageKind.End
+  tagMeant (continue o e d cs) = messageTag MessageKind.Continue
+  tagMeant (abort e s) = messageTag MessageKind.Abort
 
   abbrev pub invokeMeant : Component S → FirstCode
   invokeMeant (invoke i l (local z) p) = FirstCode.Local z

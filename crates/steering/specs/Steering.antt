@@ -3,8 +3,7 @@
 use Prim.Native.Nat.{ℕ}
 use mathlib.Core.{Bool.Bool, Bool.true, Bool.false, Bool.cond, Bool._&&_, Bool._||_, List.List, List.[], List._∷_, Option.Option, Option.none, Option.some}
 use lib.{ListN.getD, Dec.eqb, IntN.ℤ, IntN.pos, IntN.negsuc}
-use Rattle.tcap.specs.{declared.Code.Code, declared.ComponentKind.ComponentKind, declared.Refusal.Refusal, declared.Outcome.Outcome, declared.Reading.Reading, Record.blankRow, Reading.reading}
-use Rattle.reader.specs.Parts.{tagFor}
+use Rattle.tcap.specs.{declared.Code.Code, declared.ComponentKind.ComponentKind, declared.Refusal.Refusal, declared.Outcome.Outcome, declared.Reading.Reading, Record.blankRow, Record.messageTag, Reading.reading}
 use Rattle.steering.specs.declared.{RuleCode.RuleCode, Rule.Rule, FirstCode.FirstCode, Key.Key, Choice.Choice, Steered.Steered}
 
 -- What the rules look at in a message: its tag, and the local code of its first component, if that is an Invoke with one
@@ -25,7 +24,7 @@ unfoldable pub firstOf : ℕ → ComponentKind → FirstCode
 firstOf count first = cond (eqb count 0) FirstCode.Other (invoked first)
 
 unfoldable pub keyOf : Reading → Key
-keyOf r = record { outcome = r .outcome; tag = tagFor (r .message .kind); first = firstOf (r .message .count) (getD (r .message .rows) 0 blankRow .kind) }
+keyOf r = record { outcome = r .outcome; tag = messageTag (r .message .kind); first = firstOf (r .message .count) (getD (r .message .rows) 0 blankRow .kind) }
 
 -- Whether a rule fits
 

@@ -3,14 +3,13 @@ pub mod octets;
 
 ghost use mathlib.Core.Path.{_≡_};
 ghost use Rattle.tcap.specs.Reading.{reading};
-ghost use Rattle.reader.specs.Parts.{tagFor};
 ghost use Rattle.steering.specs.Layout.{rulesIn};
 ghost use Rattle.steering.specs.Steering.{localOf, invoked, firstOf, keyOf, kindFits, codeFits, ruleFits, firstFit, chosen, answered, steering};
 use tcap::Code;
 use tcap::ComponentKind;
-use tcap::MessageKind;
 use tcap::Outcome;
 use tcap::Refusal;
+use tcap::message_tag;
 use unpack::row::row_in;
 
 // The kind that asks for any.
@@ -53,19 +52,6 @@ pub struct Key {
 pub enum Choice {
     NoRule,
     Link(u32),
-}
-
-// The tag of a message kind.
-fn tag_of(kind: MessageKind) -> u8
-    ensures { λ r. ⌜ r ≡ tagFor kind ⌝ }
-{
-    match kind {
-        MessageKind::Unidirectional => 0x61,
-        MessageKind::Begin => 0x62,
-        MessageKind::End => 0x64,
-        MessageKind::Continue => 0x65,
-        MessageKind::Abort => 0x67,
-    }
 }
 
 // A code, if it is local.
@@ -115,7 +101,7 @@ fn key_of(message: &[u8]) -> Key
     let kind = outline.kind;
     let row = row_in(&octets);
     let component = row.kind;
-    let tag = tag_of(kind);
+    let tag = message_tag(kind);
     let first = first_of(outline.count, component);
     Key {
         outcome: outcome,

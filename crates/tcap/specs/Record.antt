@@ -167,3 +167,11 @@ meaningOf r m =
 -- two records are the same if both have a meaning, and it is one; a record without a meaning is the same as none
 unfoldable pub Same : Record → List ℕ → Record → List ℕ → Type 0
 Same r m s n = (μ : Meaning) × (meaningOf r m ≡ some μ) × (meaningOf s n ≡ some μ)
+
+-- the kind of a message as its tag; rules ask for it, and a record's octets begin with it
+abbrev pub messageTag : MessageKind → ℕ
+messageTag MessageKind.Unidirectional = 0x61
+messageTag MessageKind.Begin = 0x62
+messageTag MessageKind.End = 0x64
+messageTag MessageKind.Continue = 0x65
+messageTag MessageKind.Abort = 0x67

@@ -1,4 +1,6 @@
 // The record of a TCAP message, and what reading answers. A string of a record is a place and a length in the octets beside it.
+ghost use mathlib.Core.Path.{_≡_};
+ghost use Rattle.tcap.specs.Record.{messageTag};
 use element::FaultKind;
 
 pub struct Span {
@@ -128,6 +130,19 @@ pub enum MessageKind {
     End,
     Continue,
     Abort,
+}
+
+// The tag of a message.
+pub fn message_tag(kind: MessageKind) -> u8
+    ensures { λ r. ⌜ r ≡ messageTag kind ⌝ }
+{
+    match kind {
+        MessageKind::Unidirectional => 0x61,
+        MessageKind::Begin => 0x62,
+        MessageKind::End => 0x64,
+        MessageKind::Continue => 0x65,
+        MessageKind::Abort => 0x67,
+    }
 }
 
 // Rows from `count` on do not matter; reading leaves them blank.

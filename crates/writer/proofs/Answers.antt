@@ -15,7 +15,7 @@ use Rattle.tcap.specs.WellFormed.{mostOctets}
 use Rattle.judging.specs.Verdict.{allParts, allRanges, allLie, allShaped}
 use Rattle.judging.specs.Forms.{recordForm, octetsOf}
 use Rattle.writer.specs.declared.{WriteFault.WriteFault, Written.Written}
-use Rattle.writer.specs.Writing.{faultAt, messageOf, RecordOk, unless, writing, Writes, RecordFits}
+use Rattle.writer.specs.Writing.{faultAt, messageOf, RecordOk, unless, writing, Writes, RecordTyped}
 use Rattle.writer.proofs.Meant.{checked-means}
 use Rattle.writer.proofs.Formed.{forms-same}
 use Rattle.writer.proofs.Promises.{message-is, ok-answer, leaves-message, leaves-alone}
@@ -58,7 +58,7 @@ module _ (r : Record) (m : List ℕ) where
   bad-writes {k} {out} h e = untouched (by-rank (allParts r) (allRanges r) (allLie (length m) r) (allShaped m r) _ ∙ rw (h, e))
 
   -- no rank, and a size that stays at 256 from there on
-  module _ (w : RecordFits r) (fine : rankIn ≡ 0) (n : ℕ) (sized : n ≡ min (length octetsIn) 256) where
+  module _ (w : RecordTyped r) (fine : rankIn ≡ 0) (n : ℕ) (sized : n ≡ min (length octetsIn) 256) where
     pub message-octets : messageOf r m ≡ octetsIn
     message-octets = let (μ, e, f) = checked-means r m w (rank-ok fine) in message-is r m e ∙ forms-same r m e
 

@@ -13,9 +13,9 @@ use Rattle.element.specs.Form.{Form, then, maybe, around, shortest}
 use Rattle.tcap.specs.declared.{MessageKind.MessageKind}
 use Rattle.tcap.specs.Meaning.{Originating, Destination, Component, Dialogue, Ending, silent, cause, says, unidirectional, begin, finish, continue, abort, Meaning, origForm, destForm, dialogueForm, endingForm, componentsForm, messageForm, written}
 use Rattle.tcap.specs.WellFormed.{DialogueOk, EndingOk, ComponentsOk, OrigOk, DestOk, deepestLevel, WellFormedUpTo, WellFormed}
-use Rattle.tcap.specs.Record.{portionOf, partsMean}
+use Rattle.tcap.specs.Record.{portionOf, partsMean, messageTag}
 use Rattle.judging.specs.Verdict.{partsFit}
-use Rattle.judging.specs.Forms.{tagOf, octetsOf}
+use Rattle.judging.specs.Forms.{octetsOf}
 
 abbrev pub there : {A : Type 0} → Option A → Bool
 there none = false
@@ -88,7 +88,7 @@ portion-form none = refl
 portion-form (some d) = refl
 
 abbrev pub partsForm : MessageKind → Option (Originating (List ℕ)) → Option (Destination (List ℕ)) → Ending (List ℕ) → List (Component (List ℕ)) → Form
-partsForm k o e s cs = around (tagOf k) (then (maybe origForm o) (then (maybe destForm e) (then (endingForm s) (componentsForm cs))))
+partsForm k o e s cs = around (messageTag k) (then (maybe origForm o) (then (maybe destForm e) (then (endingForm s) (componentsForm cs))))
 
 pub made-octets : {k : MessageKind} {o : Option (Originating (List ℕ))} {e : Option (Destination (List ℕ))} {s : Ending (List ℕ)} {cs : List (Component (List ℕ))} {μ : Meaning} → Made k o e s cs μ → written μ ≡ octetsOf (partsForm k o e s cs)
 unfolding written messageForm shortest componentsForm

@@ -15,7 +15,7 @@ use Rattle.tcap.specs.Meaning.{Meaning}
 use Rattle.tcap.specs.WellFormed.{mostComponents, WellFormed}
 use Rattle.tcap.specs.Record.{partsMean, meaningOf}
 use Rattle.judging.specs.Verdict.{every, counted, origThere, destThere, causeThere, partsFit, rowPartsFit, allParts, origRanges, destRanges, dialogueRanges, rowRanges, allRanges, origLies, destLies, dialogueLies, rowLies, allLie, dialogueShaped, rowShaped, allShaped}
-use Rattle.writer.specs.Writing.{RecordOk, RowFits, RecordFits}
+use Rattle.writer.specs.Writing.{RecordOk, RowTyped, RecordTyped}
 use Rattle.writer.proofs.Parts.{given-four, rowsIn, endingIn, origIn, destIn, rowThere, rows-mean, ending-means, orig-means, dest-means}
 use Rattle.writer.proofs.Making.{there, caused, Made, made-means, make, made-ok}
 use Rattle.writer.proofs.Testing.{all-true, both-true, orig-is, dest-is, ending-is, rows-are}
@@ -31,7 +31,7 @@ every-both f g (w ∷ rs) = rw (every-both f g rs) (swap (f w) (g w) (every f rs
     swap true false c d = sym (and-false c)
     swap false b c d = refl
 
-every-take : (n : ℕ) (rs : List Row) → Every RowFits rs → Every RowFits (take n rs)
+every-take : (n : ℕ) (rs : List Row) → Every RowTyped rs → Every RowTyped (take n rs)
 unfolding Every
 every-take zero rs f = tt
 every-take (suc n) [] f = tt
@@ -157,7 +157,7 @@ module _ (r : Record) (m : List ℕ) where
   fitted : length (r .rows) ≡ mostComponents → There → fit ≡ partsFit (r .kind) (origThere (r .orig)) (destThere (r .dest)) (causeThere (r .dialogue)) (r .count)
   fitted h t = rw (counted-in h t, orig-there m (r .orig), dest-there m (r .dest), cause-there m (r .dialogue))
 
-  pub checked-means : RecordFits r → RecordOk r m → (μ : Meaning) × (meaningOf r m ≡ some μ) × WellFormed μ
+  pub checked-means : RecordTyped r → RecordOk r m → (μ : Meaning) × (meaningOf r m ≡ some μ) × WellFormed μ
   checked-means w o = let (t, g) = checks o in by-parts t g makes
     where
       by-parts : There → Good → ((made ≡ none) × (fit ≡ false)) ⊎ ((μ : Meaning) × Whole μ) → (μ : Meaning) × (meaningOf r m ≡ some μ) × WellFormed μ

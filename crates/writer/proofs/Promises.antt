@@ -22,7 +22,7 @@ use Rattle.tcap.specs.Record.{rowOf, blankRow, recordOf, meaningOf, Same}
 use Rattle.tcap.specs.Reading.{locatedUpTo, answered, readingUpTo, reading}
 use Rattle.tcap.proofs.Promises.{reads-accepted, accepted-reads, written-reads, written-least}
 use Rattle.writer.specs.declared.{WriteFault.WriteFault, Written.Written}
-use Rattle.writer.specs.Writing.{writeNumber, messageOf, RecordOk, unless, writing, RefusedWith, behind, leaves, Writes, ReadsAs, RecordFits}
+use Rattle.writer.specs.Writing.{writeNumber, messageOf, RecordOk, unless, writing, RefusedWith, behind, leaves, Writes, ReadsAs, RecordTyped}
 use Rattle.writer.proofs.Meant.{found, checked-means, means-checked}
 
 -- what is not refused has passed the test
@@ -41,7 +41,7 @@ module _ (r : Record) (m : List ℕ) where
   message-is e = rw e
 
   -- a record is well-formed exactly if it has a meaning that is
-  pub ok-exactly : RecordFits r → RecordOk r m ↔ ((μ : Meaning) × (meaningOf r m ≡ some μ) × WellFormed μ)
+  pub ok-exactly : RecordTyped r → RecordOk r m ↔ ((μ : Meaning) × (meaningOf r m ≡ some μ) × WellFormed μ)
   ok-exactly w = (λ o. checked-means r m w o, λ h. means-checked r m (w .full) (h .1) (h .2))
 
   -- and so if a message reads as it
@@ -104,7 +104,7 @@ module _ (r : Record) (m : List ℕ) where
         record { ok = record { parts = a .0; ranged = b .0; lie = c .0; shaped = d .0 }; counts = cc; most = omega arith; fits = omega arith }
 
     -- what is written reads as the record
-    pub reads-as : RecordFits r → {n : ℕ} → writing r m room ≡ Written.Length n → ReadsAs (messageOf r m) r m
+    pub reads-as : RecordTyped r → {n : ℕ} → writing r m room ≡ Written.Length n → ReadsAs (messageOf r m) r m
     reads-as w h = let (μ, e, o) = checked-means r m w (success h .ok) in message-reads e o (success h .most)
 
     -- it is written exactly if a message that reads as it fits
@@ -114,11 +114,11 @@ module _ (r : Record) (m : List ℕ) where
         let l = ⊑-length (messageOf r m) s (strictly-shortest s i) in
         ok-answer (readable-ok h s i) ∙ rw (le-leb size (min mostOctets room) (omega (arith, i .2 .short)))
 
-    pub written-exactly : RecordFits r → ((n : ℕ) × (writing r m room ≡ Written.Length n)) ↔ ((s : List ℕ) × ReadsAs s r m × (length s ≤ room))
+    pub written-exactly : RecordTyped r → ((n : ℕ) × (writing r m room ≡ Written.Length n)) ↔ ((s : List ℕ) × ReadsAs s r m × (length s ≤ room))
     written-exactly w = (λ h. (messageOf r m, reads-as w (h .1), success (h .1) .fits), λ h. (size, fitting (w .full) (h .0) (h .1) (h .2)))
 
     -- 25 exactly: every message that reads as it is longer than the room, or none does, for a message has at most 255 octets
-    pub no-room-exactly : RecordFits r → RecordOk r m → RefusedWith r m room 25 ↔ (((s : List ℕ) → ReadsAs s r m → room < length s) ⊎ ((s : List ℕ) → ReadsAs s r m → ⊥))
+    pub no-room-exactly : RecordTyped r → RecordOk r m → RefusedWith r m room 25 ↔ (((s : List ℕ) → ReadsAs s r m → room < length s) ⊎ ((s : List ℕ) → ReadsAs s r m → ⊥))
     unfolding RefusedWith writeNumber
     no-room-exactly w o = (λ h. inl (longer (h .0) (h .1)), λ h. by-size (leb size (min mostOctets room)) refl (⊎-elim (λ f. f) (λ f s i. absurd (f s i)) h))
       where
@@ -192,7 +192,7 @@ module _ (r : Record) (m out : List ℕ) where
   refusal-buffer x = x .holds ∙ leaves-alone (sym (x .answers))
 
   -- what was written reads back as the same record
-  pub reads-back : RecordFits r → {n : ℕ} {new : List ℕ} → Writes r m out (Written.Length n) new → (reading (take n new) .outcome ≡ Outcome.Accepted) × Same r m (reading (take n new) .message) (take n new)
+  pub reads-back : RecordTyped r → {n : ℕ} {new : List ℕ} → Writes r m out (Written.Length n) new → (reading (take n new) .outcome ≡ Outcome.Accepted) × Same r m (reading (take n new) .message) (take n new)
   unfolding ReadsAs Same
   reads-back w {n} {new} x =
       let (μ, e, i) = reads-as r m (length out) w (sym (x .answers)) in

@@ -28,7 +28,8 @@ use Rattle.putting.proofs.Sizes.{rows-lie}
 use Rattle.layout.specs.Layout.{headSize, rowSize, mostRows, recordSize, octet, numberAt, spanAt, idIn, linkedIn, codeIn, returnedIn, kindIn, rowIn, rowsIn, rowsLooked, isRecord, recordIn}
 use Rattle.unpack.proofs.Rows.{rows-length}
 use Rattle.writer.specs.declared.{WriteFault.WriteFault, Written.Written}
-use Rattle.writer.specs.Writing.{Writes, IdFits, LinkedFits, CodeFits, ReturnedFits, KindFits, RowFits, RecordFits}
+use Rattle.layout.specs.Fits.{IdFits, LinkedFits}
+use Rattle.writer.specs.Writing.{Writes, CodeTyped, ReturnedTyped, KindTyped, RowTyped, RecordTyped}
 use Rattle.writer.specs.Octets.{writingOctets, leavesOctets, sizeIn}
 use Rattle.writer.proofs.Told.{fine-tells}
 
@@ -61,19 +62,19 @@ linked-fits x n = by-flag (eqb x 0)
     by-flag true = tt
     by-flag false = signed-holds 1 n
 
-code-fits : (x : ℕ) (s : Span) → CodeFits (codeIn x s)
+code-fits : (x : ℕ) (s : Span) → CodeTyped (codeIn x s)
 unfolding codeIn
 code-fits x s = by-tag (eqb x 0x02)
   where
-    by-tag : (b : Bool) → CodeFits (cond b (Code.Local (signedAt (topOf 4) (s .place))) (Code.Global s))
+    by-tag : (b : Bool) → CodeTyped (cond b (Code.Local (signedAt (topOf 4) (s .place))) (Code.Global s))
     by-tag true = signed-holds 4 (s .place)
     by-tag false = tt
 
-returned-fits : (l : List ℕ) → ReturnedFits (returnedIn l)
+returned-fits : (l : List ℕ) → ReturnedTyped (returnedIn l)
 unfolding returnedIn
 returned-fits l = by-tag (eqb (octet l 5) 0)
   where
-    by-tag : (b : Bool) → ReturnedFits (cond b Returned.Bare (Returned.Both (codeIn (octet l 5) (spanAt l 8)) (spanAt l 16)))
+    by-tag : (b : Bool) → ReturnedTyped (cond b Returned.Bare (Returned.Both (codeIn (octet l 5) (spanAt l 8)) (spanAt l 16)))
     by-tag true = tt
     by-tag false = code-fits (octet l 5) (spanAt l 8)
 
@@ -85,28 +86,28 @@ chosen P false false true e v w x y z i j k l m = k
 chosen P false false false true v w x y z i j k l m = l
 chosen P false false false false v w x y z i j k l m = m
 
-kind-fits : (x : ℕ) (l : List ℕ) → KindFits (kindIn x l)
+kind-fits : (x : ℕ) (l : List ℕ) → KindTyped (kindIn x l)
 unfolding kindIn
 kind-fits x l =
     let f = returned-fits l in
     let c = code-fits (octet l 5) (spanAt l 8) in
-    chosen KindFits (eqb x 0xA1) (eqb x 0xA2) (eqb x 0xA3) (eqb x 0xA4) _ _ _ _ _ (linked-fits (octet l 3) (octet l 4), c) f c tt f
+    chosen KindTyped (eqb x 0xA1) (eqb x 0xA2) (eqb x 0xA3) (eqb x 0xA4) _ _ _ _ _ (linked-fits (octet l 3) (octet l 4), c) f c tt f
 
-row-fits : (l : List ℕ) → RowFits (rowIn l)
-unfolding RowFits rowIn
+row-fits : (l : List ℕ) → RowTyped (rowIn l)
+unfolding RowTyped rowIn
 row-fits l = (id-fits (octet l 1) (octet l 2), kind-fits (octet l 0) l)
 
-blank-fits : RowFits blankRow
-unfolding RowFits holds topOf
+blank-fits : RowTyped blankRow
+unfolding RowTyped holds topOf
 blank-fits = (tt, (tt, refl))
 
-rows-fit : (n k : ℕ) (l : List ℕ) → Every RowFits (rowsIn n l ++ replicate k blankRow)
+rows-fit : (n k : ℕ) (l : List ℕ) → Every RowTyped (rowsIn n l ++ replicate k blankRow)
 unfolding rowsIn Every
 rows-fit zero zero l = tt
 rows-fit zero (suc k) l = (blank-fits, rows-fit zero k l)
 rows-fit (suc n) k l = (row-fits l, rows-fit n k (drop rowSize l))
 
-pub octets-fit : (o : List ℕ) → RecordFits (recordIn o)
+pub octets-fit : (o : List ℕ) → RecordTyped (recordIn o)
 unfolding recordIn
 octets-fit o =
     let k = rowsLooked o in

@@ -19,7 +19,8 @@ use Rattle.tcap.specs.Meaning.{structured, unstructured}
 use Rattle.tcap.specs.WellFormed.{deepestLevel, leftAt, idOk, InvokeIdOk, CodeOk, ProblemOk, BothOk, ComponentOk, SourceOk, Outside, DialogueOk, EndingOk, OrigOk, DestOk}
 use Rattle.tcap.specs.Record.{idMeans, linkedMeans}
 use Rattle.judging.specs.Verdict.{every, ranges, idRanges, nameRanges, origRanges, destRanges, codeRanges, problemRanges, returnedRanges, rowRanges, sourceRanges, dialogueRanges, lies, optionLies, origLies, destLies, codeLies, returnedLies, rowLies, dialogueLies, tookAll, isElement, isSeries, octetsIn, parameterShaped, infoShaped, nameShaped, outsideShaped, codeShaped, returnedShaped, rowShaped, dialogueShaped}
-use Rattle.writer.specs.Writing.{IdFits, LinkedFits, CodeFits, ReturnedFits, KindFits, RowFits}
+use Rattle.layout.specs.Fits.{IdFits, LinkedFits}
+use Rattle.writer.specs.Writing.{CodeTyped, ReturnedTyped, KindTyped, RowTyped}
 use Rattle.writer.proofs.Parts.{optionIn, codeIn, bothIn, idIn, rowIn, rowsIn, endingIn, origIn, destIn}
 
 -- well-formed exactly if the types hold the numbers and both tests pass
@@ -126,7 +127,7 @@ module _ (m : List ℕ) where
   dest-is OptionalDest.NoDest h = (λ x. refl, λ x. tt)
   dest-is (OptionalDest.Dest e) h = rw (id-range (e .0 .octets) h) Iff·rfl
 
-  code-is : (c : Code) → codeLies (length m) c ≡ true → Tested (CodeOk (codeIn m c)) (CodeFits c) (codeRanges c) (codeShaped m c)
+  code-is : (c : Code) → codeLies (length m) c ≡ true → Tested (CodeOk (codeIn m c)) (CodeTyped c) (codeRanges c) (codeShaped m c)
   unfolding codeLies codeRanges codeShaped
   code-is (Code.Local z) h = record { fine = λ f r k. f; told = λ o. (o, refl, refl) }
   code-is (Code.Global s) h = name-is s h
@@ -141,21 +142,21 @@ module _ (m : List ℕ) where
   info-is OptionalSpan.Absent = (λ x. refl, λ x. tt)
   info-is (OptionalSpan.Present s) = series-is _ (octetsIn m s)
 
-  both-is : (r : Returned) → returnedLies (length m) r ≡ true → Tested (Maybe (BothOk deepestLevel) (bothIn m r)) (ReturnedFits r) (returnedRanges r) (returnedShaped m r)
+  both-is : (r : Returned) → returnedLies (length m) r ≡ true → Tested (Maybe (BothOk deepestLevel) (bothIn m r)) (ReturnedTyped r) (returnedRanges r) (returnedShaped m r)
   unfolding returnedLies returnedRanges returnedShaped
   both-is Returned.Bare h = record { fine = λ f r k. tt; told = λ o. (tt, refl, refl) }
   both-is (Returned.Both c p) h = tested-shape (code-is c (both-true _ _ h .0)) (element-is _ (octetsIn m p))
 
   coded-is : (c : Code) (u : OptionalSpan) → (codeLies (length m) c && optionLies (length m) u) ≡ true
-      → Tested (CodeOk (codeIn m c) × Maybe (Element (leftAt deepestLevel 4)) (optionIn m u)) (CodeFits c) (codeRanges c) (codeShaped m c && parameterShaped m u)
+      → Tested (CodeOk (codeIn m c) × Maybe (Element (leftAt deepestLevel 4)) (optionIn m u)) (CodeTyped c) (codeRanges c) (codeShaped m c && parameterShaped m u)
   coded-is c u h = tested-shape (code-is c (both-true _ _ h .0)) (parameter-is u)
 
-  result-is : (i : InvokeId) (r : Returned) → returnedLies (length m) r ≡ true → Tested (InvokeIdOk (idIn m i) × Maybe (BothOk deepestLevel) (bothIn m r)) (IdFits i × ReturnedFits r) (returnedRanges r) (returnedShaped m r)
+  result-is : (i : InvokeId) (r : Returned) → returnedLies (length m) r ≡ true → Tested (InvokeIdOk (idIn m i) × Maybe (BothOk deepestLevel) (bothIn m r)) (IdFits i × ReturnedTyped r) (returnedRanges r) (returnedShaped m r)
   result-is i r h =
       let j = both-is r h in
       record { fine = λ f g k. (id-is m i .1 (f .0), j .fine (f .1) g k); told = λ o. let q = j .told (o .1) in ((id-is m i .0 (o .0), q .0), q .1, q .2) }
 
-  row-is : (i : InvokeId) (k : ComponentKind) → rowLies (length m) k ≡ true → Tested (ComponentOk deepestLevel (rowIn m i k)) (IdFits i × KindFits k) (rowRanges k) (rowShaped m k)
+  row-is : (i : InvokeId) (k : ComponentKind) → rowLies (length m) k ≡ true → Tested (ComponentOk deepestLevel (rowIn m i k)) (IdFits i × KindTyped k) (rowRanges k) (rowShaped m k)
   unfolding rowLies rowRanges rowShaped ComponentOk
   row-is i (ComponentKind.Invoke l c p) h =
       let j = coded-is c p h in
@@ -198,7 +199,7 @@ module _ (m : List ℕ) where
   ending-is (Dialogue.OutsideOctets n c) h = outside-is n (both-true _ _ h .0)
 
   pub rows-are : (rs : List Row) → every (λ w. rowLies (length m) (w .kind)) rs ≡ true
-      → Tested (Every (ComponentOk deepestLevel) (rowsIn m rs)) (Every RowFits rs) (every (λ w. rowRanges (w .kind)) rs) (every (λ w. rowShaped m (w .kind)) rs)
-  unfolding every Every RowFits
+      → Tested (Every (ComponentOk deepestLevel) (rowsIn m rs)) (Every RowTyped rs) (every (λ w. rowRanges (w .kind)) rs) (every (λ w. rowShaped m (w .kind)) rs)
+  unfolding every Every RowTyped
   rows-are [] h = record { fine = λ f r k. tt; told = λ o. (tt, refl, refl) }
   rows-are (w ∷ rs) h = let z = both-true _ _ h in tested-both (row-is (w .id) (w .kind) (z .0)) (rows-are rs (z .1))

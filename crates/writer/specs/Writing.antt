@@ -5,7 +5,8 @@ use mathlib.Core.{Path._≡_, Bool.Bool, Bool.true, Bool.cond, List.List, List.[
 use lib.{ListN.length, ListN.drop, Dec.leb, Dec.eqb}
 use Rattle.base.specs.{Number.holds, Value.Every}
 use Rattle.element.specs.{Primitive.mostIntegerOctets}
-use Rattle.tcap.specs.{declared.InvokeId.InvokeId, declared.LinkedId.LinkedId, declared.Code.Code, declared.Returned.Returned, declared.ComponentKind.ComponentKind, declared.Row.Row, declared.Record.Record, Meaning.Meaning, Meaning.written, WellFormed.mostOctets, WellFormed.mostComponents, WellFormed.Reads, Record.meaningOf}
+use Rattle.tcap.specs.{declared.Code.Code, declared.Returned.Returned, declared.ComponentKind.ComponentKind, declared.Row.Row, declared.Record.Record, Meaning.Meaning, Meaning.written, WellFormed.mostOctets, WellFormed.mostComponents, WellFormed.Reads, Record.meaningOf}
+use Rattle.layout.specs.{Fits.IdFits, Fits.LinkedFits}
 use Rattle.judging.specs.{Verdict.allParts, Verdict.allRanges, Verdict.allLie, Verdict.allShaped}
 use Rattle.writer.specs.{declared.WriteFault.WriteFault, declared.Written.Written}
 
@@ -68,34 +69,26 @@ pub record Writes (r : Record) (m out : List ℕ) (answer : Written) (new : List
 unfoldable pub ReadsAs : List ℕ → Record → List ℕ → Type 0
 ReadsAs s r m = (μ : Meaning) × (meaningOf r m ≡ some μ) × Reads s μ
 
--- What every record of the code has by its types: 16 rows, IDs of 8 bits and local codes of 32
+-- What every record of the code has by its types: 16 rows, IDs of one octet and local codes of four
 
-abbrev pub IdFits : InvokeId → Type 0
-IdFits InvokeId.Null = Unit {0}
-IdFits (InvokeId.Id i) = holds 1 i ≡ true
+abbrev pub CodeTyped : Code → Type 0
+CodeTyped (Code.Local z) = holds mostIntegerOctets z ≡ true
+CodeTyped (Code.Global s) = Unit {0}
 
-abbrev pub LinkedFits : LinkedId → Type 0
-LinkedFits LinkedId.Unlinked = Unit {0}
-LinkedFits (LinkedId.Linked i) = holds 1 i ≡ true
+abbrev pub ReturnedTyped : Returned → Type 0
+ReturnedTyped Returned.Bare = Unit {0}
+ReturnedTyped (Returned.Both c p) = CodeTyped c
 
-abbrev pub CodeFits : Code → Type 0
-CodeFits (Code.Local z) = holds mostIntegerOctets z ≡ true
-CodeFits (Code.Global s) = Unit {0}
+abbrev pub KindTyped : ComponentKind → Type 0
+KindTyped (ComponentKind.Invoke l c p) = LinkedFits l × CodeTyped c
+KindTyped (ComponentKind.ResultLast r) = ReturnedTyped r
+KindTyped (ComponentKind.ResultNotLast r) = ReturnedTyped r
+KindTyped (ComponentKind.ReturnError c p) = CodeTyped c
+KindTyped (ComponentKind.Reject q) = Unit {0}
 
-abbrev pub ReturnedFits : Returned → Type 0
-ReturnedFits Returned.Bare = Unit {0}
-ReturnedFits (Returned.Both c p) = CodeFits c
+unfoldable pub RowTyped : Row → Type 0
+RowTyped w = IdFits (w .id) × KindTyped (w .kind)
 
-abbrev pub KindFits : ComponentKind → Type 0
-KindFits (ComponentKind.Invoke l c p) = LinkedFits l × CodeFits c
-KindFits (ComponentKind.ResultLast r) = ReturnedFits r
-KindFits (ComponentKind.ResultNotLast r) = ReturnedFits r
-KindFits (ComponentKind.ReturnError c p) = CodeFits c
-KindFits (ComponentKind.Reject q) = Unit {0}
-
-unfoldable pub RowFits : Row → Type 0
-RowFits w = IdFits (w .id) × KindFits (w .kind)
-
-pub record RecordFits (r : Record) : Type 0 where
+pub record RecordTyped (r : Record) : Type 0 where
   pub full : length (r .rows) ≡ mostComponents
-  pub each : Every RowFits (r .rows)
+  pub each : Every RowTyped (r .rows)

@@ -22,8 +22,8 @@ slice-aggregate-row-in c = search needs
 row-in-requires : tie.Need-row-in-requires
 row-in-requires c κs = search needs
 
-tag-of-requires : tie.Need-tag-of-requires
-tag-of-requires c κs = search needs
+message-tag-requires : tie.Need-message-tag-requires
+message-tag-requires c κs = search needs
 
 first-of-requires : tie.Need-first-of-requires
 first-of-requires c κs = search needs
@@ -35,7 +35,7 @@ returns c =
     let l = o .last .1 .0 in
     let n = o .result .count in
     let e : c .first-of .result ≡ firstOf n (getD (rowsHeld n l) 0 blankRow .kind) = c .first-of .ensures ∙ ap (λ (r : Row). firstOf n (r .kind)) (c .before .before .row-in .ensures) ∙ first-laid n l in
-    rw (c .before .tag-of .ensures, e, ← (o .ensures .same))
+    rw (c .before .message-tag .ensures, e, ← (o .ensures .same))
 
 pub key-of-spec : {M : Type 1} → statement M
 key-of-spec =
@@ -45,6 +45,6 @@ key-of-spec =
     read-rows-requires
     slice-aggregate-row-in
     row-in-requires
-    tag-of-requires
+    message-tag-requires
     first-of-requires
     returns)
