@@ -12,7 +12,7 @@ use borrow.Author.Tests.{eq-eqb, ne-eqb, lt-ltb, le-leb}
 use Rattle.element.specs.declared.{FaultKind.FaultKind, EndRead.EndRead, LengthRead.LengthRead, Walk.Walk}
 use Rattle.element.specs.Element.{constructorOf, codeZero, extendedOf}
 use Rattle.element.specs.Fault.{at}
-use Rattle.element.specs.Primitive.{identifierOk}
+use Rattle.primitive.specs.Primitive.{identifierOk}
 use Rattle.element.specs.Ask.{ask}
 use Rattle.element.specs.Answers.{seriesWalk}
 use Rattle.element.specs.Head.{endOf, within, lengthOf}

@@ -13,7 +13,7 @@ use Rattle.element.specs.Element.{extendedOf}
 use Rattle.element.specs.Fault.{Text, Fault, at}
 use Rattle.element.specs.declared.{FaultKind.FaultKind, EndRead.EndRead}
 use Rattle.element.specs.Head.{endOf}
-use Rattle.element.specs.Primitive.{identifierOk}
+use Rattle.primitive.specs.Primitive.{identifierOk}
 use Rattle.element.specs.Ask.{Body, ask}
 use Rattle.element.specs.Parts.{Item, level, leafItem, aroundItem, onlyBody, thenBody, silently, optBody, mapBody, seriesBody}
 use Rattle.element.specs.Walk.{anyTag, walkItem, walkTagItem}

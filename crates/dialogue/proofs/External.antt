@@ -15,7 +15,7 @@ use Rattle.element.specs.Element.{constructorOf, codeZero}
 use Rattle.element.specs.Fault.{Text, at, inDialogue}
 use Rattle.element.specs.Fault.{Fault as Faulty, fault}
 use Rattle.element.specs.Head.{endOf, tagOf, lengthOf}
-use Rattle.element.specs.Primitive.{identifierOk}
+use Rattle.primitive.specs.Primitive.{identifierOk}
 use Rattle.element.specs.Ask.{Got, got, bad, next, check, blamed, Body, askLength, askTag, askEnd, ask}
 use Rattle.element.specs.Parts.{Item, Where, level, leafContents, done, onlyBody, bindBody, silently}
 use Rattle.element.proofs.Asking.{Then, fact, void, the-fact, then-check}

@@ -15,7 +15,7 @@ use Rattle.element.specs.declared.{FaultKind.FaultKind, EndRead.EndRead}
 use Rattle.element.specs.Element.{constructorOf, codeZero, extendedOf}
 use Rattle.element.specs.Fault.{Text}
 use Rattle.element.specs.Head.{endOf}
-use Rattle.element.specs.Primitive.{numbers, identifierOk}
+use Rattle.primitive.specs.Primitive.{numbers, identifierOk}
 use Rattle.element.specs.Ask.{Got, ask}
 use Rattle.element.specs.Parts.{Item, level, aroundItem, onlyBody}
 use Rattle.tcap.specs.declared.{Dialogue.Dialogue as DialogueField}

@@ -3,11 +3,7 @@
 use Prim.Native.Nat.{ℕ, _-_}
 use mathlib.Core.{Bool.Bool, Bool.true, Bool.false, Bool.not, Bool.cond, List.List, List.[], Option.none, Option.some}
 use lib.{ListN.length, ListN.getD, Dec.ltb, Dec.leb, Dec.eqb}
-use Rattle.element.specs.{declared.FaultKind.FaultKind, declared.TagRead.TagRead, declared.IntegerRead.IntegerRead, declared.Walk.Walk, Element.extendedOf, Element.codeZero, Primitive.signedOf, Primitive.integerOk, Fault.Text, Fault.fault, Head.tagOf, Ask.Got, Ask.got, Ask.bad, Ask.ask, Ask.askTag, Parts.Item, Parts.level, Parts.place, Parts.seriesBody, Walk.walkItem, Walk.walkTagItem}
-
--- contents as an integer of 1 to `most` octets
-unfoldable pub integerOf : ℕ → List ℕ → IntegerRead
-integerOf most c = cond (integerOk most c) (IntegerRead.Value (signedOf c)) IntegerRead.Wrong
+use Rattle.element.specs.{declared.FaultKind.FaultKind, declared.TagRead.TagRead, declared.Walk.Walk, Element.extendedOf, Element.codeZero, Fault.Text, Fault.fault, Head.tagOf, Ask.Got, Ask.got, Ask.bad, Ask.ask, Ask.askTag, Parts.Item, Parts.level, Parts.place, Parts.seriesBody, Walk.walkItem, Walk.walkTagItem}
 
 -- The first three answers of `askTag` as the code has them: the tag (1, 2), code 0 (6), the level (5).
 unfoldable pub fronted : ℕ → TagRead → TagRead

@@ -1,6 +1,5 @@
 pub mod Form
 pub mod Element
-pub mod Primitive
 pub mod Fault
 pub mod Head
 pub mod Ask

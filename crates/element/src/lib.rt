@@ -1,5 +1,4 @@
-// The element layer: end of contents, tag, length, the contents of primitives, and the walkers of any element.
-pub mod primitive;
+// The element layer: end of contents, tag, length, and the walkers of any element.
 
 ghost use mathlib.Core.Path.{_≡_};
 ghost use Prim.Native.Nat.{_+_, _<_, _^_};
@@ -51,12 +50,6 @@ pub enum LengthRead {
     Fault(FaultKind),
     Definite { size: usize, count: usize },
     Indefinite,
-}
-
-// Contents, read as a signed integer.
-pub enum IntegerRead {
-    Value(i32),
-    Wrong,
 }
 
 // A walk to the bottom: the fault that was found first and its place, or the octets that were walked.

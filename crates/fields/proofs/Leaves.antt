@@ -14,14 +14,14 @@ use borrow.Author.Tests.{leb-true, le-leb, lt-leb, eqb-true, eqb-false}
 use Rattle.base.specs.Number.{numberFrom, topOf, signedAt}
 use Rattle.base.specs.Value.{Every, same}
 use Rattle.element.specs.declared.FaultKind.{FaultKind}
-use Rattle.element.specs.declared.IntegerRead.{IntegerRead}
+use Rattle.primitive.specs.declared.IntegerRead.{IntegerRead}
 use Rattle.element.specs.Element.{constructorOf}
-use Rattle.element.specs.Primitive.{signedOf, integerOk, integerOctets, identifierOk}
+use Rattle.primitive.specs.Primitive.{signedOf, integerOk, integerOctets, identifierOk}
 use Rattle.element.specs.Fault.{Text, at}
 use Rattle.element.specs.Ask.{got, bad, next, check, head, definite}
 use Rattle.element.specs.Parts.{Item, leafContents, leafItem, mapItem, integerItem}
-use Rattle.element.specs.Answers.{integerOf}
-use Rattle.element.proofs.Integers.{firstNine, fewest-test}
+use Rattle.primitive.specs.Answers.{integerOf}
+use Rattle.primitive.proofs.Integers.{firstNine, fewest-test}
 use Rattle.tcap.specs.Productions.{single?, octetItem}
 use Rattle.tcap.specs.Meaning.{Code, local, global}
 use Rattle.asking.specs.declared.{Field.Field, Octet.Octet}

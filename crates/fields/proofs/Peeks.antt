@@ -23,7 +23,7 @@ use Rattle.asking.specs.Asked.{front, nextOf, begins}
 use Rattle.asking.proofs.Opened.{byTag, byNext, ask-next}
 use Rattle.asking.proofs.Fronts.{next-begins, front-map}
 use Rattle.base.specs.Value.{same}
-use Rattle.element.specs.Primitive.{mostIntegerOctets}
+use Rattle.primitive.specs.Primitive.{mostIntegerOctets}
 use Rattle.fields.specs.Fields.{field, problemTag, problemMost, problemOf}
 
 -- the first octet of a tag is the one that a look finds

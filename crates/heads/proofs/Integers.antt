@@ -11,8 +11,8 @@ use borrow.Author.Tests.{le-leb}
 use Rattle.base.specs.Number.{octetsIn, topOf, bitsAt, holds}
 use Rattle.base.proofs.Numbers.{bits-within, holds-small, small-holds}
 use Rattle.element.specs.Form.{shortest, lengthOctets}
-use Rattle.element.specs.Primitive.{widthFrom, integerOctets}
-use Rattle.element.proofs.Integers.{integer-length, integer-some, integer-fits}
+use Rattle.primitive.specs.Primitive.{widthFrom, integerOctets}
+use Rattle.primitive.proofs.Integers.{integer-length, integer-some, integer-fits}
 use Rattle.tcap.specs.Meaning.{integer}
 use Rattle.judging.specs.Forms.{octetsOf}
 use Rattle.heads.specs.Size.{elementSize}

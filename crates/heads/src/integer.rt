@@ -6,8 +6,8 @@ ghost use Rattle.tcap.specs.Meaning.{integer};
 ghost use Rattle.judging.specs.Forms.{octetsOf};
 use base::put_three;
 use base::put_two;
-use element::primitive::bits;
-use element::primitive::integer_size;
+use primitive::bits;
+use primitive::integer_size;
 
 // The last octets of a number: 2, 3 or 4 of them.
 fn put_last(out: &mut [u8], at: usize, number: u32, count: usize) -> usize

@@ -11,8 +11,8 @@ use lib.Signed.{mag}
 use borrow.Author.Tests.{leb-true}
 use Rattle.base.specs.Number.{topOf}
 use Rattle.base.proofs.Numbers.{small-holds}
-use Rattle.element.specs.Primitive.{integerOctets}
-use Rattle.element.proofs.Integers.{integer-some, integer-fits}
+use Rattle.primitive.specs.Primitive.{integerOctets}
+use Rattle.primitive.proofs.Integers.{integer-some, integer-fits}
 use Rattle.tcap.specs.declared.Span.{Span}
 use Rattle.tcap.specs.Meaning.{octet, integer}
 use Rattle.judging.specs.Verdict.{lies, octetsIn}

@@ -4,7 +4,8 @@ use Prim.Native.Nat.{ℕ, suc, _+_, _-_}
 use mathlib.Core.{Bool.Bool, Bool.true, Bool.false, Bool.not, Bool._&&_, List.List, List.[], List._∷_}
 use lib.{ListN.length, ListN.take, ListN.drop, Dec.leb, Dec.eqb}
 use Rattle.base.specs.{Value.same}
-use Rattle.element.specs.{declared.Walk.Walk, Primitive.identifierOk, Answers.elementWalk, Answers.seriesWalk}
+use Rattle.primitive.specs.{Primitive.identifierOk}
+use Rattle.element.specs.{declared.Walk.Walk, Answers.elementWalk, Answers.seriesWalk}
 use Rattle.tcap.specs.{declared.Span.Span, declared.OptionalSpan.OptionalSpan, declared.OptionalOrig.OptionalOrig, declared.OptionalDest.OptionalDest, declared.InvokeId.InvokeId, declared.Code.Code, declared.Problem.Problem, declared.Diagnostic.Diagnostic, declared.Returned.Returned, declared.ComponentKind.ComponentKind, declared.Row.Row, declared.Dialogue.Dialogue, declared.MessageKind.MessageKind, declared.Record.Record, Meaning.structured, Meaning.unstructured, WellFormed.mostComponents, WellFormed.deepestLevel, WellFormed.leftAt}
 
 -- every row that counts; with a count above 16 that is all 16

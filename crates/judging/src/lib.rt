@@ -8,10 +8,10 @@ ghost use Rattle.judging.specs.Judged.{joined, wrapped, walkJudged, octe
 ghost use Rattle.tcap.specs.declared.ComponentKind.{ComponentKind};
 use base::piece;
 use element::Walk;
-use element::primitive::identifier_ok;
-use element::primitive::integer_size;
 use element::walk_element;
 use element::walk_series;
+use primitive::identifier_ok;
+use primitive::integer_size;
 use tcap::Code;
 use tcap::ComponentKind;
 use tcap::InvokeId;

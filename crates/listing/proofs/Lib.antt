@@ -1,4 +1,3 @@
-pub mod Digits
 pub mod Rows
 pub mod Room
 pub mod Specimens

@@ -8,8 +8,8 @@ use Rattle.base.specs.Text.{text}
 use Rattle.element.specs.Fault.{numberOf}
 use Rattle.tcap.specs.Reading.{reading}
 use Rattle.tcap.proofs.Computing.{outcomeOf}
-use Rattle.listing.specs.Digits.{lastDigits, decimal, signed, hexDigit, hex}
-use Rattle.listing.specs.Fields.{number, value, kindText, dialogueText, wordText, idText, linkedText, placeText, parameterText, problemOf, problemText, answerText, stringText, transactionText, origText, destText, idsText, codeText}
+use Rattle.digits.specs.Digits.{lastDigits, decimal, signed, hexDigit, hex, number, value}
+use Rattle.listing.specs.Fields.{kindText, dialogueText, wordText, idText, linkedText, placeText, parameterText, problemOf, problemText, answerText, stringText, transactionText, origText, destText, idsText, codeText}
 use Rattle.listing.specs.Listing.{refusalText, rejectText, codedText, returnedText, partsText, rowText, rowsText, headText, recordText, outcomeText, listingOf}
 
 pub record Listed : Type 0 where

@@ -5,13 +5,7 @@ use mathlib.Core.{List.List, List._++_}
 use lib.{ListN.take, ListN.drop, IntN.ℤ}
 use Rattle.base.specs.{Text.text}
 use Rattle.tcap.specs.declared.{Span.Span, OptionalSpan.OptionalSpan, TransactionId.TransactionId, OptionalOrig.OptionalOrig, OptionalDest.OptionalDest, InvokeId.InvokeId, LinkedId.LinkedId, Code.Code, Problem.Problem, ComponentKind.ComponentKind, Dialogue.Dialogue, MessageKind.MessageKind, Answer.Answer}
-use Rattle.listing.specs.{Digits.decimal, Digits.signed, Digits.hex}
-
-unfoldable pub number : ℕ → List ℕ
-number n = text " " ++ decimal n
-
-unfoldable pub value : ℤ → List ℕ
-value z = text " " ++ signed z
+use Rattle.digits.specs.{Digits.decimal, Digits.signed, Digits.hex, Digits.number, Digits.value}
 
 unfoldable pub kindText : MessageKind → List ℕ
 kindText MessageKind.Unidirectional = text "unidirectional"

@@ -6,7 +6,8 @@ use lib.{ListN.length, ListN.take, ListN.drop, Dec.leb}
 use Rattle.base.specs.{Text.text}
 use Rattle.element.specs.{Fault.numberOf}
 use Rattle.tcap.specs.declared.{OptionalSpan.OptionalSpan, LinkedId.LinkedId, Code.Code, Problem.Problem, Returned.Returned, ComponentKind.ComponentKind, Row.Row, Record.Record, Refusal.Refusal, Outcome.Outcome, Reading.Reading}
-use Rattle.listing.specs.{declared.Listed.Listed, Digits.decimal, Fields.number, Fields.kindText, Fields.dialogueText, Fields.wordText, Fields.idText, Fields.linkedText, Fields.parameterText, Fields.problemText, Fields.answerText, Fields.idsText, Fields.codeText}
+use Rattle.digits.specs.{Digits.decimal, Digits.number}
+use Rattle.listing.specs.{declared.Listed.Listed, Fields.kindText, Fields.dialogueText, Fields.wordText, Fields.idText, Fields.linkedText, Fields.parameterText, Fields.problemText, Fields.answerText, Fields.idsText, Fields.codeText}
 
 unfoldable pub refusalText : Refusal → List ℕ
 refusalText f = text "refused" ++ number (numberOf (f .kind)) ++ number (f .place) ++ answerText (f .answer) ++ text "\n"

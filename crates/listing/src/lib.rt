@@ -1,7 +1,6 @@
 // Lists a reading as text in a lent buffer.
 mod field;
 mod line;
-mod number;
 
 ghost use mathlib.Core.Path.{_≡_};
 ghost use Rattle.base.specs.Put.{Put};

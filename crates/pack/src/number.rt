@@ -6,7 +6,7 @@ ghost use lib.ListN.{length};
 ghost use Rattle.base.specs.Number.{octetsIn, topOf, bitsAt};
 ghost use Rattle.base.specs.Put.{Put};
 ghost use Rattle.layout.specs.Layout.{spanOctets};
-use element::primitive::bits;
+use primitive::bits;
 use tcap::Span;
 
 // One octet that stands for a signed number.

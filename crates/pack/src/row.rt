@@ -10,7 +10,7 @@ use crate::number::octet_of;
 use crate::number::put_four;
 use crate::number::put_span;
 use crate::number::put_three;
-use element::primitive::bits;
+use primitive::bits;
 use tcap::Code;
 use tcap::InvokeId;
 use tcap::LinkedId;

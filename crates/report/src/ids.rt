@@ -2,7 +2,7 @@
 ghost use Rattle.report.specs.Expected.{Tells, StringIs, OrigIs, IdIs};
 use base::piece;
 use check::same;
-use element::primitive::signed_octet;
+use primitive::signed_octet;
 use tcap::InvokeId;
 use tcap::OptionalOrig;
 use tcap::Span;

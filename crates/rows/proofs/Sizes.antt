@@ -6,7 +6,7 @@ use mathlib.Core.Bool.{true, _&&_, and-eq-true-iff}
 use mathlib.Core.List.{List, [], _∷_, _++_}
 use lib.ListN.{length, length-append}
 use Rattle.element.specs.Form.{exactly, then, shortest, seriesForm}
-use Rattle.element.specs.Primitive.{integerOctets}
+use Rattle.primitive.specs.Primitive.{integerOctets}
 use Rattle.tcap.specs.Meaning.{problemForm}
 use Rattle.tcap.specs.declared.Span.{Span}
 use Rattle.tcap.specs.declared.OptionalSpan.{OptionalSpan}

@@ -3,7 +3,8 @@
 use Prim.Native.Nat.{ℕ, _+_}
 use mathlib.Core.{List.List, List.[], List._∷_}
 use lib.{ListN.length}
-use Rattle.element.specs.{Form.Form, Form.then, Primitive.integerOctets}
+use Rattle.primitive.specs.{Primitive.integerOctets}
+use Rattle.element.specs.{Form.Form, Form.then}
 use Rattle.tcap.specs.{declared.OptionalSpan.OptionalSpan, declared.InvokeId.InvokeId, declared.LinkedId.LinkedId, declared.Code.Code, declared.Returned.Returned, declared.ComponentKind.ComponentKind, declared.Row.Row, Meaning.problemForm}
 use Rattle.heads.specs.{Size.elementSize}
 use Rattle.judging.specs.{Forms.linkedForm, Forms.codeForm, Forms.parameterForm, Forms.returnedForm}

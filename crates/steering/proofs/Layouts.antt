@@ -11,7 +11,7 @@ use lib.IntN.{ℤ}
 use Rattle.base.specs.Number.{numberFrom, octetsIn, topOf, bitsAt, holds}
 use Rattle.base.specs.Value.{Every}
 use Rattle.base.proofs.Numbers.{signed-bits, bits-within, top-odd, holds-small, number-octets, length-octets}
-use Rattle.element.specs.Primitive.{signedOf}
+use Rattle.primitive.specs.Primitive.{signedOf}
 use Rattle.steering.specs.declared.{RuleCode.RuleCode, Rule.Rule}
 use Rattle.steering.specs.Layout.{ruleSize, kindIn, codeIn, ruleOf, rulesFrom, rulesIn, codeOctets, ruleOctets, rulesOctets, CodeRoom, RuleRoom}
 

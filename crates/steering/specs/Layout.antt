@@ -4,7 +4,7 @@ use Prim.Native.Nat.{ℕ, zero, suc, _/_, _≤_}
 use mathlib.Core.{Path._≡_, Bool.true, Bool.cond, List.List, List.[], List._∷_, List._++_}
 use lib.{ListN.length, ListN.take, ListN.drop, ListN.getD, Dec.leb, Dec.eqb}
 use Rattle.base.specs.Number.{numberFrom, octetsIn, topOf, bitsAt, holds}
-use Rattle.element.specs.Primitive.{signedOf}
+use Rattle.primitive.specs.Primitive.{signedOf}
 use Rattle.steering.specs.declared.{RuleCode.RuleCode, Rule.Rule}
 
 abbrev pub ruleSize : ℕ

@@ -13,7 +13,7 @@ use crate::rule_fits;
 use base::after;
 use base::piece;
 use base::wide;
-use element::primitive::signed;
+use primitive::signed;
 
 const RULE_SIZE: usize = 12;
 

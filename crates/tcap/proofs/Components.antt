@@ -16,7 +16,7 @@ use Rattle.base.proofs.Values.{same-equal, same-refl}
 use Rattle.element.specs.declared.{FaultKind.FaultKind}
 use Rattle.element.specs.Form.{Form, exactly, then, leaf, around, maybe, seriesForm, Matches, document01}
 use Rattle.element.specs.Element.{Element, codeZero, extendedOf, constructorOf}
-use Rattle.element.specs.Primitive.{identifierOk, mostIntegerOctets}
+use Rattle.primitive.specs.Primitive.{identifierOk, mostIntegerOctets}
 use Rattle.element.specs.Fault.{Text, withInvokeId}
 use Rattle.element.specs.Ask.{Body}
 use Rattle.element.specs.Parts.{Item, leafItem, integerItem, aroundItem, mapItem, orItem, bindBody, thenBody, onlyBody, lastBody, optBody, silently}

@@ -12,7 +12,7 @@ use Rattle.base.proofs.Values.{same-equal, same-refl}
 use Rattle.element.specs.declared.{FaultKind.FaultKind}
 use Rattle.element.specs.Form.{Form, exactly, then, leaf, around, maybe, seriesForm, Matches, document01}
 use Rattle.element.specs.Element.{Element, IsElement, SeriesOf, codeZero, extendedOf, constructorOf}
-use Rattle.element.specs.Primitive.{identifierOk, numbers}
+use Rattle.primitive.specs.Primitive.{identifierOk, numbers}
 use Rattle.element.specs.Fault.{Text}
 use Rattle.element.specs.Ask.{Body}
 use Rattle.element.specs.Parts.{Item, leafItem, aroundItem, mapItem, onlyBody, silently}

@@ -14,7 +14,7 @@ use borrow.Author.Tests.{eq-eqb, leb-false}
 use Rattle.base.specs.Value.{Every, Maybe, same}
 use Rattle.element.specs.declared.{FaultKind.FaultKind}
 use Rattle.element.specs.Element.{extendedOf}
-use Rattle.element.specs.Primitive.{identifierOk, integerOk, signedOf, mostIntegerOctets}
+use Rattle.primitive.specs.Primitive.{identifierOk, integerOk, signedOf, mostIntegerOctets}
 use Rattle.element.specs.Fault.{numberOf, Text, Owner, portion, dialogue, component, Fault, fault, at, inDialogue, inComponent, withInvokeId, withOrigId}
 use Rattle.element.specs.Ask.{got, bad, Body, ask}
 use Rattle.element.specs.Parts.{Item, level, integerItem, aroundItem, mapItem, orItem, onlyBody, seriesBody, bindBody, thenBody, lastBody, optBody, silently}

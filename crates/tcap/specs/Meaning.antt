@@ -4,7 +4,8 @@ use Prim.Native.Nat.{ℕ}
 use mathlib.Core.{List.List, Option.Option, List.[], List._∷_, Option.none, Option.some}
 use lib.{IntN.ℤ}
 use Rattle.tcap.specs.{declared.Problem.Problem, declared.Diagnostic.Diagnostic}
-use Rattle.element.specs.{Form.Form, Form.exactly, Form.then, Form.perhaps, Form.leaf, Form.around, Form.maybe, Form.seriesForm, Form.shortest, Form.document01, Primitive.integerOctets}
+use Rattle.primitive.specs.{Primitive.integerOctets}
+use Rattle.element.specs.{Form.Form, Form.exactly, Form.then, Form.perhaps, Form.leaf, Form.around, Form.maybe, Form.seriesForm, Form.shortest, Form.document01}
 
 pub data Originating (S : Type 0) : Type 0 where
   orig : S → Originating S

@@ -4,7 +4,8 @@ use Prim.Native.Nat.{ℕ}
 use mathlib.Core.{Bool.Bool, Bool.true, Bool.false, List.List, List.[], List._∷_, Option.Option, Option.Option·getD, Option.none, Option.some}
 use lib.{ListN.getD, Dec.leb, IntN.ℤ}
 use Rattle.base.specs.{Value.same}
-use Rattle.element.specs.{declared.FaultKind.FaultKind, Primitive.identifierOk, Primitive.mostIntegerOctets, Fault.Text, Fault.Fault, Fault.inDialogue, Fault.inComponent, Fault.withInvokeId, Fault.withOrigId, Ask.Body, Parts.Item, Parts.Where, Parts.level, Parts.leafItem, Parts.integerItem, Parts.aroundItem, Parts.keptItem, Parts.mapItem, Parts.orItem, Parts.bindBody, Parts.thenBody, Parts.silently, Parts.onlyBody, Parts.lastBody, Parts.optBody, Parts.mapBody, Parts.seriesBody, Walk.walkItem, Walk.walkTagItem}
+use Rattle.primitive.specs.{Primitive.identifierOk, Primitive.mostIntegerOctets}
+use Rattle.element.specs.{declared.FaultKind.FaultKind, Fault.Text, Fault.Fault, Fault.inDialogue, Fault.inComponent, Fault.withInvokeId, Fault.withOrigId, Ask.Body, Parts.Item, Parts.Where, Parts.level, Parts.leafItem, Parts.integerItem, Parts.aroundItem, Parts.keptItem, Parts.mapItem, Parts.orItem, Parts.bindBody, Parts.thenBody, Parts.silently, Parts.onlyBody, Parts.lastBody, Parts.optBody, Parts.mapBody, Parts.seriesBody, Walk.walkItem, Walk.walkTagItem}
 use Rattle.tcap.specs.{declared.Problem.Problem, declared.Diagnostic.Diagnostic, Meaning.Originating, Meaning.orig, Meaning.Destination, Meaning.dest, Meaning.Code, Meaning.local, Meaning.global, Meaning.Component, Meaning.invoke, Meaning.last, Meaning.notLast, Meaning.error, Meaning.reject, Meaning.Dialogue, Meaning.request, Meaning.unidialogue, Meaning.response, Meaning.aborted, Meaning.single, Meaning.octets, Meaning.Ending, Meaning.silent, Meaning.cause, Meaning.says, Meaning.Message, Meaning.unidirectional, Meaning.begin, Meaning.finish, Meaning.continue, Meaning.abort, Meaning.structured, Meaning.unstructured, Meaning.version, WellFormed.mostComponents, WellFormed.leftAt, WellFormed.idOk}
 
 -- Fields

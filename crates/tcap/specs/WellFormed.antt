@@ -4,7 +4,8 @@ use Prim.Native.Nat.{ℕ, suc, _-_, _≤_}
 use mathlib.Core.{Path._≡_, Bool.Bool, Bool.true, Bool.false, List.List, Option.Option}
 use lib.{ListN.length, Dec.leb, IntN.ℤ}
 use Rattle.base.specs.{Number.holds, Value.Every, Value.Maybe, Value.same}
-use Rattle.element.specs.{Form.Matches, Form.document01, Element.Element, Element.SeriesOf, Primitive.between, Primitive.identifierOk, Primitive.mostIntegerOctets}
+use Rattle.primitive.specs.{Primitive.between, Primitive.identifierOk, Primitive.mostIntegerOctets}
+use Rattle.element.specs.{Form.Matches, Form.document01, Element.Element, Element.SeriesOf}
 use Rattle.tcap.specs.{declared.Problem.Problem, declared.Diagnostic.Diagnostic, Meaning.Originating, Meaning.orig, Meaning.Destination, Meaning.dest, Meaning.Code, Meaning.local, Meaning.global, Meaning.Component, Meaning.invoke, Meaning.last, Meaning.notLast, Meaning.error, Meaning.reject, Meaning.Dialogue, Meaning.request, Meaning.unidialogue, Meaning.response, Meaning.aborted, Meaning.single, Meaning.octets, Meaning.Ending, Meaning.silent, Meaning.cause, Meaning.says, Meaning.unidirectional, Meaning.begin, Meaning.finish, Meaning.continue, Meaning.abort, Meaning.Meaning, Meaning.structured, Meaning.unstructured, Meaning.messageForm}
 
 -- the numbers of document 01

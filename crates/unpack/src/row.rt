@@ -8,8 +8,8 @@ ghost use Rattle.layout.specs.Layout.{isFlag, idIn, linkedIn, isCodeTag, codeAt
 use crate::number::number_at;
 use crate::number::optional_at;
 use crate::number::span_at;
-use element::primitive::signed;
-use element::primitive::signed_octet;
+use primitive::signed;
+use primitive::signed_octet;
 use tcap::Code;
 use tcap::ComponentKind;
 use tcap::InvokeId;

@@ -11,7 +11,7 @@ use borrow.Author.Tests.{leb-true, eqb-true, eq-eqb, not-true}
 use Rattle.base.specs.Number.{topOf, holds}
 use Rattle.base.specs.Value.{Every, Maybe, same}
 use Rattle.element.specs.declared.{Walk.Walk}
-use Rattle.element.specs.Primitive.{between, numbers, identifierOk}
+use Rattle.primitive.specs.Primitive.{between, numbers, identifierOk}
 use Rattle.element.specs.Element.{Element, SeriesOf}
 use Rattle.element.proofs.Whole.{element-walk-is, series-walk-is}
 use Rattle.tcap.specs.declared.{Span.Span, OptionalSpan.OptionalSpan, OptionalOrig.OptionalOrig, OptionalDest.OptionalDest, InvokeId.InvokeId, LinkedId.LinkedId, Code.Code, Problem.Problem, Diagnostic.Diagnostic, Returned.Returned, ComponentKind.ComponentKind, Row.Row, Dialogue.Dialogue}

@@ -4,7 +4,7 @@ use Prim.Native.Nat.{ℕ, min}
 use mathlib.Core.{Path._≡_, Bool.Bool, Bool.true, Bool.cond, List.List, List.[], List._++_, Option.Option·map, Option.Option·getD, Option.some}
 use lib.{ListN.length, ListN.drop, Dec.leb, Dec.eqb}
 use Rattle.base.specs.{Number.holds, Value.Every}
-use Rattle.element.specs.{Primitive.mostIntegerOctets}
+use Rattle.primitive.specs.{Primitive.mostIntegerOctets}
 use Rattle.tcap.specs.{declared.Code.Code, declared.Returned.Returned, declared.ComponentKind.ComponentKind, declared.Row.Row, declared.Record.Record, Meaning.Meaning, Meaning.written, WellFormed.mostOctets, WellFormed.mostComponents, WellFormed.Reads, Record.meaningOf}
 use Rattle.layout.specs.{Fits.IdFits, Fits.LinkedFits}
 use Rattle.judging.specs.{Verdict.allParts, Verdict.allRanges, Verdict.allLie, Verdict.allShaped}

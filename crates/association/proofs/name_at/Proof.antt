@@ -2,7 +2,7 @@
 use mathlib.Core.Path.{refl, sym, _∙_}
 use native.Mathlib.Omega.{arith}
 use Rattle.element.specs.Element.{constructorOf}
-use Rattle.element.specs.Primitive.{identifierOk}
+use Rattle.primitive.specs.Primitive.{identifierOk}
 use Rattle.tcap.specs.Record.{spanOf}
 use Rattle.asking.proofs.Sizes.{field-size}
 use Rattle.association.specs.declared.{SpanRead.SpanRead}

@@ -6,7 +6,7 @@ use native.Mathlib.Omega.{arith}
 use mir.Syntax.{w32}
 use mir.Facts.{toZ-ofZ}
 use Rattle.element.specs.Element.{constructorOf}
-use Rattle.element.specs.Primitive.{mostIntegerOctets}
+use Rattle.primitive.specs.Primitive.{mostIntegerOctets}
 use Rattle.element.specs.Parts.{mapItem, integerItem}
 use Rattle.element.specs.Fault.{Text}
 use Rattle.tcap.specs.Meaning.{Code, local}

@@ -2,7 +2,7 @@
 use borrow.Author.Needs.{needs}
 use mathlib.Core.Path.{sym, ap, _∙_}
 use mathlib.Core.Bool.{true}
-use Rattle.element.specs.Primitive.{identifierOk}
+use Rattle.primitive.specs.Primitive.{identifierOk}
 use Rattle.judging.proofs.Joining.{passed, later-fine, later-bad, later-not}
 use Rattle.judging.proofs.name_judged.Statement.{statement}
 use Rattle.judging.proofs.name_judged.Tie as tie

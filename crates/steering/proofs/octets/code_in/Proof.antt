@@ -4,7 +4,7 @@ use mir.Syntax.{w32}
 use borrow.Author.Tests.{ne-eqb}
 use Rattle.base.proofs.Tests.{tests}
 use Rattle.base.specs.Number.{topOf}
-use Rattle.element.specs.Primitive.{signedOf}
+use Rattle.primitive.specs.Primitive.{signedOf}
 use Rattle.steering.specs.Layout.{codeIn}
 use borrow.Author.Needs.{needs}
 use Rattle.steering.proofs.octets.code_in.Statement.{statement}

@@ -1,0 +1,58 @@
+-- The octets passed have been put, two digits each. Assumes nothing.
+use Prim.Native.Nat.{_≤_, _-_}
+use native.Mathlib.Omega.{arith}
+use borrow.Author.Needs.{needs}
+use lib.ListN.{length, take}
+use lib.Seq.{take-all}
+use Rattle.base.specs.Put.{Put}
+use Rattle.base.proofs.Puts.{put-none, put-length}
+use Rattle.digits.specs.Digits.{hex}
+use Rattle.digits.proofs.Digits.{hex-step}
+use Rattle.digits.proofs.put_hex.Statement.{statement}
+use Rattle.digits.proofs.put_hex.Tie as tie
+
+abbrev Inv-loop : tie.InvT-loop
+Inv-loop out₀ at part i₀ o₀ out i o = (i ≤ length part) × Put out₀ at (hex (take i part)) o out
+
+abbrev μ-loop : tie.MeasureT-loop
+μ-loop out₀ at part i₀ o₀ out i o = length part - i
+
+loop-holds : tie.Need-loop-holds Inv-loop μ-loop
+unfolding hex
+loop-holds c = (omega arith, put-none _ _ (omega arith) (omega arith))
+
+shared-slice-read-put-two-digits : tie.Need-shared-slice-read-put-two-digits Inv-loop μ-loop
+shared-slice-read-put-two-digits c = omega arith
+
+put-two-digits-requires : tie.Need-put-two-digits-requires Inv-loop μ-loop
+put-two-digits-requires c κs = search needs
+
+add-i : tie.Need-add-i Inv-loop μ-loop
+add-i c = omega arith
+
+loop-less : tie.Need-loop-less Inv-loop μ-loop
+loop-less c = omega arith
+
+loop-again : tie.Need-loop-again Inv-loop μ-loop
+loop-again c = (omega arith, hex-step _ _ (c .before .before .before .before .before .loop-test .taken) (c .before .before .before .before .before .before .loop .inv .1) (c .before .before .put-two-digits .ensures))
+
+same-length : tie.Need-same-length Inv-loop μ-loop
+same-length c = put-length (c .before .loop .inv .1)
+
+returns : tie.Need-returns Inv-loop μ-loop
+returns c = rw (take-all _ (c .before .before .before .before .args .part .now) (c .loop-test .left)) at (c .before .loop .inv .1)
+
+pub put-hex-spec : {M : Type 1} → statement M
+put-hex-spec =
+    tie.close
+    (tie.spec
+    Inv-loop
+    μ-loop
+    loop-holds
+    shared-slice-read-put-two-digits
+    put-two-digits-requires
+    add-i
+    loop-less
+    loop-again
+    same-length
+    returns)

@@ -1,0 +1,23 @@
+-- By its test. Assumes nothing.
+use Rattle.base.proofs.Tests.{tests}
+use Rattle.primitive.specs.Primitive.{beginsAt}
+use borrow.Author.Needs.{needs}
+use Rattle.primitive.proofs.begins_at.Statement.{statement}
+use Rattle.primitive.proofs.begins_at.Tie as tie
+
+returns : tie.Need-returns
+unfolding beginsAt
+returns c = search tests
+
+sub-result : tie.Need-sub-result
+sub-result c = search needs
+
+shared-slice-read-result : tie.Need-shared-slice-read-result
+shared-slice-read-result c = search needs
+
+returns-2 : tie.Need-returns-2
+unfolding beginsAt
+returns-2 c = search tests
+
+pub begins-at-spec : {M : Type 1} → statement M
+begins-at-spec = tie.close (tie.spec returns sub-result shared-slice-read-result returns-2)
