@@ -1,1 +1,2 @@
 pub mod Expected
+pub mod Tallied

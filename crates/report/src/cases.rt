@@ -2,6 +2,7 @@
 ghost use mathlib.Core.Path.{_≡_};
 ghost use Prim.Native.Nat.{_+_, _*_, _<_};
 ghost use Rattle.io.specs.Counts.{Counts};
+ghost use Rattle.report.specs.Tallied.{verdictOn, talliedBy};
 use crate::Tally;
 use crate::counted;
 use base::wide;
@@ -64,7 +65,10 @@ pub fn next_short_string(fd: i32, buffer: &mut [u8]) -> usize
     next_octets(fd, count, buffer)
 }
 
-pub fn verdict_of(equal: bool) -> Verdict {
+// The verdict on a case.
+pub fn verdict_of(equal: bool) -> Verdict
+    ensures { λ r. ⌜ r ≡ verdictOn equal ⌝ }
+{
     if equal {
         Verdict::Same
     } else {
@@ -81,7 +85,9 @@ fn name_case(tally: Tally) {
 }
 
 // The tally after a verdict; a case that differs is named.
-pub fn told(tally: Tally, verdict: Verdict) -> Tally {
+pub fn told(tally: Tally, verdict: Verdict) -> Tally
+    ensures { λ r. ⌜ r ≡ talliedBy tally verdict ⌝ }
+{
     match verdict {
         Verdict::Same => counted(tally, true),
         Verdict::Differs => {

@@ -4,11 +4,12 @@ pub mod ids;
 
 ghost use mathlib.Core.Path.{_≡_};
 ghost use mathlib.Core.Bool.{true, cond};
-ghost use Prim.Native.Nat.{_+_, _≤_, min};
+ghost use Prim.Native.Nat.{_≤_};
 ghost use lib.ListN.{length};
 ghost use lib.Dec.{leb};
 ghost use Rattle.io.specs.Counts.{Counts};
 ghost use Rattle.listing.specs.Listing.{listingOf, bufferAfter};
+ghost use Rattle.report.specs.Tallied.{oneMore, tallied};
 use check::same;
 use libc::STDOUT_FILENO;
 use listing::Listed;
@@ -48,15 +49,14 @@ pub struct Tally {
 
 // One more, without wrapping.
 fn more(count: u64) -> u64
-    ensures { λ r. ⌜ r ≡ min (count + 1) 18446744073709551615 ⌝ }
+    ensures { λ r. ⌜ r ≡ oneMore count ⌝ }
 {
     if count < u64::MAX { count + 1 } else { count }
 }
 
 // The tally after one more case.
 pub fn counted(tally: Tally, equal: bool) -> Tally
-    ensures { λ r. ⌜ r .compared ≡ min (tally .compared + 1) 18446744073709551615 ⌝ }
-    ensures { λ r. ⌜ r .differ ≡ cond equal (tally .differ) (min (tally .differ + 1) 18446744073709551615) ⌝ }
+    ensures { λ r. ⌜ r ≡ tallied tally equal ⌝ }
 {
     if equal {
         return Tally {

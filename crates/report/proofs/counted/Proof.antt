@@ -1,5 +1,6 @@
 -- A case that differs counts in both numbers. Assumes nothing.
 use borrow.Author.Needs.{needs}
+use Rattle.report.specs.Tallied.{tallied}
 use Rattle.report.proofs.counted.Statement.{statement}
 use Rattle.report.proofs.counted.Tie as tie
 
@@ -7,7 +8,8 @@ more-requires : tie.Need-more-requires
 more-requires c κs = search needs
 
 returns : tie.Need-returns
-returns c = search needs
+unfolding tallied
+returns c = rw (c .more .ensures, c .before .if1 .taken)
 
 more-requires-2 : tie.Need-more-requires-2
 more-requires-2 c κs = search needs
@@ -16,7 +18,8 @@ more-requires-3 : tie.Need-more-requires-3
 more-requires-3 c κs = search needs
 
 returns-2 : tie.Need-returns-2
-returns-2 c = (c .before .more2 .ensures, rw (c .before .before .if1 .left) (c .more3 .ensures))
+unfolding tallied
+returns-2 c = rw (c .before .more2 .ensures, c .more3 .ensures, c .before .before .if1 .left)
 
 pub counted-spec : {M : Type 1} → statement M
 counted-spec = tie.close (tie.spec more-requires returns more-requires-2 more-requires-3 returns-2)
