@@ -34,7 +34,7 @@ unfolding optionalIn optionalFlag optionalSpan
 optional-back OptionalSpan.Absent h = refl
 optional-back (OptionalSpan.Present s) h = ap OptionalSpan.Present (span-back s h)
 
-id-back : (i : InvokeId) → IdFits i → idIn (idFlag i) (idOctet i) ≡ i
+pub id-back : (i : InvokeId) → IdFits i → idIn (idFlag i) (idOctet i) ≡ i
 unfolding idIn idFlag idOctet
 id-back InvokeId.Null h = refl
 id-back (InvokeId.Id z) h = ap InvokeId.Id (signed-back 1 z (omega arith) h)

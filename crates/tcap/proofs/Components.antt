@@ -102,7 +102,7 @@ null-kinds : (a : Option ℤ) → Maybe InvokeIdOk a → Image some InvokeIdOk a
 null-kinds none o = inr ([], refl, same-refl [])
 null-kinds (some i) o = inl (i, refl, o)
 
-null-laws : ItemLaws idOrNullItem id idOrNull (Maybe InvokeIdOk)
+pub null-laws : ItemLaws idOrNullItem id idOrNull (Maybe InvokeIdOk)
 unfolding extendedOf codeZero
 null-laws =
     item-range null-kinds (λ a. ⊎-elim (image-out (Maybe InvokeIdOk) (λ i o. o) a) (image-out (Maybe InvokeIdOk) (λ c o. tt) a))

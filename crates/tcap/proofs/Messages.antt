@@ -39,7 +39,7 @@ orig-kinds : (o : Originating Octets) → OrigOk o → Image orig IdOk o
 unfolding IdOk
 orig-kinds (orig i) o = (i, refl, o)
 
-orig-laws : ItemLaws origItem (origAs octetsOf) origForm OrigOk
+pub orig-laws : ItemLaws origItem (origAs octetsOf) origForm OrigOk
 unfolding extendedOf codeZero IdOk
 orig-laws = item-range orig-kinds (image-out OrigOk (λ i o. o)) (image-laws orig orig octetsOf (origAs octetsOf) (λ v. refl) (leaf 0x48) origForm IdOk (λ i o. refl) _ (leaf-laws 0x48 idOk refl refl))
 

@@ -1,5 +1,5 @@
--- Each string of a message that is read stands in its octets where it says, one behind the other; each fault is found in its octets.
--- Assumes nothing.
+-- Each string of a message that is read stands in its octets where it says, one behind the other; each fault is found in its octets, and the
+-- IDs that it tells are well-formed. Assumes nothing.
 use Prim.Native.Nat.{ℕ, _+_, _≤_, _<_}
 use mathlib.Core.Path.{_≡_, refl, sym, ap, _∙_}
 use mathlib.Core.Bool.{Bool, true, false, _||_, false≢true}
@@ -16,17 +16,22 @@ use Rattle.element.specs.declared.{FaultKind.FaultKind}
 use Rattle.element.specs.Element.{extendedOf}
 use Rattle.primitive.specs.Primitive.{identifierOk, integerOk, signedOf, mostIntegerOctets}
 use Rattle.element.specs.Fault.{numberOf, Text, Owner, portion, dialogue, component, Fault, fault, at, inDialogue, inComponent, withInvokeId, withOrigId}
-use Rattle.element.specs.Ask.{got, bad, Body, ask}
+use Rattle.element.specs.Form.{Form}
+use Rattle.element.specs.Ask.{Got, got, bad, Body, ask}
 use Rattle.element.specs.Parts.{Item, level, integerItem, aroundItem, mapItem, orItem, onlyBody, seriesBody, bindBody, thenBody, lastBody, optBody, silently}
+use Rattle.element.proofs.Asking.{Then, the-fact, fact, void}
+use Rattle.element.proofs.Insides.{ItemLaws}
 use Rattle.element.proofs.Ends.{outer, Ends, held, failed, the-held, the-failed, ends-next, ends-weaken, ends-check, ends-blamed, Plain, ends-ask}
 use Rattle.element.proofs.Laid.{Here, StandsAt, Laid, stop, stands-here, here-within, laid-wider, laid-append, laid-none, laid-each, nothing-ends, Claim, Keeps, Span, strung, ItemLaid, BodyLaid, leaf-laid, around-laid, kept-laid, item-weaken, map-laid, or-laid, bind-laid, only-laid, last-laid, opt-laid, map-body-laid, series-laid, series-unmarked, walk-laid}
 use Rattle.tcap.specs.declared.{Problem.Problem, Diagnostic.Diagnostic}
 use Rattle.tcap.specs.Meaning.{silent, Originating, orig, dest, Code, local, global, Component, invoke, last, notLast, error, reject, Dialogue, request, unidialogue, response, aborted, single, octets, Ending, cause, says, Message, unidirectional, begin, finish, continue, abort, structured, unstructured, version}
-use Rattle.tcap.specs.WellFormed.{mostOctets, mostComponents, leftAt, idOk}
+use Rattle.tcap.specs.WellFormed.{mostOctets, mostComponents, leftAt, idOk, InvokeIdOk, OrigOk, WellFormedUpTo}
 use Rattle.tcap.specs.Productions.{single?, octetItem, nameItem, codeItem, problemItem, idOrNullItem, origItem, destItem, carried, noted, versionBody, levelAt, parameterItem, codeBody, invokeBody, bothItem, resultBody, errorBody, rejectBody, componentItem, componentAt, componentsItem, infoBody, contextItem, askedItem, numberItem, sourceItem, answeredItem, abortedItem, heldItem, externalBody, inside6B, dialogueItem, tailBody, uniBody, beginBody, endBody, continueBody, abortBody, messageItem}
 use Rattle.tcap.specs.Reading.{learnt, aloneBody, readFirst, locatedUpTo}
 use Rattle.tcap.proofs.Records.{Sits}
-use Rattle.tcap.proofs.Strings.{Strings, tagged, whole, optionStrings, seriesStrings, codeStrings, bothStrings, componentStrings, namedStrings, dialogueStrings, endingStrings, origStrings, destStrings, restStrings, strings}
+use Rattle.tcap.proofs.Components.{id-laws, null-laws}
+use Rattle.tcap.proofs.Messages.{orig-laws, message-laws}
+use Rattle.tcap.proofs.Strings.{octetsOf, origAs, forget, Strings, tagged, whole, optionStrings, seriesStrings, codeStrings, bothStrings, componentStrings, namedStrings, dialogueStrings, endingStrings, origStrings, destStrings, restStrings, strings}
 
 -- Of a fault
 
@@ -39,8 +44,15 @@ placeOf (fault k p o i t) = p
 abbrev pub ownerOf : Fault → Owner
 ownerOf (fault k p o i t) = o
 
+abbrev pub invokeOf : Fault → Option ℤ
+invokeOf (fault k p o i t) = i
+
 abbrev pub origOf : Fault → Option Text
 origOf (fault k p o i t) = t
+
+-- behind 48 and its length, and of 1 to 4 octets
+abbrev pub OrigHere : List ℕ → Text → Type 0
+OrigHere m t = StandsAt m (some 0x48, t) × (idOk (t .1) ≡ true)
 
 abbrev pub OwnerOk : Owner → Type 0
 OwnerOk portion = Unit {0}
@@ -52,14 +64,15 @@ pub record FaultOk (m : List ℕ) (hi : ℕ) (f : Fault) : Type 0 where
   pub place : placeOf f ≤ hi
   pub owner : OwnerOk (ownerOf f)
   pub plain : Plain (kindOf f)
-  pub origId : Maybe (λ t. StandsAt m (some 0x48, t)) (origOf f)
+  pub invokeId : Maybe InvokeIdOk (invokeOf f)
+  pub origId : Maybe (OrigHere m) (origOf f)
 
 pub claim : List ℕ → Claim
 claim m =
     record {
       Of = FaultOk m;
-      grows = λ i j f h q. record { place = omega (arith, q .place); owner = q .owner; plain = q .plain; origId = q .origId };
-      found = λ k p i. record { place = omega arith; owner = tt; plain = i; origId = tt };
+      grows = λ i j f h q. record { place = omega (arith, q .place); owner = q .owner; plain = q .plain; invokeId = q .invokeId; origId = q .origId };
+      found = λ k p i. record { place = omega arith; owner = tt; plain = i; invokeId = tt; origId = tt };
     }
 
 -- found in m or about it: 7, 8 and 9 belong to no part of it
@@ -69,7 +82,12 @@ pub record RefusedFor (m : List ℕ) (f : Fault) : Type 0 where
   pub inner : Plain (kindOf f) ⊎ (ownerOf f ≡ portion)
   pub overlong : kindOf f ≡ FaultKind.Overlong → placeOf f ≡ mostOctets
   pub noMessage : kindOf f ≡ FaultKind.NoMessage → placeOf f ≡ 0
-  pub origId : Maybe (λ t. StandsAt m (some 0x48, t)) (origOf f)
+  pub invokeId : Maybe InvokeIdOk (invokeOf f)
+  pub origId : Maybe (OrigHere m) (origOf f)
+
+-- with levels enough for the fixed parts of a message
+abbrev Refused : ℕ → List ℕ → Fault → Type 0
+Refused limit m f = 8 ≤ limit → RefusedFor m f
 
 plain-not : (k : FaultKind) → Plain k → (n : ℕ) → outer n ≡ true → numberOf k ≡ n → ⊥
 plain-not k i n t e = false≢true (sym i ∙ ap outer e ∙ t)
@@ -83,12 +101,13 @@ inside-message m f q =
       inner = inl (q .plain);
       overlong = λ e. absurd (plain-not (kindOf f) (q .plain) 7 refl (ap numberOf e));
       noMessage = λ e. absurd (plain-not (kindOf f) (q .plain) 8 refl (ap numberOf e));
+      invokeId = q .invokeId;
       origId = q .origId;
     }
 
 -- at the top: of a kind that is found there at just that place
 about-message : (m : List ℕ) (k : FaultKind) (p : ℕ) → p ≤ length m → (k ≡ FaultKind.Overlong → p ≡ mostOctets) → (k ≡ FaultKind.NoMessage → p ≡ 0) → RefusedFor m (at k p)
-about-message m k p h i j = record { place = h; owner = tt; inner = inr refl; overlong = i; noMessage = j; origId = tt }
+about-message m k p h i j = record { place = h; owner = tt; inner = inr refl; overlong = i; noMessage = j; invokeId = tt; origId = tt }
 
 other-kind : {A : Type 0} (k l : FaultKind) → eqb (numberOf k) (numberOf l) ≡ false → k ≡ l → A
 other-kind k l t e = absurd (false≢true (sym t ∙ eq-eqb _ _ (ap numberOf e)))
@@ -106,27 +125,38 @@ unfolding numberOf
 after-message m p h = about-message m FaultKind.OctetsAfter p h (other-kind FaultKind.OctetsAfter FaultKind.Overlong refl) (other-kind FaultKind.OctetsAfter FaultKind.NoMessage refl)
 
 -- what is known from outside: an owner, an invoke ID, an originating ID
-known-as : (m : List ℕ) (hi p : ℕ) (k : FaultKind) (o o′ : Owner) (i i′ : Option ℤ) (t t′ : Option Text) → OwnerOk o′ → Maybe (λ s. StandsAt m (some 0x48, s)) t′ → FaultOk m hi (fault k p o i t) → FaultOk m hi (fault k p o′ i′ t′)
-known-as m hi p k o o′ i i′ t t′ g h q = record { place = q .place; owner = g; plain = q .plain; origId = h }
+known-as : (m : List ℕ) (hi p : ℕ) (k : FaultKind) (o o′ : Owner) (i i′ : Option ℤ) (t t′ : Option Text) → OwnerOk o′ → Maybe InvokeIdOk i′ → Maybe (OrigHere m) t′ → FaultOk m hi (fault k p o i t) → FaultOk m hi (fault k p o′ i′ t′)
+known-as m hi p k o o′ i i′ t t′ g j h q = record { place = q .place; owner = g; plain = q .plain; invokeId = j; origId = h }
 
 keeps-dialogue : (m : List ℕ) → Keeps (claim m) inDialogue
 unfolding claim inDialogue
-keeps-dialogue m hi (fault k p o i t) q = known-as m hi p k o dialogue i i t t tt (q .origId) q
+keeps-dialogue m hi (fault k p o i t) q = known-as m hi p k o dialogue i i t t tt (q .invokeId) (q .origId) q
 
 keeps-component : (m : List ℕ) (n : ℕ) → n < mostComponents → Keeps (claim m) (inComponent n)
 unfolding claim inComponent
-keeps-component m n h hi (fault k p o i t) q = known-as m hi p k o (component n) i i t t h (q .origId) q
+keeps-component m n h hi (fault k p o i t) q = known-as m hi p k o (component n) i i t t h (q .invokeId) (q .origId) q
 
-keeps-invoke : (m : List ℕ) (j : Option ℤ) → Keeps (claim m) (withInvokeId j)
+keeps-invoke : (m : List ℕ) (j : Option ℤ) → Maybe InvokeIdOk j → Keeps (claim m) (withInvokeId j)
 unfolding claim withInvokeId
-keeps-invoke m j hi (fault k p o i t) q = known-as m hi p k o o i j t t (q .owner) (q .origId) q
+keeps-invoke m j h hi (fault k p o i t) q = known-as m hi p k o o i j t t (q .owner) h (q .origId) q
 
-keeps-orig : (m : List ℕ) (l : Strings) (o : Originating Text) (lo hi : ℕ) → Laid m lo hi (origStrings o ++ l) → Keeps (claim m) (carried o)
-unfolding claim withOrigId Every
-keeps-orig m l (orig s) lo hi i j (fault k p o n t) q = known-as m j p k o o n n t (some s) (q .owner) (laid-each {P = StandsAt m} (λ s h. h) i .0) q
+orig-here : (m : List ℕ) (s : Text) (l : Strings) (lo hi : ℕ) → Laid m lo hi (tagged 0x48 s ++ l) → idOk (s .1) ≡ true → OrigHere m s
+unfolding Every
+orig-here m s l lo hi i h = (laid-each {P = StandsAt m} (λ s h. h) i .0, h)
 
-keeps-carried : (m : List ℕ) (o : Originating Text) (lo hi : ℕ) → Laid m lo hi (origStrings o) → Keeps (claim m) (carried o)
-keeps-carried m o lo hi i = keeps-orig m [] o lo hi (rw append-nil i)
+keeps-carried : (m : List ℕ) (o : Originating Text) (lo hi : ℕ) → Laid m lo hi (origStrings o) → OrigOk (origAs octetsOf o) → Keeps (claim m) (carried o)
+unfolding claim withOrigId
+keeps-carried m (orig s) lo hi i h j (fault k p o n t) q = known-as m j p k o o n n t (some s) (q .owner) (q .invokeId) (orig-here m s [] lo hi i h) q
+
+-- what is read is well-formed as well
+ends-both : {A : Type 0} {P R : A → ℕ → Type 0} {Q : Fault → Type 0} {x : Got A} → Ends P Q x → Then R x → Ends (λ v n. P v n × R v n) Q x
+ends-both (held h) t = held (h, the-fact t)
+ends-both (failed h) t = failed h
+
+-- under a condition
+then-given : {A B : Type 0} {P : A → ℕ → Type 0} (x : Got A) → (B → Then P x) → Then (λ v n. B → P v n) x
+then-given (got v n) g = fact (λ b. the-fact (g b))
+then-given (bad f) g = void
 
 -- Productions
 
@@ -140,12 +170,15 @@ module _ (m : List ℕ) where
   plainly : Keeps (claim m) (λ f. f)
   plainly hi f q = q
 
-  bind-reads : {L M : Type 0} {x : Item L} {y : Body M} {S : L → Strings} {T : M → Strings} (l : ℕ) (note : L → Fault → Fault) → ((v : L) (lo hi : ℕ) → Laid m lo hi (S v) → Keeps (claim m) (note v)) → ItemReads x S → BodyReads y T
-      → BodyReads (bindBody (level l) note x (λ v. y)) (λ v. S (v .0) ++ T (v .1))
-  bind-reads l note k s t = bind-laid (level l) note plainly k (λ v b lo mid hi i j. laid-append i j) s (λ v. t)
+  -- an element that later faults tell of, and that is well-formed
+  bind-reads : {L M A : Type 0} {x : Item L} {y : Body M} {S : L → Strings} {T : M → Strings} {meaning : L → A} {form : A → Form} {ok : A → Type 0} (l : ℕ) (note : L → Fault → Fault) → ItemLaws x meaning form ok
+      → ((v : L) (lo hi : ℕ) → Laid m lo hi (S v) → ok (meaning v) → Keeps (claim m) (note v)) → ItemReads x S → BodyReads y T → BodyReads (bindBody (level l) note x (λ v. y)) (λ v. S (v .0) ++ T (v .1))
+  bind-reads {S = S} {meaning = meaning} {ok = ok} l note w k s t =
+      bind-laid (level l) note {S = λ v lo hi. Laid m lo hi (S v) × ok (meaning v)} plainly (λ v lo hi i. k v lo hi (i .0) (i .1)) (λ v b lo mid hi i j. laid-append (i .0) j)
+      (record { reads = λ p part h e i k. ends-weaken (ends-both (s .reads p part h e i k) (w .sound p part h i k)) (λ v n j. record { within = j .0 .within; laid = (j .0 .laid, j .1 .fine) }) (λ f j. j) }) (λ v. t)
 
   then-reads : {L M : Type 0} {x : Item L} {y : Body M} {S : L → Strings} {T : M → Strings} (l : ℕ) → ItemReads x S → BodyReads y T → BodyReads (thenBody (level l) x y) (λ v. S (v .0) ++ T (v .1))
-  then-reads l s t = bind-reads l silently (λ v lo hi i. plainly) s t
+  then-reads l s t = bind-laid (level l) silently plainly (λ v lo hi i. plainly) (λ v b lo mid hi i j. laid-append i j) s (λ v. t)
 
   last-reads : {L : Type 0} {x : Item L} {S : L → Strings} (l : ℕ) → ItemReads x S → BodyReads (lastBody (level l) x) (optionStrings S)
   last-reads l s = last-laid (level l) plainly (λ p. stop (omega arith)) (λ v lo hi i. i) s
@@ -221,7 +254,7 @@ module _ (m : List ℕ) where
     unfolding extendedOf
     invoke-reads =
         map-body-laid (λ v. invoke (v .0) (v .1 .0) (v .1 .1 .0) (v .1 .1 .1)) (λ v lo hi i. i)
-        (bind-reads (leftAt limit 4) noted (λ v lo hi i. keeps-invoke m (some v)) (integer-reads 0x02 1 refl) (mute-reads (integer-reads 0x80 1 refl) code-body-reads))
+        (bind-reads (leftAt limit 4) noted id-laws (λ v lo hi i o. keeps-invoke m (some v) o) (integer-reads 0x02 1 refl) (mute-reads (integer-reads 0x80 1 refl) code-body-reads))
 
     both-reads : ItemReads (bothItem limit) bothStrings
     both-reads = around-laid 0x30 (then-reads (leftAt limit 5) code-reads (only-laid (levelAt limit 5) plainly (parameter-reads 5)))
@@ -230,18 +263,18 @@ module _ (m : List ℕ) where
     unfolding extendedOf
     result-reads f same =
         map-body-laid (λ v. f (v .0) (v .1)) (λ v lo hi i. rw (same (v .0) (v .1)) at i)
-        (bind-reads (leftAt limit 4) noted (λ v lo hi i. keeps-invoke m (some v)) (integer-reads 0x02 1 refl) (last-reads (leftAt limit 4) both-reads))
+        (bind-reads (leftAt limit 4) noted id-laws (λ v lo hi i o. keeps-invoke m (some v) o) (integer-reads 0x02 1 refl) (last-reads (leftAt limit 4) both-reads))
 
     error-reads : BodyReads (errorBody limit) componentStrings
     unfolding extendedOf
     error-reads =
         map-body-laid (λ v. error (v .0) (v .1 .0) (v .1 .1)) (λ v lo hi i. i)
-        (bind-reads (leftAt limit 4) noted (λ v lo hi i. keeps-invoke m (some v)) (integer-reads 0x02 1 refl) code-body-reads)
+        (bind-reads (leftAt limit 4) noted id-laws (λ v lo hi i o. keeps-invoke m (some v) o) (integer-reads 0x02 1 refl) code-body-reads)
 
     reject-reads : BodyReads (rejectBody limit) componentStrings
     reject-reads =
         map-body-laid (λ v. reject (v .0) (v .1)) (λ v lo hi i. i)
-        (bind-reads (leftAt limit 4) withInvokeId (λ v lo hi i. keeps-invoke m v) null-reads (only-laid (levelAt limit 4) plainly problem-reads))
+        (bind-reads (leftAt limit 4) withInvokeId null-laws (λ v lo hi i o. keeps-invoke m v o) null-reads (only-laid (levelAt limit 4) plainly problem-reads))
 
     component-reads : ItemReads (componentItem limit) componentStrings
     component-reads =
@@ -323,7 +356,7 @@ module _ (m : List ℕ) where
     uni-reads = map-body-laid (λ v. unidirectional (v .0) (v .1)) (λ v lo hi i. i) (opt-reads dialogue-reads sole-rows-reads)
 
     begin-reads : BodyReads (beginBody limit) strings
-    begin-reads = map-body-laid (λ v. begin (v .0) (v .1 .0) (v .1 .1)) (λ v lo hi i. i) (bind-reads (leftAt limit 2) carried (keeps-carried m) orig-reads tail-reads)
+    begin-reads = map-body-laid (λ v. begin (v .0) (v .1 .0) (v .1 .1)) (λ v lo hi i. i) (bind-reads (leftAt limit 2) carried orig-laws (keeps-carried m) orig-reads tail-reads)
 
     end-reads : BodyReads (endBody limit) strings
     end-reads = map-body-laid (λ v. finish (v .0) (v .1 .0) (v .1 .1)) (λ v lo hi i. i) (then-reads (leftAt limit 2) dest-reads tail-reads)
@@ -331,7 +364,7 @@ module _ (m : List ℕ) where
     continue-reads : BodyReads (continueBody limit) strings
     continue-reads =
         map-body-laid (λ v. continue (v .0) (v .1 .0) (v .1 .1 .0) (v .1 .1 .1)) (λ v lo hi i. i)
-        (bind-reads (leftAt limit 2) carried (keeps-carried m) orig-reads (then-reads (leftAt limit 2) dest-reads tail-reads))
+        (bind-reads (leftAt limit 2) carried orig-laws (keeps-carried m) orig-reads (then-reads (leftAt limit 2) dest-reads tail-reads))
 
     pub stop-reads : ItemReads (orItem (mapItem cause (octetItem 0x4A 4)) (mapItem says (dialogueItem limit))) endingStrings
     unfolding extendedOf
@@ -352,34 +385,35 @@ module _ (m : List ℕ) where
     all-here : Here m 0 m
     all-here = record { before = []; rest = []; octets = sym (append-nil m); place = refl }
 
-    keeps-orig-read : (o : Originating Text) (l : Strings) (lo hi : ℕ) → Laid m lo hi (origStrings o ++ l) → (f : Fault) → RefusedFor m f → RefusedFor m (carried o f)
-    unfolding withOrigId Every
-    keeps-orig-read (orig s) l lo hi i (fault k p o n t) q =
-        record { place = q .place; owner = q .owner; inner = q .inner; overlong = q .overlong; noMessage = q .noMessage; origId = laid-each {P = StandsAt m} (λ s h. h) i .0 }
+    keeps-orig-read : (o : Originating Text) (l : Strings) (lo hi : ℕ) → Laid m lo hi (origStrings o ++ l) → OrigOk (origAs octetsOf o) → (f : Fault) → RefusedFor m f → RefusedFor m (carried o f)
+    unfolding withOrigId
+    keeps-orig-read (orig s) l lo hi i h (fault k p o n t) q =
+        record { place = q .place; owner = q .owner; inner = q .inner; overlong = q .overlong; noMessage = q .noMessage; invokeId = q .invokeId; origId = orig-here m s l lo hi i h }
 
-    keeps-learnt : (v : Message Text) (lo hi : ℕ) → Laid m lo hi (strings v) → (f : Fault) → RefusedFor m f → RefusedFor m (learnt v f)
-    keeps-learnt (unidirectional d cs) lo hi i f q = q
-    keeps-learnt (begin o d cs) lo hi i f q = keeps-orig-read o _ lo hi i f q
-    keeps-learnt (finish e d cs) lo hi i f q = q
-    keeps-learnt (continue o e d cs) lo hi i f q = keeps-orig-read o _ lo hi i f q
-    keeps-learnt (abort e s) lo hi i f q = q
+    keeps-learnt : (v : Message Text) (lo hi : ℕ) → Laid m lo hi (strings v) → WellFormedUpTo limit (forget v) → (f : Fault) → RefusedFor m f → RefusedFor m (learnt v f)
+    unfolding WellFormedUpTo
+    keeps-learnt (unidirectional d cs) lo hi i h f q = q
+    keeps-learnt (begin o d cs) lo hi i h f q = keeps-orig-read o _ lo hi i (h .0) f q
+    keeps-learnt (finish e d cs) lo hi i h f q = q
+    keeps-learnt (continue o e d cs) lo hi i h f q = keeps-orig-read o _ lo hi i (h .0) f q
+    keeps-learnt (abort e s) lo hi i h f q = q
 
-    alone-reads : Ends (λ v n. Laid m 0 (length m) (strings v)) (RefusedFor m) (ask (aloneBody limit (messageItem limit)) true 0 m)
+    alone-reads : Ends (λ v n. Laid m 0 (length m) (strings v)) (Refused limit m) (ask (aloneBody limit (messageItem limit)) true 0 m)
     unfolding claim
     alone-reads =
-        ends-ask (aloneBody limit (messageItem limit)) true 0 m (λ v e f. nothing-ends e) (λ k i. inside-message m (at k 0) (claim m .grows 0 (length m) (at k 0) (omega arith) (claim m .found k 0 i))) (λ _ f q. q) (no-message m) λ h i f k.
-        ends-next (ends-weaken (message-reads .reads 0 m h all-here i k) (λ v n j. j) (λ f q. inside-message m f (claim m .grows (0 + length m) (length m) f (omega arith) q))) λ v n j.
-        ends-blamed (learnt v) (keeps-learnt v 0 (0 + n) (j .laid))
-        (ends-check (eqb n (length m)) _ (λ _. after-message m (0 + n) (omega (arith, j .within))) λ _. held {a = v} {n = n} (laid-wider 0 (length m) (omega arith) (omega (arith, j .within)) (j .laid)))
+        ends-ask (aloneBody limit (messageItem limit)) true 0 m (λ v e f. nothing-ends e) (λ k i _. inside-message m (at k 0) (claim m .grows 0 (length m) (at k 0) (omega arith) (claim m .found k 0 i))) (λ _ f q. q) (λ _. no-message m) λ h i f k.
+        ends-next (ends-both (ends-weaken (message-reads .reads 0 m h all-here i k) (λ v n j. j) (λ f q _. inside-message m f (claim m .grows (0 + length m) (length m) f (omega arith) q))) (then-given _ (λ big. message-laws limit big .sound 0 m h i k))) λ v n j.
+        ends-blamed (learnt v) (λ f q big. keeps-learnt v 0 (0 + n) (j .0 .laid) (j .1 big .fine) f (q big))
+        (ends-check (eqb n (length m)) _ (λ _ _. after-message m (0 + n) (omega (arith, j .0 .within))) λ _. held {a = v} {n = n} (laid-wider 0 (length m) (omega arith) (omega (arith, j .0 .within)) (j .0 .laid)))
 
-first-reads : (limit : ℕ) (m : List ℕ) → Ends (λ v n. Laid m 0 (length m) (strings v)) (RefusedFor m) (readFirst limit (messageItem limit) m)
+first-reads : (limit : ℕ) (m : List ℕ) → Ends (λ v n. Laid m 0 (length m) (strings v)) (Refused limit m) (readFirst limit (messageItem limit) m)
 unfolding readFirst claim numberOf
-first-reads limit [] = failed (inside-message [] (at FaultKind.CutOff 0) (claim [] .found FaultKind.CutOff 0 refl))
-first-reads limit (a ∷ r) = ends-check (messageItem limit .mine a) _ (λ _. no-message (a ∷ r)) λ _. alone-reads (a ∷ r) limit
+first-reads limit [] = failed (λ _. inside-message [] (at FaultKind.CutOff 0) (claim [] .found FaultKind.CutOff 0 refl))
+first-reads limit (a ∷ r) = ends-check (messageItem limit .mine a) _ (λ _ _. no-message (a ∷ r)) λ _. alone-reads (a ∷ r) limit
 
-located-reads : (limit : ℕ) (m : List ℕ) → Ends (λ v n. Laid m 0 (length m) (strings v)) (RefusedFor m) (locatedUpTo limit m)
+located-reads : (limit : ℕ) (m : List ℕ) → Ends (λ v n. Laid m 0 (length m) (strings v)) (Refused limit m) (locatedUpTo limit m)
 unfolding locatedUpTo
-located-reads limit m = ends-check (leb (length m) mostOctets) _ (λ e. too-long m (omega (arith, leb-false (length m) mostOctets e))) λ _. first-reads limit m
+located-reads limit m = ends-check (leb (length m) mostOctets) _ (λ e _. too-long m (omega (arith, leb-false (length m) mostOctets e))) λ _. first-reads limit m
 
 -- The theorems
 
@@ -390,5 +424,5 @@ pub strings-sit : (limit : ℕ) (m : List ℕ) (v : Message Text) (n : ℕ) → 
 unfolding Sits
 strings-sit limit m v n e = laid-each (λ s h. here-within (stands-here s h)) (strings-stand limit m v n e)
 
-pub fault-placed : (limit : ℕ) (m : List ℕ) (f : Fault) → locatedUpTo limit m ≡ bad f → RefusedFor m f
-fault-placed limit m f e = the-failed (rw e at (located-reads limit m))
+pub fault-placed : (limit : ℕ) → 8 ≤ limit → (m : List ℕ) (f : Fault) → locatedUpTo limit m ≡ bad f → RefusedFor m f
+fault-placed limit big m f e = the-failed {Q = Refused limit m} (rw e at (located-reads limit m)) big

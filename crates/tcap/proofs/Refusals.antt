@@ -1,16 +1,17 @@
--- What every refusal carries: a number from 1 to 13, a place in the message, the originating ID only where 48 stands before it, and the
--- standard answer of document 01's sentence. Assumes nothing.
+-- What every refusal carries: a number from 1 to 13, a place in the message, the originating ID, of 1 to 4 octets, only where 48 stands before
+-- it, and the standard answer of document 01's sentence, with an invoke ID of one octet. Assumes nothing.
 use Prim.Native.Nat.{ℕ, _+_, _≤_, _<_}
 use mathlib.Core.Path.{_≡_, refl, sym, _∙_}
 use mathlib.Core.Logic.{_⊎_, inl, inr, ⊎-elim}
 use mathlib.Core.Bool.{Bool, true, false, cond, _||_, false≢true}
 use mathlib.Core.List.{List}
-use mathlib.Core.Option.{Option, none, some}
+use mathlib.Core.Option.{Option·map, Option·getD, Option, none, some}
 use native.Mathlib.Omega.{arith}
 use lib.ListN.{length}
 use lib.Dec.{eqb}
 use lib.IntN.{ℤ}
 use borrow.Author.Tests.{eqb-true, eqb-false}
+use Rattle.base.specs.Value.{Maybe}
 use Rattle.base.proofs.Tests.{cond-all}
 use Rattle.element.specs.declared.{FaultKind.FaultKind}
 use Rattle.element.specs.Fault.{numberOf, Text, Owner, portion, dialogue, component, Fault, fault}
@@ -19,10 +20,10 @@ use Rattle.element.proofs.Ends.{outer, Plain}
 use Rattle.element.proofs.Laid.{StandsAt}
 use Rattle.tcap.specs.declared.{OptionalOrig.OptionalOrig, InvokeId.InvokeId, Answer.Answer, Refusal.Refusal, Outcome.Outcome, Reading.Reading}
 use Rattle.tcap.specs.Meaning.{Message, orig}
-use Rattle.tcap.specs.WellFormed.{mostOctets, mostComponents, deepestLevel}
+use Rattle.tcap.specs.WellFormed.{mostOctets, mostComponents, deepestLevel, idOk, InvokeIdOk}
 use Rattle.tcap.specs.Record.{origField, idField, blankRecord}
 use Rattle.tcap.specs.Reading.{locatedUpTo, byOwner, answerFor, refusalOf, answered, readingUpTo, reading}
-use Rattle.tcap.proofs.Places.{OwnerOk, RefusedFor, fault-placed}
+use Rattle.tcap.proofs.Places.{OrigHere, OwnerOk, RefusedFor, fault-placed}
 
 -- the sentence, clause by clause: by the number n and whom the fault belongs to
 pub data Standard (n : ℕ) : Owner → Answer → Type 0 where
@@ -102,9 +103,15 @@ numbered FaultKind.BadContents = omega arith
 numbered FaultKind.Seventeenth = omega arith
 numbered FaultKind.UnknownComponent = omega arith
 
--- the originating ID stands in m, 48 and its length before it
+-- the originating ID stands in m, 48 and its length before it, and has 1 to 4 octets
 abbrev pub OrigRead : List ℕ → OptionalOrig → Type 0
-OrigRead m o = (o ≡ OptionalOrig.NoOrig) ⊎ ((t : Text) × (o ≡ origField (orig t)) × StandsAt m (some 0x48, t))
+OrigRead m o = (o ≡ OptionalOrig.NoOrig) ⊎ ((t : Text) × (o ≡ origField (orig t)) × StandsAt m (some 0x48, t) × (idOk (t .1) ≡ true))
+
+-- an invoke ID to send back is of one octet
+abbrev pub SendOk : Answer → Type 0
+SendOk (Answer.AbortCause n) = Unit {0}
+SendOk (Answer.RejectProblem n k InvokeId.Null) = Unit {0}
+SendOk (Answer.RejectProblem n k (InvokeId.Id i)) = InvokeIdOk i
 
 pub record Carries (m : List ℕ) (f : Refusal) : Type 0 where
   pub low : 1 ≤ numberOf (f .kind)
@@ -115,41 +122,47 @@ pub record Carries (m : List ℕ) (f : Refusal) : Type 0 where
   pub origId : OrigRead m (f .orig)
   pub owner : Owner
   pub answer : Standard (numberOf (f .kind)) owner (f .answer)
+  pub sent : SendOk (f .answer)
+
+orig-read : (m : List ℕ) (t : Option Text) → Maybe (OrigHere m) t → OrigRead m (Option·getD (Option·map (λ t. origField (orig t)) t) OptionalOrig.NoOrig)
+orig-read m none h = inl refl
+orig-read m (some t) h = inr (t, refl, h .0, h .1)
+
+owner-sends : (n : ℕ) (o : Owner) (i : Option ℤ) → Maybe InvokeIdOk i → SendOk (byOwner n o i)
+unfolding byOwner
+owner-sends n portion i h = cond-all SendOk (eqb n 10 || eqb n 11) _ _ (λ _. tt) (λ _. tt)
+owner-sends n dialogue i h = tt
+owner-sends n (component k) none h = tt
+owner-sends n (component k) (some i) h = h
+
+answer-sends : (n : ℕ) (o : Owner) (i : Option ℤ) → Maybe InvokeIdOk i → SendOk (answerFor n o i)
+unfolding answerFor
+answer-sends n o i h = cond-all SendOk (eqb n 8) _ _ (λ _. tt) λ _. cond-all SendOk (eqb n 12) _ _ (λ _. tt) λ _. owner-sends n o i h
 
 carries : (m : List ℕ) (f : Fault) → RefusedFor m f → Carries m (refusalOf f)
 unfolding refusalOf
-carries m (fault k p o i none) q =
+carries m (fault k p o i t) q =
     record {
       low = numbered k .0;
       high = numbered k .1;
       place = q .place;
       overlong = q .overlong;
       noMessage = q .noMessage;
-      origId = inl refl;
+      origId = orig-read m t (q .origId);
       owner = o;
       answer = answer-standard (numberOf k) o i (numbered k .0) (numbered k .1) (q .owner) (q .inner);
-    }
-carries m (fault k p o i (some t)) q =
-    record {
-      low = numbered k .0;
-      high = numbered k .1;
-      place = q .place;
-      overlong = q .overlong;
-      noMessage = q .noMessage;
-      origId = inr (t, refl, q .origId);
-      owner = o;
-      answer = answer-standard (numberOf k) o i (numbered k .0) (numbered k .1) (q .owner) (q .inner);
+      sent = answer-sends (numberOf k) o i (q .invokeId);
     }
 
 refusal-inj : (f g : Refusal) → Outcome.Refused f ≡ Outcome.Refused g → f ≡ g
 refusal-inj f g e = cc
 
-refused-by : (limit : ℕ) (m : List ℕ) (x : Got (Message Text)) → locatedUpTo limit m ≡ x → (f : Refusal) → answered x .outcome ≡ Outcome.Refused f → Carries m f × (answered x .message ≡ blankRecord)
+refused-by : (m : List ℕ) (x : Got (Message Text)) → locatedUpTo deepestLevel m ≡ x → (f : Refusal) → answered x .outcome ≡ Outcome.Refused f → Carries m f × (answered x .message ≡ blankRecord)
 unfolding answered
-refused-by limit m (got v n) e f h = let z : _≡_ {A = ℕ} 0 1 = cc in absurd (omega arith)
-refused-by limit m (bad g) e f h = (rw (refusal-inj (refusalOf g) f h) at (carries m g (fault-placed limit m g e)), refl)
+refused-by m (got v n) e f h = let z : _≡_ {A = ℕ} 0 1 = cc in absurd (omega arith)
+refused-by m (bad g) e f h = (rw (refusal-inj (refusalOf g) f h) at (carries m g (fault-placed deepestLevel (omega arith) m g e)), refl)
 
 -- and it hands back no components
 pub refused-carries : (m : List ℕ) (f : Refusal) → reading m .outcome ≡ Outcome.Refused f → Carries m f × (reading m .message ≡ blankRecord)
 unfolding reading readingUpTo
-refused-carries m f h = refused-by deepestLevel m (locatedUpTo deepestLevel m) refl f h
+refused-carries m f h = refused-by m (locatedUpTo deepestLevel m) refl f h
