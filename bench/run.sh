@@ -29,7 +29,8 @@ sh "$here/count_calls.sh" "$archive" "$tmp/vectors"
 
 echo
 echo "The costliest messages to read of at most 255 octets that were found:"
-build -o "$tmp/worst" "$here/worst.c" "$archive"
+# bound at the start, or the first call would pay for it
+build -Wl,-z,now -o "$tmp/worst" "$here/worst.c" "$archive"
 if command -v qemu-x86_64 >/dev/null && ${HOSTCC:-cc} -O2 -shared -fPIC -o "$tmp/icount.so" "$here/icount.c"; then
     python3 "$here/worst.py" "${SEED:-1}" "${GENERATIONS:-60}" sh "$tools" count "$tmp/icount.so,mark=on" "$tmp/worst"
 else
