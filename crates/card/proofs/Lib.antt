@@ -1,4 +1,5 @@
 pub mod Bits
+pub mod Few
 pub mod Fields
 pub mod Kept
 pub mod Sent

@@ -1,6 +1,7 @@
 // The calls for C, on octets and numbers: docs/LAYOUT.md.
 ghost use mathlib.Core.Path.{_≡_};
 ghost use Rattle.card.specs.Answer.{origBits, sendBits, refusalBits, listedBits, readAnswer, readRoom, writtenBits, writeAnswer, steeredBits, steerAnswer, listAnswer, listRoom, layoutBits};
+ghost use Rattle.tcap.specs.Reading.{reading};
 ghost use Rattle.writer.specs.Octets.{leavesOctets};
 ghost use Rattle.writer.specs.Writing.{writeNumber};
 use base::put_part;
@@ -11,7 +12,10 @@ use tcap::Answer;
 use tcap::InvokeId;
 use tcap::OptionalOrig;
 use tcap::Outcome;
+use tcap::Reading;
+use tcap::Record;
 use tcap::Refusal;
+use unpack::row::rows_in;
 use writer::WriteFault;
 use writer::Written;
 ghost use Prim.Native.Nat.{_+_, _*_, _%_, _^_, _<_};
@@ -163,13 +167,39 @@ fn listed_bits(listed: Listed) -> u64
     }
 }
 
+// The reading of a message as one record, by the octets that every call here reads it into: beside `reader::read` the compiler would take neither into its caller.
+fn reading_of(message: &[u8]) -> Reading
+    ensures { λ r. ⌜ r ≡ reading (now (message .entry)) ⌝ }
+{
+    let mut octets = [0u8; 384];
+    let outline = reader::read_rows(message, &mut octets);
+    let outcome = outline.outcome;
+    let kind = outline.kind;
+    let orig = outline.orig;
+    let dest = outline.dest;
+    let dialogue = outline.dialogue;
+    let count = outline.count;
+    let rows = rows_in(&octets, count);
+    Reading {
+        outcome: outcome,
+        message: Record {
+            kind: kind,
+            orig: orig,
+            dest: dest,
+            dialogue: dialogue,
+            count: count,
+            rows: rows,
+        },
+    }
+}
+
 // Lists the reading of a message as text: its length, or 25 and the buffer left alone.
 #[no_mangle]
 pub extern "C" fn goldenskep_list(message: &[u8], out: &mut [u8]) -> u64
     ensures { λ r. ⌜ r ≡ listAnswer (now (message .entry)) (now (out .entry)) ⌝ }
     ensures { λ _. ⌜ now (out .exit) ≡ listRoom (now (message .entry)) (now (out .entry)) ⌝ }
 {
-    let reading = reader::read(message);
+    let reading = reading_of(message);
     let listed = listing::list_reading(message, reading, out);
     listed_bits(listed)
 }

@@ -1,8 +1,8 @@
 -- What the readers of components answer, as their contracts cite it; the definition of reading rests on none of it.
 -- Assumes nothing: these are definitions.
 use Prim.Native.Nat.{ℕ}
-use mathlib.Core.{Bool.cond, List.List}
-use lib.{Dec.eqb}
+use mathlib.Core.{Bool.Bool, Bool.false, Bool.cond, List.List}
+use lib.{ListN.length, ListN.getD, Dec.eqb}
 use Rattle.element.specs.{declared.FaultKind.FaultKind, Fault.Text, Fault.at, Ask.Body}
 use Rattle.tcap.specs.{Meaning.Component, Meaning.last, Meaning.notLast, WellFormed.deepestLevel, Productions.invokeBody, Productions.resultBody, Productions.errorBody, Productions.rejectBody, Productions.componentItem}
 use Rattle.asking.specs.{declared.Owner.Owner, declared.Fault.Fault, declared.Next.Next, declared.Entry.Entry, Asked.faultField, Asked.innerOf}
@@ -31,3 +31,14 @@ headerOf k p part Next.Ended = Opened.Bad (faultField (at FaultKind.Missing p))
 headerOf k p part Next.Unfinished = Opened.Bad (faultField (at FaultKind.CutOff p))
 headerOf k p part (Next.Fault j) = Opened.Bad (ownedBy k (faultField (at j p)))
 headerOf k p part (Next.Tag a s) = cond (componentItem deepestLevel .mine a) (insideOf k p a (innerOf part s)) (Opened.Bad (ownedBy k (faultField (at FaultKind.UnknownComponent p))))
+
+-- why no component stands here, from what was asked of its tag
+unfoldable pub headerFault : ℕ → ℕ → Next → Fault
+headerFault k p Next.Ended = faultField (at FaultKind.Missing p)
+headerFault k p Next.Unfinished = faultField (at FaultKind.CutOff p)
+headerFault k p (Next.Fault j) = ownedBy k (faultField (at j p))
+headerFault k p (Next.Tag a s) = ownedBy k (faultField (at FaultKind.UnknownComponent p))
+
+-- the tag of a component stands here
+unfoldable pub componentStands : List ℕ → Bool
+componentStands part = cond (eqb (length part) 0) false (componentItem deepestLevel .mine (getD part 0 0))

@@ -6,10 +6,9 @@ ghost use lib.ListN.{length};
 ghost use Rattle.element.specs.Ask.{ask};
 ghost use Rattle.tcap.specs.WellFormed.{deepestLevel};
 ghost use Rattle.tcap.specs.Productions.{componentItem};
-ghost use Rattle.tcap.specs.Record.{blankRow};
 ghost use Rattle.asking.specs.Asked.{nextOf, innerOf};
-ghost use Rattle.contents.specs.Contents.{RowLaid};
-ghost use Rattle.components.specs.Rows.{ownedBy, bodyOf, insideOf, headerOf};
+ghost use Rattle.contents.specs.Contents.{rowGot};
+ghost use Rattle.components.specs.Rows.{ownedBy, bodyOf, insideOf, headerOf, headerFault, componentStands};
 use asking::Entry;
 use asking::Fault;
 use asking::Next;
@@ -23,12 +22,6 @@ use contents::invoke_at;
 use contents::reject_at;
 use contents::result_at;
 use element::FaultKind;
-use tcap::Code;
-use tcap::ComponentKind;
-use tcap::InvokeId;
-use tcap::LinkedId;
-use tcap::OptionalSpan;
-use tcap::Row;
 
 // A component up to its contents: its tag, and where they stand.
 pub enum Opened {
@@ -57,30 +50,22 @@ pub fn owned_by(fault: Fault, index: usize) -> Fault
     }
 }
 
-// The contents of a component by its tag, and its row.
-pub fn contents_at(
-    rows: &mut [u8],
-    o: usize,
-    part: &[u8],
-    place: usize,
-    definite: bool,
-    first: u8,
-) -> RowRead
-    requires { ⌜ o + 24 ≤ length (now rows) ⌝ }
+// The contents of a component by its tag.
+pub fn contents_at(part: &[u8], place: usize, definite: bool, first: u8) -> RowRead
     requires { ⌜ place + length (now part) ≤ 4096 ⌝ }
-    ensures { λ r. ⌜ RowLaid (now (rows .entry)) o (ask (bodyOf first) definite place (now (part .entry))) r (now (rows .exit)) ⌝ }
+    ensures { λ r. ⌜ r ≡ rowGot (ask (bodyOf first) definite place (now (part .entry))) ⌝ }
 {
     if first == 0xA1 {
-        return invoke_at(rows, o, part, place, definite);
+        return invoke_at(part, place, definite);
     }
     if first == 0xA3 {
-        return error_at(rows, o, part, place, definite);
+        return error_at(part, place, definite);
     }
     if first == 0xA4 {
-        return reject_at(rows, o, part, place, definite);
+        return reject_at(part, place, definite);
     }
     let last = first == 0xA2;
-    result_at(rows, o, part, place, definite, last)
+    result_at(part, place, definite, last)
 }
 
 // Whether a first octet is the tag of a component.
@@ -118,33 +103,34 @@ fn inside_at(part: &[u8], place: usize, index: usize, first: u8, size: usize) ->
     }
 }
 
+// Why no component stands here.
+fn header_fault(part: &[u8], place: usize, index: usize) -> Fault
+    ensures { λ r. ⌜ r ≡ headerFault index place (nextOf true (now (part .entry))) ⌝ }
+{
+    match next_at(part, true) {
+        Next::Ended => found(FaultKind::Missing, place),
+        Next::Unfinished => found(FaultKind::CutOff, place),
+        Next::Fault(kind) => owned_by(found(kind, place), index),
+        Next::Tag { first, size } => owned_by(found(FaultKind::UnknownComponent, place), index),
+    }
+}
+
+// Whether the tag of a component stands here; each is one octet.
+fn stands(part: &[u8]) -> bool
+    ensures { λ r. ⌜ r ≡ componentStands (now (part .entry)) ⌝ }
+{
+    if part.len() == 0 {
+        return false;
+    }
+    is_component(part[0])
+}
+
 // The component of this number up to its contents, where the end of the contents around it has been asked.
 pub fn header_at(part: &[u8], place: usize, index: usize) -> Opened
     ensures { λ r. ⌜ r ≡ headerOf index place (now (part .entry)) (nextOf true (now (part .entry))) ⌝ }
 {
-    match next_at(part, true) {
-        Next::Ended => Opened::Bad(found(FaultKind::Missing, place)),
-        Next::Unfinished => Opened::Bad(found(FaultKind::CutOff, place)),
-        Next::Fault(kind) => Opened::Bad(owned_by(found(kind, place), index)),
-        Next::Tag { first, size } => {
-            if !is_component(first) {
-                return Opened::Bad(owned_by(found(FaultKind::UnknownComponent, place), index));
-            }
-            inside_at(part, place, index, first, size)
-        }
+    if !stands(part) {
+        return Opened::Bad(header_fault(part, place, index));
     }
-}
-
-// The row where there is no component.
-pub fn blank() -> Row
-    ensures { λ r. ⌜ r ≡ blankRow ⌝ }
-{
-    Row {
-        id: InvokeId::Null,
-        kind: ComponentKind::Invoke {
-            linked: LinkedId::Unlinked,
-            code: Code::Local(0),
-            parameter: OptionalSpan::Absent,
-        },
-    }
+    inside_at(part, place, index, part[0], 1)
 }

@@ -1,8 +1,8 @@
 -- Contents that are read one after another: the first element, then the rest, from what was told of both. Assumes nothing.
 use Prim.Native.Nat.{ℕ, _+_, _-_, _≤_}
 use mathlib.Core.Path.{_≡_, refl, sym, ap, ap₂, _∙_}
-use mathlib.Core.Bool.{Bool, true, false, cond, false≢true}
-use mathlib.Core.List.{List, [], _∷_, _++_}
+use mathlib.Core.Bool.{Bool, true, false, false≢true}
+use mathlib.Core.List.{List, [], _∷_}
 use mathlib.Core.Option.{Option, some}
 use native.Mathlib.Omega.{arith}
 use lib.ListN.{length, take, drop}
@@ -17,13 +17,11 @@ use Rattle.element.specs.Head.{endOf, tagOf}
 use Rattle.element.specs.Answers.{fronted, frontOf}
 use Rattle.element.specs.Ask.{Got, got, bad, next, blamed, Body, ask}
 use Rattle.element.specs.Parts.{Item, aroundItem, bindBody, thenBody, mapBody}
-use Rattle.tcap.specs.declared.{InvokeId.InvokeId, LinkedId.LinkedId, Returned.Returned, ComponentKind.ComponentKind, Row.Row}
+use Rattle.tcap.specs.declared.{InvokeId.InvokeId, Row.Row}
 use Rattle.tcap.specs.Meaning.{Code, Component}
 use Rattle.tcap.specs.WellFormed.{deepestLevel}
 use Rattle.tcap.specs.Productions.{levelAt, codeItem}
 use Rattle.tcap.specs.Record.{idField, bothField, rowOf}
-use Rattle.layout.specs.Fits.{ReturnedFits, KindFits}
-use Rattle.layout.specs.Layout.{idsOctets, returnedOctets, kindOctets, rowOctets}
 use Rattle.asking.specs.declared.{Fault.Fault, Entry.Entry, Next.Next}
 use Rattle.asking.specs.Asked.{faultField, entryOf, wholeOf, begins, nextOf, onEnd, onFront}
 use Rattle.asking.proofs.Opened.{rest, ask-bind, ask-then, ask-map}
@@ -31,7 +29,7 @@ use Rattle.asking.proofs.Sizes.{entry-size}
 use Rattle.asking.proofs.Fronts.{aroundGot, front-around, front-level}
 use Rattle.fields.specs.Fields.{field}
 use Rattle.fields.proofs.Steps.{Failed, Gives, failed-as, failed-next}
-use Rattle.contents.specs.Contents.{withId, resultFor, resultTag}
+use Rattle.contents.specs.Contents.{withId, resultFor, resultField}
 
 module _ {A B C : Type 0} (y : Body B) (g : A → B → C) (d : Bool) (p : ℕ) (part : List ℕ) (z : Got A) (all : Got C) (is : all ≡ next z (rest (λ a. y) g d p part)) where
   pub rest-first : {f : Fault} → Failed z f → Failed all f
@@ -134,25 +132,8 @@ begins-next d t (x ∷ r) e f z b =
     let h : x ≡ t = eqb-true x t (rw (ne-eqb (length (x ∷ r)) 0 some) at b) in
     ap (λ (y : ℕ). onEnd (endOf d (y ∷ r)) (fronted 1 (tagOf (y ∷ r)))) h ∙ rw (begun d t r e, tag-of t r f, z)
 
--- The two results
-
-unfoldable pub resultField : Bool → Returned → ComponentKind
-resultField l r = cond l (ComponentKind.ResultLast r) (ComponentKind.ResultNotLast r)
-
-abbrev pub resultRow : Bool → ℤ → Returned → Row
-resultRow l i r = record { id = InvokeId.Id i; kind = resultField l r }
-
-pub result-row : (l : Bool) (i : ℤ) (r : Option (Code Text × Text)) → resultRow l i (bothField r) ≡ rowOf (resultFor l i r)
+-- the two results
+pub result-row : (l : Bool) (i : ℤ) (r : Option (Code Text × Text)) → _≡_ {A = Row} (record { id = InvokeId.Id i; kind = resultField l (bothField r) }) (rowOf (resultFor l i r))
 unfolding resultField
 result-row true i r = refl
 result-row false i r = refl
-
-pub result-octets : (l : Bool) (i : ℤ) (r : Returned) → idsOctets (resultTag l) (InvokeId.Id i) LinkedId.Unlinked ++ returnedOctets r ≡ rowOctets (resultRow l i r)
-unfolding rowOctets kindOctets resultTag resultField
-result-octets true i r = refl
-result-octets false i r = refl
-
-pub result-fit : (l : Bool) (r : Returned) → ReturnedFits r → KindFits (resultField l r)
-unfolding resultField
-result-fit true r h = h
-result-fit false r h = h

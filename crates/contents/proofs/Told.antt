@@ -1,12 +1,9 @@
 -- What was asked, from what the readers of components told, and what they tell of it. Assumes nothing.
-use Prim.Native.Nat.{ℕ, _+_, _≤_}
+use Prim.Native.Nat.{ℕ}
 use mathlib.Core.Path.{_≡_, refl, ap}
-use mathlib.Core.List.{List}
 use mathlib.Core.Option.{Option}
 use native.Mathlib.Omega.{arith}
 use lib.IntN.{ℤ}
-use lib.ListN.{length}
-use Rattle.base.specs.Put.{Put}
 use Rattle.element.specs.declared.{FaultKind.FaultKind}
 use Rattle.element.specs.Fault.{Text, fault, at}
 use Rattle.element.specs.Ask.{Got, got, bad}
@@ -14,14 +11,11 @@ use Rattle.element.proofs.Ends.{held, failed}
 use Rattle.tcap.specs.declared.{OptionalSpan.OptionalSpan, LinkedId.LinkedId, Code.Code as CodeField, Returned.Returned, Row.Row}
 use Rattle.tcap.specs.Meaning.{Code, Component}
 use Rattle.tcap.specs.Record.{spanField, linkedField, codeField, bothField, rowOf}
-use Rattle.layout.specs.Layout.{rowSize, rowOctets}
-use Rattle.layout.specs.Fits.{RowFits}
-use Rattle.layout.proofs.RoundTrip.{row-length}
 use Rattle.asking.specs.declared.Fault.{Fault}
 use Rattle.asking.specs.Asked.{faultField}
 use Rattle.fields.proofs.Steps.{Failed, Gives}
 use Rattle.contents.specs.declared.{CodedRead.CodedRead, InvokeRead.InvokeRead, BothRead.BothRead, RowRead.RowRead}
-use Rattle.contents.specs.Contents.{codedGot, invokeGot, bothGot, RowLaid, laid, unread}
+use Rattle.contents.specs.Contents.{codedGot, invokeGot, bothGot, rowGot}
 use Rattle.contents.proofs.Found.{Plain, found}
 
 abbrev pub codedAs : Code Text × Option Text → CodeField × OptionalSpan
@@ -110,18 +104,20 @@ pub got-both : {x : Got (Option (Code Text × Text))} {v : Returned} {n : ℕ} �
 unfolding bothGot
 got-both {n = n} (a, e, q) = rw (e, q)
 
-pub laid-bad : {x : Got (Component Text)} {r : RowRead} {old new : List ℕ} {o : ℕ} → RowLaid old o x r new → (f : Fault) → r ≡ RowRead.Bad f → Failed x f
-laid-bad (laid a n new p t) f e = let z : _≡_ {A = ℕ} 0 1 = cc in absurd (omega arith)
-laid-bad (unread g new) f e = (g, refl, cc)
+pub row-bad : (x : Got (Component Text)) (r : RowRead) → r ≡ rowGot x → (f : Fault) → r ≡ RowRead.Bad f → Failed x f
+unfolding rowGot
+row-bad (got a n) r is f e = let z : _≡_ {A = ℕ} 0 1 = cc in absurd (omega arith)
+row-bad (bad g) r is f e = (g, refl, cc)
 
-pub laid-got : {x : Got (Component Text)} {r : RowRead} {old new : List ℕ} {o : ℕ} → RowLaid old o x r new → (n : ℕ) → r ≡ RowRead.Got n → (v : Row) × Gives rowOf x v n × Put old o (rowOctets v) (o + rowSize) new × RowFits v
-laid-got (laid a m new p t) n e = let z : m ≡ n = cc in (rowOf a, (a, rw z, refl), p, t)
-laid-got (unread g new) n e = let z : _≡_ {A = ℕ} 0 1 = cc in absurd (omega arith)
+pub row-got : (x : Got (Component Text)) (r : RowRead) → r ≡ rowGot x → (v : Row) (n : ℕ) → r ≡ RowRead.Got v n → Gives rowOf x v n
+unfolding rowGot
+row-got (got a m) r is v n e = let z : m ≡ n = cc in (a, rw z, cc)
+row-got (bad g) r is v n e = let z : _≡_ {A = ℕ} 0 1 = cc in absurd (omega arith)
 
-pub bad-laid : {x : Got (Component Text)} {f : Fault} {old new : List ℕ} {o : ℕ} → Failed x f → RowLaid old o x (RowRead.Bad f) new
-bad-laid {new = new} (g, e, q) = rw (e, q) (unread g new)
+pub bad-row : {x : Got (Component Text)} {f : Fault} → Failed x f → RowRead.Bad f ≡ rowGot x
+unfolding rowGot
+bad-row (g, e, q) = rw (e, q)
 
-pub got-laid : {x : Got (Component Text)} {v : Row} {n : ℕ} {old new : List ℕ} {o q : ℕ} → Gives rowOf x v n → o + rowSize ≤ length old → Put old o (rowOctets v) q new → RowFits v → RowLaid old o x (RowRead.Got n) new
-got-laid {v = v} {n} {new = new} {o} {q} (a, e, j) room p fits =
-    let k : q ≡ o + rowSize = omega (arith, p .ends, p .within, row-length v) in
-    rw e (laid a n new (rw (j, k) at p) (rw j at fits))
+pub got-row : {x : Got (Component Text)} {v : Row} {n : ℕ} → Gives rowOf x v n → RowRead.Got v n ≡ rowGot x
+unfolding rowGot
+got-row {n = n} (a, e, q) = rw (e, q)

@@ -1,12 +1,10 @@
 -- What the readers of a component's contents answer, as their contracts cite it; the definition of reading rests on none of it.
 -- Assumes nothing: these are definitions.
-use Prim.Native.Nat.{ℕ, _+_}
-use mathlib.Core.{List.List, Bool.Bool, Bool.true, Bool.false, Bool.cond, Option.Option}
+use Prim.Native.Nat.{ℕ}
+use mathlib.Core.{Bool.Bool, Bool.true, Bool.false, Bool.cond, Option.Option}
 use lib.{IntN.ℤ}
-use Rattle.base.specs.{Put.Put}
-use Rattle.element.specs.{Fault.Text, Fault.Fault as Faulty, Fault.fault, Ask.Got, Ask.got, Ask.bad, Ask.Body, Parts.level, Parts.thenBody, Parts.lastBody, Walk.walkItem}
-use Rattle.tcap.specs.{declared.InvokeId.InvokeId, Meaning.Code, Meaning.Component, Meaning.last, Meaning.notLast, Record.codeField, Record.spanField, Record.linkedField, Record.bothField, Record.rowOf, WellFormed.deepestLevel, Productions.levelAt, Productions.codeItem}
-use Rattle.layout.specs.{Layout.rowSize, Layout.rowOctets, Fits.RowFits}
+use Rattle.element.specs.{Fault.Text, Fault.fault, Ask.Got, Ask.got, Ask.bad, Ask.Body, Parts.level, Parts.thenBody, Parts.lastBody, Walk.walkItem}
+use Rattle.tcap.specs.{declared.InvokeId.InvokeId, declared.Returned.Returned, declared.ComponentKind.ComponentKind, Meaning.Code, Meaning.Component, Meaning.last, Meaning.notLast, Record.codeField, Record.spanField, Record.linkedField, Record.bothField, Record.rowOf, WellFormed.deepestLevel, Productions.levelAt, Productions.codeItem}
 use Rattle.asking.specs.{declared.Fault.Fault, Asked.faultField}
 use Rattle.contents.specs.declared.{CodedRead.CodedRead, InvokeRead.InvokeRead, BothRead.BothRead, RowRead.RowRead}
 
@@ -27,10 +25,9 @@ unfoldable pub bothGot : Got (Option (Code Text × Text)) → BothRead
 bothGot (got v n) = BothRead.Got (bothField v) n
 bothGot (bad (fault k p o i t)) = BothRead.Bad k p
 
--- the row of a component that was read stands in the octets at a place; where none was read they mean nothing
-pub data RowLaid (old : List ℕ) (o : ℕ) : Got (Component Text) → RowRead → List ℕ → Type 0 where
-  laid : (c : Component Text) (n : ℕ) (new : List ℕ) → Put old o (rowOctets (rowOf c)) (o + rowSize) new → RowFits (rowOf c) → RowLaid old o (got c n) (RowRead.Got n) new
-  unread : (f : Faulty) (new : List ℕ) → RowLaid old o (bad f) (RowRead.Bad (faultField f)) new
+unfoldable pub rowGot : Got (Component Text) → RowRead
+rowGot (got c n) = RowRead.Got (rowOf c) n
+rowGot (bad f) = RowRead.Bad (faultField f)
 
 -- a fault that carries an invoke ID
 abbrev pub withId : InvokeId → Fault → Fault
@@ -41,5 +38,5 @@ abbrev pub resultFor : Bool → ℤ → Option (Code Text × Text) → Component
 resultFor true = last
 resultFor false = notLast
 
-unfoldable pub resultTag : Bool → ℕ
-resultTag l = cond l 0xA2 0xA7
+unfoldable pub resultField : Bool → Returned → ComponentKind
+resultField l r = cond l (ComponentKind.ResultLast r) (ComponentKind.ResultNotLast r)

@@ -1,4 +1,4 @@
-// The contents of the five components, whose rows are laid out as octets where they have been read.
+// The contents of the five components.
 ghost use mathlib.Core.Path.{_≡_};
 ghost use mathlib.Core.Bool.{true};
 ghost use mathlib.Core.Option.{some};
@@ -10,7 +10,7 @@ ghost use Rattle.tcap.specs.WellFormed.{deepestLevel};
 ghost use Rattle.tcap.specs.Productions.{levelAt, parameterItem, codeItem, problemItem, codeBody, invokeBody, bothItem, resultBody, errorBody, rejectBody};
 ghost use Rattle.asking.specs.Asked.{begins};
 ghost use Rattle.fields.specs.Fields.{field, problemGot};
-ghost use Rattle.contents.specs.Contents.{codedBody, codedGot, invokeGot, bothGot, RowLaid, withId, resultFor, resultTag};
+ghost use Rattle.contents.specs.Contents.{codedBody, codedGot, invokeGot, bothGot, rowGot, withId, resultFor, resultField};
 use asking::Entry;
 use asking::Fault;
 use asking::begins_with;
@@ -33,14 +33,13 @@ use fields::parameter_at;
 use fields::problem_at;
 use fields::reject_id_at;
 use fields::rest_after;
-use pack::row::put_reject;
-use pack::row::put_result;
-use pack::row::put_with_code;
 use tcap::Code;
+use tcap::ComponentKind;
 use tcap::InvokeId;
 use tcap::LinkedId;
 use tcap::OptionalSpan;
 use tcap::Returned;
+use tcap::Row;
 
 // Code and parameter. A fault is told by all that is known of it here: a whole one would lie across the code in memory.
 pub enum CodedRead {
@@ -74,9 +73,8 @@ pub enum BothRead {
     Bad { kind: FaultKind, place: usize },
 }
 
-// A component whose row was laid out: how many octets its contents take.
 pub enum RowRead {
-    Got { size: usize },
+    Got { row: Row, size: usize },
     Bad(Fault),
 }
 
@@ -200,10 +198,9 @@ fn invoke_rest(part: &[u8], place: usize, definite: bool) -> InvokeRead
 }
 
 // A1
-pub fn invoke_at(rows: &mut [u8], o: usize, part: &[u8], place: usize, definite: bool) -> RowRead
-    requires { ⌜ o + 24 ≤ length (now rows) ⌝ }
+pub fn invoke_at(part: &[u8], place: usize, definite: bool) -> RowRead
     requires { ⌜ place + length (now part) ≤ 4096 ⌝ }
-    ensures { λ r. ⌜ RowLaid (now (rows .entry)) o (ask (invokeBody deepestLevel) definite place (now (part .entry))) r (now (rows .exit)) ⌝ }
+    ensures { λ r. ⌜ r ≡ rowGot (ask (invokeBody deepestLevel) definite place (now (part .entry))) ⌝ }
 {
     match octet_id(part, place, definite, 0x02) {
         IdRead::Bad(fault) => {
@@ -220,20 +217,26 @@ pub fn invoke_at(rows: &mut [u8], o: usize, part: &[u8], place: usize, definite:
                     code,
                     parameter,
                     size: more,
-                } => {
-                    put_with_code(rows, o, 0xA1, InvokeId::Id(id), linked, code, parameter);
-                    RowRead::Got { size: size + more }
-                }
+                } => RowRead::Got {
+                    row: Row {
+                        id: InvokeId::Id(id),
+                        kind: ComponentKind::Invoke {
+                            linked: linked,
+                            code: code,
+                            parameter: parameter,
+                        },
+                    },
+                    size: size + more,
+                },
             }
         }
     }
 }
 
 // A3
-pub fn error_at(rows: &mut [u8], o: usize, part: &[u8], place: usize, definite: bool) -> RowRead
-    requires { ⌜ o + 24 ≤ length (now rows) ⌝ }
+pub fn error_at(part: &[u8], place: usize, definite: bool) -> RowRead
     requires { ⌜ place + length (now part) ≤ 4096 ⌝ }
-    ensures { λ r. ⌜ RowLaid (now (rows .entry)) o (ask (errorBody deepestLevel) definite place (now (part .entry))) r (now (rows .exit)) ⌝ }
+    ensures { λ r. ⌜ r ≡ rowGot (ask (errorBody deepestLevel) definite place (now (part .entry))) ⌝ }
 {
     match octet_id(part, place, definite, 0x02) {
         IdRead::Bad(fault) => {
@@ -249,18 +252,16 @@ pub fn error_at(rows: &mut [u8], o: usize, part: &[u8], place: usize, definite: 
                     code,
                     parameter,
                     size: more,
-                } => {
-                    put_with_code(
-                        rows,
-                        o,
-                        0xA3,
-                        InvokeId::Id(id),
-                        LinkedId::Unlinked,
-                        code,
-                        parameter,
-                    );
-                    RowRead::Got { size: size + more }
-                }
+                } => RowRead::Got {
+                    row: Row {
+                        id: InvokeId::Id(id),
+                        kind: ComponentKind::ReturnError {
+                            code: code,
+                            parameter: parameter,
+                        },
+                    },
+                    size: size + more,
+                },
             }
         }
     }
@@ -379,28 +380,19 @@ fn both_at(part: &[u8], place: usize, definite: bool) -> BothRead
     }
 }
 
-// The tag of a result.
-fn result_tag(last: bool) -> u8
-    ensures { λ r. ⌜ r ≡ resultTag last ⌝ }
+fn result_kind(last: bool, both: Returned) -> ComponentKind
+    ensures { λ r. ⌜ r ≡ resultField last both ⌝ }
 {
     if last {
-        return 0xA2;
+        return ComponentKind::ResultLast(both);
     }
-    0xA7
+    ComponentKind::ResultNotLast(both)
 }
 
 // A2 and A7
-pub fn result_at(
-    rows: &mut [u8],
-    o: usize,
-    part: &[u8],
-    place: usize,
-    definite: bool,
-    last: bool,
-) -> RowRead
-    requires { ⌜ o + 24 ≤ length (now rows) ⌝ }
+pub fn result_at(part: &[u8], place: usize, definite: bool, last: bool) -> RowRead
     requires { ⌜ place + length (now part) ≤ 4096 ⌝ }
-    ensures { λ r. ⌜ RowLaid (now (rows .entry)) o (ask (resultBody deepestLevel (resultFor last)) definite place (now (part .entry))) r (now (rows .exit)) ⌝ }
+    ensures { λ r. ⌜ r ≡ rowGot (ask (resultBody deepestLevel (resultFor last)) definite place (now (part .entry))) ⌝ }
 {
     match octet_id(part, place, definite, 0x02) {
         IdRead::Bad(fault) => {
@@ -413,8 +405,14 @@ pub fn result_at(
                     return RowRead::Bad(with_id(found(kind, there), InvokeId::Id(id)));
                 }
                 BothRead::Got { both, size: more } => {
-                    put_result(rows, o, result_tag(last), InvokeId::Id(id), both);
-                    RowRead::Got { size: size + more }
+                    let kind = result_kind(last, both);
+                    RowRead::Got {
+                        row: Row {
+                            id: InvokeId::Id(id),
+                            kind: kind,
+                        },
+                        size: size + more,
+                    }
                 }
             }
         }
@@ -443,10 +441,9 @@ fn sole_problem(part: &[u8], place: usize, definite: bool) -> ProblemRead
 }
 
 // A4
-pub fn reject_at(rows: &mut [u8], o: usize, part: &[u8], place: usize, definite: bool) -> RowRead
-    requires { ⌜ o + 24 ≤ length (now rows) ⌝ }
+pub fn reject_at(part: &[u8], place: usize, definite: bool) -> RowRead
     requires { ⌜ place + length (now part) ≤ 4096 ⌝ }
-    ensures { λ r. ⌜ RowLaid (now (rows .entry)) o (ask (rejectBody deepestLevel) definite place (now (part .entry))) r (now (rows .exit)) ⌝ }
+    ensures { λ r. ⌜ r ≡ rowGot (ask (rejectBody deepestLevel) definite place (now (part .entry))) ⌝ }
 {
     match reject_id_at(part, place, definite) {
         NullRead::Bad(fault) => {
@@ -461,10 +458,13 @@ pub fn reject_at(rows: &mut [u8], o: usize, part: &[u8], place: usize, definite:
                 ProblemRead::Got {
                     problem,
                     size: more,
-                } => {
-                    put_reject(rows, o, id, problem);
-                    RowRead::Got { size: size + more }
-                }
+                } => RowRead::Got {
+                    row: Row {
+                        id: id,
+                        kind: ComponentKind::Reject(problem),
+                    },
+                    size: size + more,
+                },
             }
         }
     }

@@ -291,6 +291,10 @@ unfoldable pub rowsIn : ℕ → List ℕ → List Row
 rowsIn zero l = []
 rowsIn (suc n) l = rowIn l ∷ rowsIn n (drop rowSize l)
 
+-- and blank rows behind them
+unfoldable pub rowsHeld : ℕ → List ℕ → List Row
+rowsHeld n l = rowsIn n l ++ replicate (mostRows - n) blankRow
+
 unfoldable pub rowsOctets : List Row → List ℕ
 rowsOctets [] = []
 rowsOctets (r ∷ rs) = rowOctets r ++ rowsOctets rs

@@ -4,19 +4,21 @@ ghost use mathlib.Core.List.{[], _∷_, _++_};
 ghost use Prim.Native.Nat.{_+_, _≤_};
 ghost use lib.ListN.{length};
 ghost use Rattle.base.specs.Put.{Put};
-ghost use Rattle.layout.specs.Fits.{IdFits, LinkedFits, CodeFits, OptionalFits, ReturnedFits};
-ghost use Rattle.layout.specs.Layout.{linkedFlag, linkedOctet, idsOctets, partsOctets, noSpan, optionalFlag, optionalSpan, codedOctets, returnedOctets, problemOctets};
+ghost use Rattle.layout.specs.Fits.{RowFits};
+ghost use Rattle.layout.specs.Layout.{linkedFlag, linkedOctet, idsOctets, partsOctets, noSpan, optionalFlag, optionalSpan, codedOctets, returnedOctets, problemOctets, kindOctets, rowOctets};
 use crate::number::octet_of;
 use crate::number::put_four;
 use crate::number::put_span;
 use crate::number::put_three;
 use primitive::bits;
 use tcap::Code;
+use tcap::ComponentKind;
 use tcap::InvokeId;
 use tcap::LinkedId;
 use tcap::OptionalSpan;
 use tcap::Problem;
 use tcap::Returned;
+use tcap::Row;
 use tcap::Span;
 
 fn put_five(out: &mut [u8], at: usize, a: u8, b: u8, c: u8, d: u8, e: u8) -> usize
@@ -147,8 +149,8 @@ fn put_problem(out: &mut [u8], at: usize, problem: Problem) -> usize
     }
 }
 
-// The row of an Invoke or a Return Error, by its tag.
-pub fn put_with_code(
+// An Invoke or a Return Error, by its tag.
+fn put_with_code(
     out: &mut [u8],
     at: usize,
     tag: u8,
@@ -158,26 +160,59 @@ pub fn put_with_code(
     parameter: OptionalSpan,
 ) -> usize
     requires { ⌜ at + 24 ≤ length (now out) ⌝ }
-    ensures { λ r. ⌜ Put (now (out .entry)) at (idsOctets tag id linked ++ codedOctets code parameter) r (now (out .exit)) × (IdFits id × LinkedFits linked × CodeFits code × OptionalFits parameter) ⌝ }
+    ensures { λ r. ⌜ Put (now (out .entry)) at (idsOctets tag id linked ++ codedOctets code parameter) r (now (out .exit)) ⌝ }
 {
     let next = put_ids(out, at, tag, id, linked);
     put_coded(out, next, code, parameter)
 }
 
-// The row of a Return Result, by its tag.
-pub fn put_result(out: &mut [u8], at: usize, tag: u8, id: InvokeId, returned: Returned) -> usize
+fn put_result(out: &mut [u8], at: usize, tag: u8, id: InvokeId, returned: Returned) -> usize
     requires { ⌜ at + 24 ≤ length (now out) ⌝ }
-    ensures { λ r. ⌜ Put (now (out .entry)) at (idsOctets tag id LinkedId.Unlinked ++ returnedOctets returned) r (now (out .exit)) × (IdFits id × ReturnedFits returned) ⌝ }
+    ensures { λ r. ⌜ Put (now (out .entry)) at (idsOctets tag id LinkedId.Unlinked ++ returnedOctets returned) r (now (out .exit)) ⌝ }
 {
     let next = put_ids(out, at, tag, id, LinkedId::Unlinked);
     put_returned(out, next, returned)
 }
 
-// The row of a Reject.
-pub fn put_reject(out: &mut [u8], at: usize, id: InvokeId, problem: Problem) -> usize
+fn put_reject(out: &mut [u8], at: usize, id: InvokeId, problem: Problem) -> usize
     requires { ⌜ at + 24 ≤ length (now out) ⌝ }
-    ensures { λ r. ⌜ Put (now (out .entry)) at (idsOctets 0xA4 id LinkedId.Unlinked ++ problemOctets problem) r (now (out .exit)) × IdFits id ⌝ }
+    ensures { λ r. ⌜ Put (now (out .entry)) at (idsOctets 0xA4 id LinkedId.Unlinked ++ problemOctets problem) r (now (out .exit)) ⌝ }
 {
     let next = put_ids(out, at, 0xA4, id, LinkedId::Unlinked);
     put_problem(out, next, problem)
+}
+
+fn put_kind(out: &mut [u8], at: usize, id: InvokeId, kind: ComponentKind) -> usize
+    requires { ⌜ at + 24 ≤ length (now out) ⌝ }
+    ensures { λ r. ⌜ Put (now (out .entry)) at (kindOctets id kind) r (now (out .exit)) ⌝ }
+{
+    match kind {
+        ComponentKind::Invoke {
+            linked,
+            code,
+            parameter,
+        } => put_with_code(out, at, 0xA1, id, linked, code, parameter),
+        ComponentKind::ResultLast(returned) => put_result(out, at, 0xA2, id, returned),
+        ComponentKind::ReturnError { code, parameter } => put_with_code(
+            out,
+            at,
+            0xA3,
+            id,
+            LinkedId::Unlinked,
+            code,
+            parameter,
+        ),
+        ComponentKind::Reject(problem) => put_reject(out, at, id, problem),
+        ComponentKind::ResultNotLast(returned) => put_result(out, at, 0xA7, id, returned),
+    }
+}
+
+// One row at a place.
+pub fn put_row(out: &mut [u8], at: usize, row: Row) -> usize
+    requires { ⌜ at + 24 ≤ length (now out) ⌝ }
+    ensures { λ r. ⌜ Put (now (out .entry)) at (rowOctets row) r (now (out .exit)) × RowFits row ⌝ }
+{
+    let id = row.id;
+    let kind = row.kind;
+    put_kind(out, at, id, kind)
 }

@@ -1,15 +1,15 @@
 -- The loop over the components: the rows of those that were read, and then those of the rest. Assumes nothing.
-use Prim.Native.Nat.{ℕ, zero, suc, _+_, _-_, _*_, _≤_, _<_}
+use Prim.Native.Nat.{ℕ, zero, suc, _+_, _-_, _*_, _%_, _≤_, _<_}
 use native.Mathlib.Omega.{arith}
 use native.Mathlib.Nat.{add-zero, zero-add, add-assoc}
-use mathlib.Core.Path.{_≡_, refl, sym, ap, ap₂, _∙_}
+use mathlib.Core.Path.{_≡_, refl, sym, ap, ap₂, _∙_, subst}
 use mathlib.Core.Bool.{Bool, true, false, cond}
 use mathlib.Core.List.{List, [], _∷_, _++_, map, append-nil}
 use mathlib.Core.Option.{Option, none, some}
-use lib.ListN.{length, take, drop, replicate, length-map, length-drop}
-use lib.Seq.{drop-drop, append-snoc, length-take-le, take-at}
+use lib.ListN.{length, take, drop, replicate, length-map, length-drop, set, getD}
+use lib.Seq.{drop-drop, append-snoc, length-take-le, take-at, set-at}
 use lib.Dec.{eqb}
-use borrow.Author.Tests.{eq-eqb, ne-eqb}
+use borrow.Author.Tests.{eq-eqb, ne-eqb, eqb-true, eqb-false}
 use Rattle.element.specs.declared.{FaultKind.FaultKind, EndRead.EndRead}
 use Rattle.element.specs.Fault.{Text, at}
 use Rattle.element.specs.Head.{endOf}
@@ -32,13 +32,14 @@ use Rattle.fields.proofs.Steps.{Failed, Gives, more-not}
 use Rattle.components.proofs.Chosen.{component-here}
 use Rattle.tcap.specs.declared.Reading.{Reading}
 use Rattle.asking.specs.Asked.{closeOf, wholeOf}
-use Rattle.transaction.proofs.Taken.{whole-within}
+use Rattle.element.proofs.Insides.{end-indefinite}
 use Rattle.transaction.specs.declared.{Head.Head}
 use Rattle.transaction.specs.Head.{carriedField}
-use Rattle.layout.specs.Layout.{rowSize, rowsIn, rowsOctets}
+use Rattle.layout.specs.Layout.{rowSize, rowsIn, rowsOctets, rowsHeld}
 use Rattle.layout.proofs.RoundTrip.{rows-length}
-use Rattle.reader.specs.declared.{Frame.Frame, Outline.Outline, Closing.Closing}
-use Rattle.reader.specs.Parts.{refusedBy, acceptedWith, closingOf, closedWith, gathered, rowsRead, rowsHeld, assembled, outlineOf, Laid}
+use Rattle.reader.specs.declared.{Frame.Frame, Turn.Turn, Outline.Outline, Closing.Closing}
+use Rattle.reader.specs.Parts.{refusedBy, acceptedWith, closingOf, closedWith, gathered, assembled, outlineOf, Laid}
+use Rattle.reader.specs.Begun.{turnOf, acceptedAs}
 
 -- of a refused message the octets of the rows mean nothing
 pub refused-as : {r : Outline} (g : Fault) (l : List ℕ) → r ≡ outlineOf (refusedBy g) → Laid r l (refusedBy g)
@@ -46,13 +47,9 @@ unfolding assembled outlineOf rowsHeld rowsIn rowsOctets refusedBy
 refused-as g l e = record { same = rw e; rows = rw e }
 
 -- without components there are no rows to be laid out
-pub bare-as : (h : Head) (f : Frame) (n : ℕ) (r : Outline) (l : List ℕ) → r ≡ outlineOf (rowsRead h f n (got [] 0)) → Laid r l (rowsRead h f n (got [] 0))
-unfolding rowsRead closedWith assembled outlineOf rowsHeld rowsIn rowsOctets refusedBy
-bare-as h f n r l e = rw e (by-closing (closingOf f n 0 Closed.Done))
-  where
-    by-closing : (c : Closing) → Laid (outlineOf (closedWith h [] c)) l (closedWith h [] c)
-    by-closing Closing.Whole = record { same = refl; rows = refl }
-    by-closing (Closing.Bad g) = record { same = refl; rows = refl }
+pub bare-as : {r : Outline} (h : Head) (l : List ℕ) → r ≡ acceptedAs h 0 → Laid r l (closedWith h [] Closing.Whole)
+unfolding closedWith assembled rowsHeld rowsIn rowsOctets
+bare-as h l e = record { same = rw e; rows = rw e }
 
 -- the first must be there
 abbrev endsAt : ℕ → Option (List (Component Text))
@@ -113,23 +110,24 @@ module _ (d : Bool) (p : ℕ) (part : List ℕ) (rows : List Row) (count i : ℕ
   more = ask (bodyAt (endsAt count) (mostComponents - count) count) d (p + i) (drop i part)
 
   -- a fault ends it
-  pub refused-by : (k : Fault) (h : Head) (f : Frame) (n : ℕ) (behind : List ℕ) (m : ℕ → ℕ) (r : Outline) (l : List ℕ) → r ≡ outlineOf (refusedBy (carriedField (h .orig) k)) → Failed more k → Laid r l (gathered h f n behind m all)
+  pub fault-ends : (h : Head) (f : Frame) (n : ℕ) (behind : List ℕ) (m : ℕ → ℕ) {k : Fault} → Failed more k → refusedBy (carriedField (h .orig) k) ≡ gathered h f n behind m all
   unfolding handed rowsThen
-  refused-by k h f n behind m r l is (g, failed, j) =
-      let e : refusedBy (carriedField (h .orig) k) ≡ gathered h f n behind m all = ap (λ (x : Fault). refusedBy (carriedField (h .orig) x)) j ∙ sym (handed-rows h f n behind m all ∙ ap (handed h f n behind m) (left .same ∙ ap (rowsThen rows i) failed)) in
-      rw e at (refused-as _ l is)
+  fault-ends h f n behind m (g, failed, j) = ap (λ (x : Fault). refusedBy (carriedField (h .orig) x)) j ∙ sym (handed-rows h f n behind m all ∙ ap (handed h f n behind m) (left .same ∙ ap (rowsThen rows i) failed))
+
+  pub refused-by : (k : Fault) (h : Head) (f : Frame) (n : ℕ) (behind : List ℕ) (m : ℕ → ℕ) (r : Outline) (l : List ℕ) → r ≡ outlineOf (refusedBy (carriedField (h .orig) k)) → Failed more k → Laid r l (gathered h f n behind m all)
+  refused-by k h f n behind m r l is failed = rw (fault-ends h f n behind m failed) at (refused-as _ l is)
 
   module _ (r : EndRead) (is : r ≡ endOf d q) where
     told : (e : EndRead) → r ≡ e → endOf d (drop i part) ≡ e
     told e h = ap (endOf d) (sym cut) ∙ sym is ∙ h
 
-    pub more-missing : r ≡ EndRead.Ended → count ≡ 0 → more ≡ bad (at FaultKind.Missing (p + i))
+    more-missing : r ≡ EndRead.Ended → count ≡ 0 → more ≡ bad (at FaultKind.Missing (p + i))
     more-missing e z = ask-missing (bodyAt (endsAt count) (mostComponents - count) count) d (p + i) (drop i part) (told EndRead.Ended e) (ended-by (mostComponents - count) count (endsAt count) ∙ rw (eq-eqb count 0 z))
 
-    pub more-unfinished : r ≡ EndRead.Unfinished → more ≡ bad (at FaultKind.CutOff (p + i))
+    more-unfinished : r ≡ EndRead.Unfinished → more ≡ bad (at FaultKind.CutOff (p + i))
     more-unfinished e = ask-unfinished (bodyAt (endsAt count) (mostComponents - count) count) d (p + i) (drop i part) (told EndRead.Unfinished e)
 
-    pub more-full : r ≡ EndRead.More → count ≡ 16 → more ≡ bad (at FaultKind.Seventeenth (p + i))
+    more-full : r ≡ EndRead.More → count ≡ 16 → more ≡ bad (at FaultKind.Seventeenth (p + i))
     unfolding seriesBody
     more-full e z =
         let none-left : mostComponents - count ≡ 0 = omega arith in
@@ -187,16 +185,55 @@ module _ (d : Bool) (p : ℕ) (part : List ℕ) (rows : List Row) (count i : ℕ
                   ∙ ap (rowsThen (rows ++ (row ∷ [])) (i + n)) follows;
             }
 
+-- What a place asks for
+
+module _ (d : Bool) (p : ℕ) (part : List ℕ) (rows : List Row) (count i : ℕ) (left : Left d p part rows count i) (q : List ℕ) (cut : q ≡ drop i part) (r : Turn) (is : r ≡ turnOf count (endOf d q)) where
+  abbrev seen : EndRead
+  seen = endOf d q
+
+  abbrev Asked : Turn → Type 0
+  Asked Turn.End = (seen ≡ EndRead.Ended) × (count ≡ 0 → ⊥)
+  Asked Turn.More = (seen ≡ EndRead.More) × (count ≡ 16 → ⊥)
+  Asked (Turn.Bad k) = more d p part rows count i left q cut ≡ bad (at k (p + i))
+
+  asked-end : (e : EndRead) → seen ≡ e → Asked (turnOf count e)
+  unfolding turnOf
+  asked-end EndRead.Ended e = first (eqb count 0) refl
+    where
+      first : (b : Bool) → eqb count 0 ≡ b → Asked (cond b (Turn.Bad FaultKind.Missing) Turn.End)
+      first true z = more-missing d p part rows count i left q cut seen refl e (eqb-true count 0 z)
+      first false z = (e, eqb-false count 0 z)
+  asked-end EndRead.Unfinished e = more-unfinished d p part rows count i left q cut seen refl e
+  asked-end EndRead.More e = last (eqb count 16) refl
+    where
+      last : (b : Bool) → eqb count 16 ≡ b → Asked (cond b (Turn.Bad FaultKind.Seventeenth) Turn.More)
+      last true z = more-full d p part rows count i left q cut seen refl e (eqb-true count 16 z)
+      last false z = (e, eqb-false count 16 z)
+
+  asked-as : (t : Turn) → r ≡ t → Asked t
+  asked-as t e = subst Asked (sym is ∙ e) (asked-end seen refl)
+
+  pub turn-bad : {k : FaultKind} → r ≡ Turn.Bad k → more d p part rows count i left q cut ≡ bad (at k (p + i))
+  turn-bad {k} e = asked-as (Turn.Bad k) e
+
+  pub turn-end : r ≡ Turn.End → (endOf d q ≡ EndRead.Ended) × (count ≡ 0 → ⊥)
+  turn-end e = asked-as Turn.End e
+
+  pub turn-more : r ≡ Turn.More → (endOf d q ≡ EndRead.More) × (count ≡ 16 → ⊥)
+  turn-more e = asked-as Turn.More e
+
 -- nothing has been read
 pub left-all : (d : Bool) (p : ℕ) (part : List ℕ) → Left d p part [] 0 0
 left-all d p part = record { same = rw (add-zero p) }
 
--- 6C, whose contents end where they were read to, lies in the rest of the message
-pub end-within : (rest part : List ℕ) (u e n : ℕ) (f : Bool) (q : List ℕ) (r : EndRead) → part ≡ take (e - u) (drop u rest) → u ≤ e → e ≤ length rest → n ≤ length part
-    → q ≡ drop n part → r ≡ endOf f q → r ≡ EndRead.Ended → wholeOf u e f n ≤ length rest
-end-within rest part u e n f q r cut h i within at-end is told =
-    let ended : endOf f (drop n part) ≡ EndRead.Ended = ap (endOf f) (sym at-end) ∙ sym is ∙ told in
-    whole-within rest u e n f h i (rw cut at within, rw cut at ended)
+-- 6C, whose contents end where they were read to, lies where its length says
+pub end-inside : (m part : List ℕ) (u e n : ℕ) (f : Bool) (q : List ℕ) → part ≡ take (e - u) (drop u m) → u ≤ e → e ≤ length m → n ≤ length part → q ≡ drop n part → endOf f q ≡ EndRead.Ended → wholeOf u e f n ≤ e
+unfolding wholeOf
+end-inside m part u e n true q cut h i within at-end told = omega arith
+end-inside m part u e n false q cut h i within at-end told =
+    let z = end-indefinite q told in
+    let l : length part ≡ e - u = ap length cut ∙ length-take-le (e - u) (drop u m) (omega (arith, length-drop u m)) in
+    omega (arith, l, within, ap length (z .1), ap length at-end ∙ length-drop n part)
 
 -- a piece ends where its part does, at the latest; what is left after some octets ends with it
 pub piece-bound : (part q : List ℕ) (u e : ℕ) → q ≡ take (e - u) (drop u part) → u ≤ e → e ≤ length part → u + length q ≤ length part
@@ -218,3 +255,18 @@ whole-laid h n {old} {rs} {o} {new} held w k l =
       same = rw e;
       rows = ap (take (rowSize * n)) (put-front (held .put) (omega (arith, long))) ∙ take-at (rowsOctets rs) _ (rowSize * n) long ∙ ap rowsOctets (sym (take-at rs (replicate (16 - n) blankRow) n l));
     }
+
+-- a row is set where the first blank one was
+pub set-next : (rs : List Row) (n : ℕ) (row : Row) → length rs ≡ n → n < 16 → set (rs ++ replicate (16 - n) blankRow) n row ≡ (rs ++ (row ∷ [])) ++ replicate (16 - (n + 1)) blankRow
+set-next rs n row l h =
+    let e : 16 - n ≡ suc (16 - (n + 1)) = omega arith in
+    rw (e, append-snoc) (set-at rs blankRow (replicate (16 - (n + 1)) blankRow) row n l)
+
+-- one of two that are the same
+pub of-two : {x : Row} (n : ℕ) (d : Row) → getD (x ∷ x ∷ []) (n % 2) d ≡ x
+of-two {x} n d = pick (n % 2) (omega arith)
+  where
+    pick : (k : ℕ) → k < 2 → getD (x ∷ x ∷ []) k d ≡ x
+    pick zero h = refl
+    pick (suc zero) h = refl
+    pick (suc (suc k)) h = absurd (omega (arith, h))

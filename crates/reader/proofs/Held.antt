@@ -1,21 +1,16 @@
--- The rows that were read, as octets one after the other, and taken from them again. Assumes nothing.
-use Prim.Native.Nat.{ℕ, zero, suc, _+_, _-_, _*_, _≤_, _<_}
+-- The rows that were read, as octets one after the other. Assumes nothing.
+use Prim.Native.Nat.{ℕ, _+_, _≤_, _<_}
 use native.Mathlib.Omega.{arith}
-use native.Mathlib.Numerals.{add-one}
-use mathlib.Core.Path.{_≡_, refl, sym, ap, _∙_}
+use mathlib.Core.Path.{_≡_, ap, _∙_}
 use mathlib.Core.List.{List, [], _∷_, _++_, append-assoc, append-nil}
-use lib.ListN.{length, drop, set, replicate}
-use lib.Seq.{set-at, append-snoc, drop-drop}
+use lib.ListN.{length, drop}
 use Rattle.base.specs.Put.{Put, farthest}
 use Rattle.base.specs.Value.{Every}
 use Rattle.base.proofs.Puts.{put-none, put-then, put-front, put-length}
 use Rattle.tcap.specs.declared.{Row.Row}
-use Rattle.tcap.specs.Record.{blankRow}
-use Rattle.tcap.specs.WellFormed.{mostComponents}
-use Rattle.layout.specs.Layout.{rowSize, rowIn, rowsIn, rowOctets, rowsOctets}
+use Rattle.layout.specs.Layout.{rowSize, rowsIn, rowOctets, rowsOctets}
 use Rattle.layout.specs.Fits.{RowFits}
 use Rattle.layout.proofs.RoundTrip.{rows-length, rows-back}
-use Rattle.reader.specs.Parts.{rowsHeld}
 
 rows-snoc : (rs : List Row) (r : Row) → rowsOctets (rs ++ (r ∷ [])) ≡ rowsOctets rs ++ rowOctets r
 unfolding rowsOctets
@@ -45,23 +40,3 @@ module _ {old : List ℕ} {rs : List Row} {o : ℕ} {new : List ℕ} (h : Held o
 
   pub held-rows : 384 ≤ length old → length rs ≤ 16 → rowsIn (length rs) new ≡ rs
   held-rows w k = ap (rowsIn (length rs)) (put-front (h .put) (omega (arith, rows-length rs))) ∙ rows-back rs (drop (length (rowsOctets rs)) old) (h .fits)
-
--- A row more, taken from the octets
-
-pub rows-in-length : (i : ℕ) (m : List ℕ) → length (rowsIn i m) ≡ i
-unfolding rowsIn
-rows-in-length zero m = refl
-rows-in-length (suc i) m = ap suc (rows-in-length i (drop rowSize m))
-
-rows-more : (i : ℕ) (m : List ℕ) → rowsIn (suc i) m ≡ rowsIn i m ++ (rowIn (drop (i * rowSize) m) ∷ [])
-unfolding rowsIn
-rows-more zero m = refl
-rows-more (suc i) m = let e : rowSize + i * rowSize ≡ suc i * rowSize = omega arith in ap (λ (t : List Row). rowIn m ∷ t) (rows-more i (drop rowSize m) ∙ ap (λ (t : List ℕ). rowsIn i (drop rowSize m) ++ (rowIn t ∷ [])) (drop-drop (i * rowSize) rowSize m ∙ ap (λ (k : ℕ). drop k m) e))
-
--- stored where the first blank row was
-pub rows-step : (l : List ℕ) (i : ℕ) → i < 16 → set (rowsHeld i l) i (rowIn (drop (i * 24) l)) ≡ rowsHeld (i + 1) l
-unfolding rowsHeld
-rows-step l i h =
-    let e : mostComponents - i ≡ suc (mostComponents - (i + 1)) = omega arith in
-    rw (e, add-one i, rows-more i l, append-snoc)
-    (set-at (rowsIn i l) blankRow (replicate (mostComponents - suc i) blankRow) (rowIn (drop (i * 24) l)) i (rows-in-length i l))

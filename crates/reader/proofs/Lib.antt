@@ -3,5 +3,6 @@ pub mod Whole
 pub mod Tails
 pub mod Gathered
 pub mod Rows
+pub mod Places
+pub mod Begins
 pub mod Held
-pub mod Few

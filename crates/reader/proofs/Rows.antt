@@ -22,15 +22,15 @@ use Rattle.asking.specs.declared.{Fault.Fault as FaultField, Entry.Entry, Close
 use Rattle.asking.specs.Asked.{front, faultField, entryOf, closeOf, wholeOf}
 use Rattle.asking.proofs.Opened.{ask-only, ask-last-ended, ask-last, rest}
 use Rattle.asking.proofs.Fronts.{aroundGot, front-around, closedGot, ask-done}
-use Rattle.transaction.specs.declared.{Head.Head, HeadRead.HeadRead}
-use Rattle.transaction.specs.Head.{Ids, carriedBy, origIn, destIn, carriedField, headGot, headOf}
+use Rattle.transaction.specs.declared.{Head.Head, HeadRead.HeadRead, HeadFault.HeadFault}
+use Rattle.transaction.specs.Head.{Ids, carriedBy, origIn, destIn, carriedField, spoiltBy, headGot, headOf}
 use Rattle.transaction.proofs.Heads.{carried-same}
 use Rattle.transaction.proofs.Stops.{unfinished-on, more-on}
 use Rattle.reader.specs.declared.{Frame.Frame, Closing.Closing}
 use Rattle.reader.specs.Parts.{refusedBy, acceptedWith, finished, recordRead, someRows, leftOut, bareFor, rowsFor, closingOf, closedWith, gathered, rowsRead}
 use Rattle.reader.proofs.Tails.{whole, and-rows, head-rows}
 
-abbrev rowsBody : Body (List (Component Text))
+abbrev pub rowsBody : Body (List (Component Text))
 rowsBody = seriesBody (componentAt deepestLevel) FaultKind.UnknownComponent (componentItem deepestLevel) none mostComponents 0
 
 abbrev onlyRows : Body (List (Component Text))
@@ -130,9 +130,12 @@ rows-there MessageKind.Abort d p part h = let z : _≡_ {A = ℕ} 0 1 = cc in ab
 -- The record
 
 module _ (k : MessageKind) (f : Frame) (part : List ℕ) where
-  unfoldable pub readBy : HeadRead → Reading
-  readBy (HeadRead.Bad g) = refusedBy g
-  readBy (HeadRead.Got h n) = rowsRead h f n (rowsFor k (f .definite) (f .start + n) (drop n part))
+  unfoldable pub readOn : Head → ℕ → HeadFault → Reading
+  readOn h n HeadFault.Sound = rowsRead h f n (rowsFor k (f .definite) (f .start + n) (drop n part))
+  readOn h n (HeadFault.Bad g) = refusedBy g
+
+  abbrev pub readBy : HeadRead → Reading
+  readBy r = readOn (r .head) (r .size) (r .fault)
 
   closed-by : (i : Ids) (g : DialogueField) (cs : List (Component Text)) (w : ℕ) (q : Bool)
       → cond q (acceptedWith (whole k (f .definite) (f .start) part i g cs .1)) (refusedBy (faultField (carriedBy i (at FaultKind.OctetsAfter (0 + w)))))
@@ -149,7 +152,7 @@ module _ (k : MessageKind) (f : Frame) (part : List ℕ) where
   with-rows i g n (bad a) = ap refusedBy (carried-same i a)
 
   with-head : (x : Got (Ids × DialogueField)) → finished (f .len) (f .start) (f .end) (f .definite) (next x (and-rows k (f .definite) (f .start) part)) ≡ readBy (headGot k x)
-  unfolding next readBy headGot
+  unfolding next readOn headGot spoiltBy
   with-head (got h n) = with-rows (h .0) (h .1) n (rowsFor k (f .definite) (f .start + n) (drop n part))
   with-head (bad g) = unfold finished in refl
 

@@ -11,7 +11,7 @@ use Rattle.asking.specs.declared.{Owner.Owner, Fault.Fault as FaultField, Entry
 use Rattle.transaction.specs.declared.{Head.Head}
 use Rattle.transaction.specs.Head.{Ids, carriedBy, idsOf, origIn, destIn, carriedField}
 use Rattle.components.specs.Rows.{ownedBy}
-use Rattle.layout.specs.Layout.{rowSize, rowsIn, rowsOctets}
+use Rattle.layout.specs.Layout.{rowSize, rowsHeld, rowsOctets}
 use Rattle.reader.specs.declared.{KindRead.KindRead, Frame.Frame, Outline.Outline, Closing.Closing}
 use Rattle.tcap.specs.Meaning.{Dialogue as Dialogues}
 use Rattle.tcap.specs.Productions.{inside6B, externalBody}
@@ -152,9 +152,6 @@ rowsRead h f n (got cs k) = closedWith h cs (closingOf f n k Closed.Done)
 rowsRead h f n (bad g) = refusedBy (carriedField (h .orig) (faultField g))
 
 -- The rows as octets, 24 a row
-
-unfoldable pub rowsHeld : ℕ → List ℕ → List Row
-rowsHeld n l = rowsIn n l ++ replicate (mostComponents - n) blankRow
 
 unfoldable pub assembled : Outline → List ℕ → Reading
 assembled o l = record { outcome = o .outcome; message = record { kind = o .kind; orig = o .orig; dest = o .dest; dialogue = o .dialogue; count = o .count; rows = rowsHeld (o .count) l } }

@@ -1,19 +1,13 @@
 // The reader: one message into its record, or the refusal.
 ghost use mathlib.Core.Path.{_≡_};
-ghost use mathlib.Core.List.{[]};
-ghost use mathlib.Core.Option.{none};
-ghost use Prim.Native.Nat.{_+_, _-_, _≤_};
+ghost use Prim.Native.Nat.{_+_, _≤_};
 ghost use lib.ListN.{length, drop, take};
-ghost use Rattle.element.specs.declared.FaultKind.{FaultKind as FaultKinds};
 ghost use Rattle.element.specs.Head.{endOf};
-ghost use Rattle.element.specs.Ask.{ask, got};
-ghost use Rattle.element.specs.Parts.{onlyBody, seriesBody};
-ghost use Rattle.tcap.specs.WellFormed.{deepestLevel, mostComponents};
-ghost use Rattle.tcap.specs.Productions.{levelAt, componentAt, componentItem, componentsItem};
 ghost use Rattle.tcap.specs.Reading.{reading};
-ghost use Rattle.asking.specs.Asked.{innerOf, closeOf, wholeOf};
-ghost use Rattle.transaction.specs.Head.{carriedField};
-ghost use Rattle.reader.specs.Parts.{outlineOf, rowsHeld, Laid, causeBy, problemBy, answerFrom, refusalFrom, ownedIn, refusedBy, kindOf, closingOf, gathered, rowsRead, leftOut, bareFor, rowsFor, recordRead, finished, readAs};
+ghost use Rattle.asking.specs.Asked.{innerOf, entryOf, closeOf, wholeOf};
+ghost use Rattle.transaction.specs.Head.{carriedField, headGot, headOf};
+ghost use Rattle.reader.specs.Parts.{outlineOf, Laid, causeBy, problemBy, answerFrom, refusalFrom, ownedIn, refusedBy, kindOf, closingOf, gathered, leftOut, bareFor};
+ghost use Rattle.reader.specs.Begun.{counted, turnOf, rowsAt, noHead, acceptedAs, stoppedBy, bareBegun, entered, begunFor, headed, begunIn, begunOf};
 use asking::Closed;
 use asking::Entry;
 use asking::Fault;
@@ -25,6 +19,7 @@ use contents::RowRead;
 use element::EndRead;
 use element::FaultKind;
 use element::number_of;
+use pack::row::put_row;
 use tcap::Answer;
 use tcap::Dialogue;
 use tcap::InvokeId;
@@ -35,10 +30,9 @@ use tcap::Outcome;
 use tcap::Reading;
 use tcap::Record;
 use tcap::Refusal;
-use tcap::Row;
+use tcap::blank_row;
 use transaction::Head;
-use transaction::HeadRead;
-use unpack::row::row_in;
+use transaction::HeadFault;
 
 // The kind of a message by its first octet.
 pub enum KindRead {
@@ -54,11 +48,33 @@ pub struct Frame {
     pub len: usize,
 }
 
-// Where the contents of 6C stand.
+// Where the contents of 6C stand in the message.
 pub struct Portion {
     pub at: usize,
     pub end: usize,
     pub definite: bool,
+}
+
+// What follows the head: no components, the contents of 6C, or a fault before them.
+pub enum Ahead {
+    Bare,
+    Rows,
+    Bad(Fault),
+}
+
+// A message up to its components. No enum holds the head: the fault would lie across it in memory.
+pub struct Begun {
+    pub head: Head,
+    pub frame: Frame,
+    pub portion: Portion,
+    pub ahead: Ahead,
+}
+
+// What a place in 6C asks for.
+pub enum Turn {
+    End,
+    More,
+    Bad(FaultKind),
 }
 
 // What a message is but for its rows.
@@ -193,18 +209,16 @@ fn kind_of(first: u8) -> KindRead
     KindRead::Unknown
 }
 
-// Nothing may stand after 6C, of `size` octets, and then the message must be all there is. Its contents have `before` octets before 6C.
-fn closing_at(frame: Frame, rest: &[u8], before: usize, size: usize) -> Closing
-    requires { ⌜ frame .start + before + length (now rest) ≤ 4096 ⌝ }
-    requires { ⌜ size ≤ length (now rest) ⌝ }
-    ensures { λ r. ⌜ r ≡ closingOf frame before size (closeOf (frame .definite) (drop size (now (rest .entry)))) ⌝ }
+// Nothing may stand after 6C, which ends at `place`, and then the message must be all there is.
+fn closing_at(frame: Frame, message: &[u8], place: usize) -> Closing
+    requires { ⌜ (place ≤ frame .end) × ((frame .end ≤ length (now message)) × (length (now message) ≤ 4096)) ⌝ }
+    ensures { λ r. ⌜ r ≡ closingOf (counted frame) 0 place (closeOf (frame .definite) (drop place (take (frame .end) (now (message .entry))))) ⌝ }
 {
-    let here = frame.start + before + size;
-    match asking::close_at(after(rest, size), frame.definite) {
-        Closed::Unfinished => Closing::Bad(asking::found(FaultKind::CutOff, here)),
-        Closed::Bad(kind) => Closing::Bad(asking::found(kind, here)),
+    match asking::close_at(piece(message, place, frame.end - place), frame.definite) {
+        Closed::Unfinished => Closing::Bad(asking::found(FaultKind::CutOff, place)),
+        Closed::Bad(kind) => Closing::Bad(asking::found(kind, place)),
         Closed::Done => {
-            let whole = asking::whole_size(frame.start, frame.end, frame.definite, before + size);
+            let whole = asking::whole_size(place, frame.end, frame.definite, 0);
             if whole != frame.len {
                 return Closing::Bad(asking::found(FaultKind::OctetsAfter, whole));
             }
@@ -213,144 +227,79 @@ fn closing_at(frame: Frame, rest: &[u8], before: usize, size: usize) -> Closing
     }
 }
 
-// The components, at most 16, each laid out as a row behind those before it; then the end of the message.
-fn gather(
-    rows: &mut [u8],
-    head: Head,
-    frame: Frame,
-    rest: &[u8],
-    before: usize,
-    portion: Portion,
-) -> Outline
-    requires { ⌜ 384 ≤ length (now rows) ⌝ }
-    requires { ⌜ frame .start + before + length (now rest) ≤ 4096 ⌝ }
-    requires { ⌜ (portion .at ≤ portion .end) × (portion .end ≤ length (now rest)) ⌝ }
-    ensures { λ r. ⌜ Laid r (now (rows .exit)) (gathered head frame before (now (rest .entry)) (wholeOf (portion .at) (portion .end) (portion .definite)) (ask (seriesBody (componentAt deepestLevel) FaultKinds.UnknownComponent (componentItem deepestLevel) none mostComponents 0) (portion .definite) (frame .start + before + portion .at) (take (portion .end - portion .at) (drop (portion .at) (now (rest .entry)))))) ⌝ }
+// What a place in 6C asks for, where `count` components stand before it: at least one, at most 16.
+fn turn_at(left: &[u8], definite: bool, count: usize) -> Turn
+    ensures { λ r. ⌜ r ≡ turnOf count (endOf definite (now (left .entry))) ⌝ }
 {
-    let kind = head.kind;
-    let orig = head.orig;
-    let dest = head.dest;
-    let dialogue = head.dialogue;
-    let part = piece(rest, portion.at, portion.end - portion.at);
-    let place = frame.start + before + portion.at;
-    let mut o: usize = 0;
-    let mut count: usize = 0;
-    let mut at: usize = 0;
-    loop {
-        let here = place + at;
-        let left = after(part, at);
-        match element::end_at(left, portion.definite) {
-            EndRead::Ended => {
-                if count == 0 {
-                    return refused(
-                        orig,
-                        Owner::Portion,
-                        asking::found(FaultKind::Missing, here),
-                    );
-                }
-                let size = asking::whole_size(portion.at, portion.end, portion.definite, at);
-                match closing_at(frame, rest, before, size) {
-                    Closing::Bad(fault) => {
-                        return refused(orig, Owner::Portion, fault);
-                    }
-                    Closing::Whole => {
-                        return Outline {
-                            outcome: Outcome::Accepted,
-                            kind: kind,
-                            orig: orig,
-                            dest: dest,
-                            dialogue: dialogue,
-                            count: count,
-                        };
-                    }
-                }
+    match element::end_at(left, definite) {
+        EndRead::Ended => {
+            if count == 0 {
+                return Turn::Bad(FaultKind::Missing);
             }
-            EndRead::Unfinished => {
-                return refused(orig, Owner::Portion, asking::found(FaultKind::CutOff, here));
+            Turn::End
+        }
+        EndRead::Unfinished => Turn::Bad(FaultKind::CutOff),
+        EndRead::More => {
+            if count == 16 {
+                return Turn::Bad(FaultKind::Seventeenth);
             }
-            EndRead::More => {
-                if count == 16 {
-                    return refused(
-                        orig,
-                        Owner::Portion,
-                        asking::found(FaultKind::Seventeenth, here),
-                    );
-                }
-                match components::header_at(left, here, count) {
-                    Opened::Bad(fault) => {
-                        return refused(orig, Owner::Portion, fault);
-                    }
-                    Opened::Open {
-                        first,
-                        at: from,
-                        end: to,
-                        definite: inner,
-                    } => {
-                        let inside = piece(left, from, to - from);
-                        match components::contents_at(rows, o, inside, here + from, inner, first) {
-                            RowRead::Bad(fault) => {
-                                return refused(orig, Owner::Component(count), fault);
-                            }
-                            RowRead::Got { size } => {
-                                o += 24;
-                                count += 1;
-                                at += asking::whole_size(from, to, inner, size);
-                            }
-                        }
-                    }
-                }
-            }
+            Turn::More
         }
     }
 }
 
-// 6C, and nothing after it.
-fn rows_at(rows: &mut [u8], head: Head, frame: Frame, rest: &[u8], before: usize) -> Outline
-    requires { ⌜ 384 ≤ length (now rows) ⌝ }
-    requires { ⌜ frame .start + before + length (now rest) ≤ 4096 ⌝ }
-    ensures { λ r. ⌜ Laid r (now (rows .exit)) (rowsRead head frame before (ask (onlyBody (levelAt deepestLevel 2) (componentsItem deepestLevel)) (frame .definite) (frame .start + before) (now (rest .entry)))) ⌝ }
+// A message that is refused for what stands before its components.
+fn stopped(head: Head, fault: Fault) -> Begun
+    ensures { λ r. ⌜ r ≡ stoppedBy head fault ⌝ }
 {
-    match asking::entry_at(rest, frame.definite, 0x6C) {
-        Entry::Bad(kind) => {
-            let orig = head.orig;
-            let here = frame.start + before;
-            refused(orig, Owner::Portion, asking::found(kind, here))
-        }
-        Entry::Open { at, end, definite } => {
-            let portion = Portion {
-                at: at,
-                end: end,
-                definite: definite,
-            };
-            gather(rows, head, frame, rest, before, portion)
-        }
+    Begun {
+        head: head,
+        frame: Frame {
+            start: 0,
+            end: 0,
+            definite: false,
+            len: 0,
+        },
+        portion: Portion {
+            at: 0,
+            end: 0,
+            definite: false,
+        },
+        ahead: Ahead::Bad(fault),
     }
+}
+
+// The head where none was read.
+fn unheaded(fault: Fault) -> Begun
+    ensures { λ r. ⌜ r ≡ stoppedBy noHead fault ⌝ }
+{
+    let head = Head {
+        kind: MessageKind::Unidirectional,
+        orig: OptionalOrig::NoOrig,
+        dest: OptionalDest::NoDest,
+        dialogue: Dialogue::NoDialogue,
+    };
+    stopped(head, fault)
 }
 
 // A message without components, whose contents have `before` octets.
-fn bare(head: Head, frame: Frame, before: usize) -> Outline
+fn bare(head: Head, frame: Frame, before: usize) -> Begun
     requires { ⌜ frame .start + before ≤ 4096 ⌝ }
-    ensures { λ r. ⌜ r ≡ outlineOf (rowsRead head frame before (got [] 0)) ⌝ }
+    ensures { λ r. ⌜ r ≡ bareBegun head frame before ⌝ }
 {
-    let kind = head.kind;
-    let orig = head.orig;
-    let dest = head.dest;
-    let dialogue = head.dialogue;
     let whole = asking::whole_size(frame.start, frame.end, frame.definite, before);
     if whole != frame.len {
-        return refused(
-            orig,
-            Owner::Portion,
-            asking::found(FaultKind::OctetsAfter, whole),
-        );
+        return stopped(head, asking::found(FaultKind::OctetsAfter, whole));
     }
-    Outline {
-        outcome: Outcome::Accepted,
-        kind: kind,
-        orig: orig,
-        dest: dest,
-        dialogue: dialogue,
-        count: 0,
+    Begun {
+        head: head,
+        frame: frame,
+        portion: Portion {
+            at: 0,
+            end: 0,
+            definite: false,
+        },
+        ahead: Ahead::Bare,
     }
 }
 
@@ -378,49 +327,60 @@ fn is_bare(kind: MessageKind, rest: &[u8], definite: bool) -> bool
     }
 }
 
-// The components that the kind has.
-fn rows_for(
-    rows: &mut [u8],
-    kind: MessageKind,
-    head: Head,
-    frame: Frame,
-    rest: &[u8],
-    before: usize,
-) -> Outline
-    requires { ⌜ 384 ≤ length (now rows) ⌝ }
+// 6C, which must stand here.
+fn rows_at(head: Head, frame: Frame, rest: &[u8], before: usize) -> Begun
     requires { ⌜ frame .start + before + length (now rest) ≤ 4096 ⌝ }
-    ensures { λ r. ⌜ Laid r (now (rows .exit)) (rowsRead head frame before (rowsFor kind (frame .definite) (frame .start + before) (now (rest .entry)))) ⌝ }
+    ensures { λ r. ⌜ r ≡ entered head frame before (entryOf 0x6C (frame .definite) (now (rest .entry))) ⌝ }
+{
+    let here = frame.start + before;
+    match asking::entry_at(rest, frame.definite, 0x6C) {
+        Entry::Bad(kind) => stopped(head, asking::found(kind, here)),
+        Entry::Open { at, end, definite } => Begun {
+            head: head,
+            frame: frame,
+            portion: Portion {
+                at: here + at,
+                end: here + end,
+                definite: definite,
+            },
+            ahead: Ahead::Rows,
+        },
+    }
+}
+
+// The components that the kind has.
+fn rows_for(kind: MessageKind, head: Head, frame: Frame, rest: &[u8], before: usize) -> Begun
+    requires { ⌜ frame .start + before + length (now rest) ≤ 4096 ⌝ }
+    ensures { λ r. ⌜ r ≡ begunFor kind head frame before (now (rest .entry)) ⌝ }
 {
     if is_bare(kind, rest, frame.definite) {
         return bare(head, frame, before);
     }
-    rows_at(rows, head, frame, rest, before)
+    rows_at(head, frame, rest, before)
 }
 
-// The contents of a message of a kind.
-fn record_at(rows: &mut [u8], kind: MessageKind, part: &[u8], frame: Frame) -> Outline
-    requires { ⌜ 384 ≤ length (now rows) ⌝ }
+// The contents of a message of a kind, up to the components.
+fn contents_begun(kind: MessageKind, part: &[u8], frame: Frame) -> Begun
     requires { ⌜ frame .start + length (now part) ≤ 4096 ⌝ }
-    ensures { λ r. ⌜ Laid r (now (rows .exit)) (finished (frame .len) (frame .start) (frame .end) (frame .definite) (recordRead kind (frame .definite) (frame .start) (now (part .entry)))) ⌝ }
+    ensures { λ r. ⌜ r ≡ headed kind frame (now (part .entry)) (headGot kind (headOf kind (frame .definite) (frame .start) (now (part .entry)))) ⌝ }
 {
-    match transaction::head_at(kind, part, frame.start, frame.definite) {
-        HeadRead::Bad(fault) => refused(OptionalOrig::NoOrig, Owner::Portion, fault),
-        HeadRead::Got { head, size } => rows_for(rows, kind, head, frame, after(part, size), size),
+    let read = transaction::head_at(kind, part, frame.start, frame.definite);
+    let head = read.head;
+    let size = read.size;
+    let fault = read.fault;
+    match fault {
+        HeadFault::Bad(found) => stopped(head, found),
+        HeadFault::Sound => rows_for(kind, head, frame, after(part, size), size),
     }
 }
 
-// A message of a kind, whose tag is its first octet.
-fn message_at(rows: &mut [u8], kind: MessageKind, message: &[u8]) -> Outline
-    requires { ⌜ 384 ≤ length (now rows) ⌝ }
+// A message of a kind, whose tag is its first octet, up to its components.
+fn message_begun(kind: MessageKind, message: &[u8]) -> Begun
     requires { ⌜ (length (now message) ≤ 255) × (1 ≤ length (now message)) ⌝ }
-    ensures { λ r. ⌜ Laid r (now (rows .exit)) (readAs kind (now (message .entry)) (innerOf (now (message .entry)) 1)) ⌝ }
+    ensures { λ r. ⌜ r ≡ begunIn kind (now (message .entry)) (innerOf (now (message .entry)) 1) ⌝ }
 {
     match asking::inner_at(message, 1) {
-        Entry::Bad(fault) => refused(
-            OptionalOrig::NoOrig,
-            Owner::Portion,
-            asking::found(fault, 0),
-        ),
+        Entry::Bad(fault) => unheaded(asking::found(fault, 0)),
         Entry::Open { at, end, definite } => {
             let frame = Frame {
                 start: at,
@@ -428,7 +388,98 @@ fn message_at(rows: &mut [u8], kind: MessageKind, message: &[u8]) -> Outline
                 definite: definite,
                 len: message.len(),
             };
-            record_at(rows, kind, piece(message, at, end - at), frame)
+            contents_begun(kind, piece(message, at, end - at), frame)
+        }
+    }
+}
+
+// A message up to its components.
+fn begin(message: &[u8]) -> Begun
+    ensures { λ r. ⌜ r ≡ begunOf (now (message .entry)) ⌝ }
+{
+    let len = message.len();
+    if len > 255 {
+        return unheaded(asking::found(FaultKind::Overlong, 255));
+    }
+    if len == 0 {
+        return unheaded(asking::found(FaultKind::CutOff, 0));
+    }
+    match kind_of(message[0]) {
+        KindRead::Unknown => unheaded(asking::found(FaultKind::NoMessage, 0)),
+        KindRead::Kind(kind) => message_begun(kind, message),
+    }
+}
+
+// What is accepted, with so many components.
+fn accepted(known: Head, count: usize) -> Outline
+    ensures { λ r. ⌜ r ≡ acceptedAs known count ⌝ }
+{
+    let kind = known.kind;
+    let orig = known.orig;
+    let dest = known.dest;
+    let dialogue = known.dialogue;
+    Outline {
+        outcome: Outcome::Accepted,
+        kind: kind,
+        orig: orig,
+        dest: dest,
+        dialogue: dialogue,
+        count: count,
+    }
+}
+
+// The components, at most 16, each laid out as a row behind those before it; then the end of the message.
+fn gather(rows: &mut [u8], message: &[u8], head: Head, frame: Frame, portion: Portion) -> Outline
+    requires { ⌜ 384 ≤ length (now rows) ⌝ }
+    requires { ⌜ (portion .at ≤ portion .end) × (portion .end ≤ frame .end) × (frame .end ≤ length (now message)) × (length (now message) ≤ 255) ⌝ }
+    ensures { λ r. ⌜ Laid r (now (rows .exit)) (gathered head (counted frame) 0 (take (frame .end) (now (message .entry))) (wholeOf (portion .at) (portion .end) (portion .definite)) (rowsAt (now (message .entry)) portion)) ⌝ }
+{
+    let orig = head.orig;
+    let part = piece(message, portion.at, portion.end - portion.at);
+    let mut o: usize = 0;
+    let mut count: usize = 0;
+    let mut at: usize = 0;
+    loop {
+        let here = portion.at + at;
+        let left = after(part, at);
+        match turn_at(left, portion.definite, count) {
+            Turn::Bad(kind) => {
+                return refused(orig, Owner::Portion, asking::found(kind, here));
+            }
+            Turn::End => {
+                let place = asking::whole_size(portion.at, portion.end, portion.definite, at);
+                match closing_at(frame, message, place) {
+                    Closing::Bad(fault) => {
+                        return refused(orig, Owner::Portion, fault);
+                    }
+                    Closing::Whole => {
+                        return accepted(head, count);
+                    }
+                }
+            }
+            Turn::More => match components::header_at(left, here, count) {
+                Opened::Bad(fault) => {
+                    return refused(orig, Owner::Portion, fault);
+                }
+                Opened::Open {
+                    first,
+                    at: from,
+                    end: to,
+                    definite: inner,
+                } => {
+                    let inside = piece(left, from, to - from);
+                    match components::contents_at(inside, here + from, inner, first) {
+                        RowRead::Bad(fault) => {
+                            return refused(orig, Owner::Component(count), fault);
+                        }
+                        RowRead::Got { row, size } => {
+                            o = put_row(rows, o, row);
+                            count += 1;
+                            at += asking::whole_size(from, to, inner, size);
+                        }
+                    }
+                }
+            },
         }
     }
 }
@@ -438,68 +489,139 @@ pub fn read_rows(message: &[u8], rows: &mut [u8]) -> Outline
     requires { ⌜ 384 ≤ length (now rows) ⌝ }
     ensures { λ r. ⌜ Laid r (now (rows .exit)) (reading (now (message .entry))) ⌝ }
 {
-    let len = message.len();
-    if len > 255 {
-        return refused(
-            OptionalOrig::NoOrig,
-            Owner::Portion,
-            asking::found(FaultKind::Overlong, 255),
-        );
-    }
-    if len == 0 {
-        return refused(
-            OptionalOrig::NoOrig,
-            Owner::Portion,
-            asking::found(FaultKind::CutOff, 0),
-        );
-    }
-    match kind_of(message[0]) {
-        KindRead::Unknown => refused(
-            OptionalOrig::NoOrig,
-            Owner::Portion,
-            asking::found(FaultKind::NoMessage, 0),
-        ),
-        KindRead::Kind(kind) => message_at(rows, kind, message),
+    let begun = begin(message);
+    let head = begun.head;
+    let ahead = begun.ahead;
+    match ahead {
+        Ahead::Bad(fault) => {
+            let orig = head.orig;
+            refused(orig, Owner::Portion, fault)
+        }
+        Ahead::Bare => accepted(head, 0),
+        Ahead::Rows => {
+            let frame = begun.frame;
+            let portion = begun.portion;
+            gather(rows, message, head, frame, portion)
+        }
     }
 }
 
-// The rows that octets hold, and blank rows behind them.
-fn rows_in(octets: &[u8], count: usize) -> [Row; 16]
-    requires { ⌜ (384 ≤ length (now octets)) × (count ≤ 16) ⌝ }
-    ensures { λ r. ⌜ r ≡ rowsHeld count (now (octets .entry)) ⌝ }
-{
-    let blank = components::blank();
-    let mut rows = [blank; 16];
-    let mut i = 0;
-    while i < count {
-        let row = row_in(after(octets, i * 24));
-        rows[i] = row;
-        i += 1;
-    }
-    rows
-}
-
-// The same as one record.
+// The same as one record. It is made in one place: a call that hands a record back copies it, and sixteen rows with it.
 pub fn read(message: &[u8]) -> Reading
     ensures { λ r. ⌜ r ≡ reading (now (message .entry)) ⌝ }
 {
-    let mut octets = [0u8; 384];
-    let outline = read_rows(message, &mut octets);
-    let outcome = outline.outcome;
-    let kind = outline.kind;
-    let orig = outline.orig;
-    let dest = outline.dest;
-    let dialogue = outline.dialogue;
-    let count = outline.count;
-    let rows = rows_in(&octets, count);
+    let begun = begin(message);
+    let head = begun.head;
+    let frame = begun.frame;
+    let portion = begun.portion;
+    let kind = head.kind;
+    let orig = head.orig;
+    let dest = head.dest;
+    let dialogue = head.dialogue;
+    let blank = blank_row();
+    // A row taken from a place that the compiler does not know is copied as a whole, and not field by field.
+    let two = [blank; 2];
+    let row = two[message.len() % 2];
+    let mut rows = [row; 16];
+    let mut fault = asking::found(FaultKind::CutOff, 0);
+    let mut owner = Owner::Portion;
+    let ahead = begun.ahead;
+    match ahead {
+        Ahead::Bad(early) => {
+            fault = early;
+        }
+        Ahead::Bare => {
+            return Reading {
+                outcome: Outcome::Accepted,
+                message: Record {
+                    kind: kind,
+                    orig: orig,
+                    dest: dest,
+                    dialogue: dialogue,
+                    count: 0,
+                    rows: rows,
+                },
+            };
+        }
+        Ahead::Rows => {
+            let part = piece(message, portion.at, portion.end - portion.at);
+            let mut count: usize = 0;
+            let mut at: usize = 0;
+            loop {
+                let here = portion.at + at;
+                let left = after(part, at);
+                match turn_at(left, portion.definite, count) {
+                    Turn::Bad(why) => {
+                        fault = asking::found(why, here);
+                        break;
+                    }
+                    Turn::End => {
+                        let place = asking::whole_size(
+                            portion.at,
+                            portion.end,
+                            portion.definite,
+                            at,
+                        );
+                        match closing_at(frame, message, place) {
+                            Closing::Bad(late) => {
+                                fault = late;
+                                break;
+                            }
+                            Closing::Whole => {
+                                return Reading {
+                                    outcome: Outcome::Accepted,
+                                    message: Record {
+                                        kind: kind,
+                                        orig: orig,
+                                        dest: dest,
+                                        dialogue: dialogue,
+                                        count: count,
+                                        rows: rows,
+                                    },
+                                };
+                            }
+                        }
+                    }
+                    Turn::More => match components::header_at(left, here, count) {
+                        Opened::Bad(late) => {
+                            fault = late;
+                            break;
+                        }
+                        Opened::Open {
+                            first,
+                            at: from,
+                            end: to,
+                            definite: inner,
+                        } => {
+                            let inside = piece(left, from, to - from);
+                            match components::contents_at(inside, here + from, inner, first) {
+                                RowRead::Bad(late) => {
+                                    fault = late;
+                                    owner = Owner::Component(count);
+                                    break;
+                                }
+                                RowRead::Got { row: next, size } => {
+                                    rows[count] = next;
+                                    count += 1;
+                                    at += asking::whole_size(from, to, inner, size);
+                                }
+                            }
+                        }
+                    },
+                }
+            }
+        }
+    }
+    let refusal = refusal_of(transaction::carried_by(orig, owned_in(owner, fault)));
+    rows = [row; 16];
     Reading {
-        outcome: outcome,
+        outcome: Outcome::Refused(refusal),
         message: Record {
-            kind: kind,
-            orig: orig,
-            dest: dest,
-            dialogue: dialogue,
-            count: count,
+            kind: MessageKind::Unidirectional,
+            orig: OptionalOrig::NoOrig,
+            dest: OptionalDest::NoDest,
+            dialogue: Dialogue::NoDialogue,
+            count: 0,
             rows: rows,
         },
     }

@@ -4,8 +4,7 @@ use mathlib.Core.Path.{_≡_, refl}
 use mathlib.Core.List.{List}
 use lib.ListN.{getD}
 use Rattle.tcap.specs.Record.{blankRow}
-use Rattle.layout.specs.Layout.{rowIn, rowsIn}
-use Rattle.reader.specs.Parts.{rowsHeld}
+use Rattle.layout.specs.Layout.{rowIn, rowsIn, rowsHeld}
 use Rattle.steering.specs.Steering.{firstOf}
 
 pub first-laid : (n : ℕ) (l : List ℕ) → firstOf n (rowIn l .kind) ≡ firstOf n (getD (rowsHeld n l) 0 blankRow .kind)

@@ -1,6 +1,6 @@
 // The record of a TCAP message, and what reading answers. A string of a record is a place and a length in the octets beside it.
 ghost use mathlib.Core.Path.{_≡_};
-ghost use Rattle.tcap.specs.Record.{messageTag};
+ghost use Rattle.tcap.specs.Record.{blankRow, messageTag};
 use element::FaultKind;
 
 pub struct Span {
@@ -84,6 +84,20 @@ pub enum ComponentKind {
 pub struct Row {
     pub id: InvokeId,
     pub kind: ComponentKind,
+}
+
+// The row where there is no component.
+pub fn blank_row() -> Row
+    ensures { λ r. ⌜ r ≡ blankRow ⌝ }
+{
+    Row {
+        id: InvokeId::Null,
+        kind: ComponentKind::Invoke {
+            linked: LinkedId::Unlinked,
+            code: Code::Local(0),
+            parameter: OptionalSpan::Absent,
+        },
+    }
 }
 
 // Who diagnosed, of a dialogue response: the user (A1) or the provider (A2).

@@ -8,7 +8,7 @@ use Rattle.tcap.specs.{declared.MessageKind.MessageKind, declared.OptionalOrig.
 use Rattle.tcap.specs.declared.Dialogue.{Dialogue}
 use Rattle.asking.specs.Asked.{front, faultField, innerOf, wholeOf, begins, leafOf, closeOf}
 use Rattle.asking.specs.declared.{Owner.Owner, Fault.Fault as FaultField, Entry.Entry, Field.Field, Next.Next, Closed.Closed}
-use Rattle.transaction.specs.declared.{IdRead.IdRead, IdsRead.IdsRead, HeadRead.HeadRead}
+use Rattle.transaction.specs.declared.{IdRead.IdRead, IdsRead.IdsRead, HeadFault.HeadFault, HeadRead.HeadRead}
 use Rattle.dialogue.specs.{declared.DialogueRead.DialogueRead, Reads.dialogueGot}
 use Rattle.tcap.specs.Meaning.{Dialogue as Dialogues}
 use Rattle.tcap.specs.Productions.{inside6B, externalBody}
@@ -122,6 +122,10 @@ unfoldable pub carriedField : OptionalOrig → FaultField → FaultField
 carriedField OptionalOrig.NoOrig f = f
 carriedField (OptionalOrig.Orig o) f = givenOrig f (OptionalOrig.Orig o)
 
+-- where there is a fault, the head says nothing but the kind
+unfoldable pub spoiltBy : MessageKind → FaultField → HeadRead
+spoiltBy k g = record { head = record { kind = k; orig = OptionalOrig.NoOrig; dest = OptionalDest.NoDest; dialogue = Dialogue.NoDialogue }; size = 0; fault = HeadFault.Bad g }
+
 unfoldable pub headGot : MessageKind → Got (Ids × Dialogue) → HeadRead
-headGot k (got h n) = HeadRead.Got (record { kind = k; orig = origIn (h .0 .0); dest = destIn (h .0 .1); dialogue = h .1 }) n
-headGot k (bad f) = HeadRead.Bad (faultField f)
+headGot k (got h n) = record { head = record { kind = k; orig = origIn (h .0 .0); dest = destIn (h .0 .1); dialogue = h .1 }; size = n; fault = HeadFault.Sound }
+headGot k (bad f) = spoiltBy k (faultField f)

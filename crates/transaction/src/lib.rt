@@ -11,7 +11,7 @@ ghost use Rattle.tcap.specs.declared.MessageKind.{MessageKind as MessageKinds};
 ghost use Rattle.tcap.specs.WellFormed.{deepestLevel, idOk};
 ghost use Rattle.tcap.specs.Productions.{levelAt};
 ghost use Rattle.asking.specs.Asked.{front, innerOf, leafOf, nextOf, closeOf};
-ghost use Rattle.transaction.specs.Head.{idGot, idsGot, idsOf, givenOrig, origFrom, destFrom, portionIn, portionGot, portionRead, causeIn, stopIn, shutIn, endingIn, portionFor, carriedField, headGot, headOf};
+ghost use Rattle.transaction.specs.Head.{idGot, idsGot, idsOf, givenOrig, origFrom, destFrom, portionIn, portionGot, portionRead, causeIn, stopIn, shutIn, endingIn, portionFor, carriedField, spoiltBy, headGot, headOf};
 use asking::Closed;
 use asking::Entry;
 use asking::Fault;
@@ -59,9 +59,17 @@ pub struct Head {
     pub dialogue: Dialogue,
 }
 
-pub enum HeadRead {
-    Got { head: Head, size: usize },
+// Whether what stands before the components has a fault.
+pub enum HeadFault {
+    Sound,
     Bad(Fault),
+}
+
+// What stands before the components and how many octets it takes; where there is a fault, a head that says nothing but the kind. No enum: a fault would lie across the head in memory.
+pub struct HeadRead {
+    pub head: Head,
+    pub size: usize,
+    pub fault: HeadFault,
 }
 
 // A fault that was found after the originating ID was read.
@@ -372,6 +380,23 @@ pub fn carried_by(orig: OptionalOrig, fault: Fault) -> Fault
     }
 }
 
+// A fault before the components.
+fn spoilt(kind: MessageKind, fault: Fault) -> HeadRead
+    ensures { λ r. ⌜ r ≡ spoiltBy kind fault ⌝ }
+{
+    let head = Head {
+        kind: kind,
+        orig: OptionalOrig::NoOrig,
+        dest: OptionalDest::NoDest,
+        dialogue: Dialogue::NoDialogue,
+    };
+    HeadRead {
+        head: head,
+        size: 0,
+        fault: HeadFault::Bad(fault),
+    }
+}
+
 // What stands before the components.
 pub fn head_at(kind: MessageKind, part: &[u8], place: usize, definite: bool) -> HeadRead
     requires { ⌜ place + length (now part) ≤ 4096 ⌝ }
@@ -382,10 +407,10 @@ pub fn head_at(kind: MessageKind, part: &[u8], place: usize, definite: bool) -> 
             orig: early,
             kind: fault,
             place: there,
-        } => HeadRead::Bad(carried_by(early, asking::found(fault, there))),
+        } => spoilt(kind, carried_by(early, asking::found(fault, there))),
         IdsRead::Got { orig, dest, size } => {
             match portion_for(kind, after(part, size), place + size, definite) {
-                DialogueRead::Bad(fault) => HeadRead::Bad(carried_by(orig, fault)),
+                DialogueRead::Bad(fault) => spoilt(kind, carried_by(orig, fault)),
                 DialogueRead::Got {
                     dialogue,
                     size: more,
@@ -397,9 +422,10 @@ pub fn head_at(kind: MessageKind, part: &[u8], place: usize, definite: bool) -> 
                         dest: dest,
                         dialogue: dialogue,
                     };
-                    HeadRead::Got {
+                    HeadRead {
                         head: head,
                         size: whole,
+                        fault: HeadFault::Sound,
                     }
                 }
             }

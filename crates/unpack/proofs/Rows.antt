@@ -1,13 +1,15 @@
--- One row more of those that are looked at, and each row by its number. Assumes nothing.
+-- One row more of those that are looked at or held, and each row by its number. Assumes nothing.
 use Prim.Native.Nat.{ℕ, zero, suc, _+_, _-_, _*_, _≤_, _<_}
 use native.Mathlib.Omega.{arith}
+use native.Mathlib.Numerals.{add-one}
 use mathlib.Core.Path.{_≡_, refl, sym, ap, _∙_}
 use mathlib.Core.Bool.{Bool, true, false, _&&_}
-use mathlib.Core.List.{List, [], _∷_}
-use lib.ListN.{length, drop, getD, length-drop}
-use lib.Seq.{drop-drop}
+use mathlib.Core.List.{List, [], _∷_, _++_}
+use lib.ListN.{length, drop, getD, set, replicate, length-drop}
+use lib.Seq.{set-at, append-snoc, drop-drop}
 use Rattle.tcap.specs.declared.{Row.Row}
-use Rattle.layout.specs.Layout.{headSize, rowSize, mostRows, recordSize, isRow, rowIn, areRows, rowsIn}
+use Rattle.tcap.specs.Record.{blankRow}
+use Rattle.layout.specs.Layout.{headSize, rowSize, mostRows, recordSize, isRow, rowIn, areRows, rowsIn, rowsHeld}
 
 module _ (l : List ℕ) where
   -- from row i on
@@ -51,3 +53,18 @@ rows-nth (suc n) (suc i) m d h = let e : rowSize + i * rowSize ≡ suc i * rowSi
 -- row i, of n
 pub row-at : (l : List ℕ) (n i : ℕ) (d : Row) → i < n → rowIn (rowsFrom l i) ≡ getD (rowsIn n (drop headSize l)) i d
 row-at l n i d h = sym (rows-nth n i (drop headSize l) d h ∙ ap rowIn (drop-drop (i * rowSize) headSize l))
+
+-- A row more, taken from the octets
+
+rows-more : (i : ℕ) (m : List ℕ) → rowsIn (suc i) m ≡ rowsIn i m ++ (rowIn (drop (i * rowSize) m) ∷ [])
+unfolding rowsIn
+rows-more zero m = refl
+rows-more (suc i) m = let e : rowSize + i * rowSize ≡ suc i * rowSize = omega arith in ap (λ (t : List Row). rowIn m ∷ t) (rows-more i (drop rowSize m) ∙ ap (λ (t : List ℕ). rowsIn i (drop rowSize m) ++ (rowIn t ∷ [])) (drop-drop (i * rowSize) rowSize m ∙ ap (λ (k : ℕ). drop k m) e))
+
+-- stored where the first blank row was
+pub rows-step : (l : List ℕ) (i : ℕ) → i < mostRows → set (rowsHeld i l) i (rowIn (drop (i * rowSize) l)) ≡ rowsHeld (i + 1) l
+unfolding rowsHeld
+rows-step l i h =
+    let e : mostRows - i ≡ suc (mostRows - (i + 1)) = omega arith in
+    rw (e, add-one i, rows-more i l, append-snoc)
+    (set-at (rowsIn i l) blankRow (replicate (mostRows - suc i) blankRow) (rowIn (drop (i * rowSize) l)) i (rows-length i l))

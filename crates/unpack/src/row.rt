@@ -4,10 +4,11 @@ ghost use mathlib.Core.Bool.{_&&_};
 ghost use Prim.Native.Nat.{_≤_};
 ghost use lib.ListN.{length, getD};
 ghost use Rattle.tcap.specs.declared.ComponentKind.{ComponentKind as ComponentKinds};
-ghost use Rattle.layout.specs.Layout.{isFlag, idIn, linkedIn, isCodeTag, codeAt, parameterAt, isProblemTag, problemIn, isCoded, isReturned, returnedIn, isKind, kindIn, isRow, rowIn};
+ghost use Rattle.layout.specs.Layout.{isFlag, idIn, linkedIn, isCodeTag, codeAt, parameterAt, isProblemTag, problemIn, isCoded, isReturned, returnedIn, isKind, kindIn, isRow, rowIn, rowsHeld};
 use crate::number::number_at;
 use crate::number::optional_at;
 use crate::number::span_at;
+use base::after;
 use primitive::signed;
 use primitive::signed_octet;
 use tcap::Code;
@@ -17,6 +18,7 @@ use tcap::LinkedId;
 use tcap::Problem;
 use tcap::Returned;
 use tcap::Row;
+use tcap::blank_row;
 
 fn id_in(flag: u8, octet: u8) -> InvokeId
     ensures { λ r. ⌜ r ≡ idIn flag octet ⌝ }
@@ -133,6 +135,22 @@ pub fn row_in(part: &[u8]) -> Row
     let id = id_in(part[1], part[2]);
     let kind = kind_in(part[0], part);
     Row { id: id, kind: kind }
+}
+
+// The rows that octets hold, and blank rows behind them.
+pub fn rows_in(octets: &[u8], count: usize) -> [Row; 16]
+    requires { ⌜ (384 ≤ length (now octets)) × (count ≤ 16) ⌝ }
+    ensures { λ r. ⌜ r ≡ rowsHeld count (now (octets .entry)) ⌝ }
+{
+    let blank = blank_row();
+    let mut rows = [blank; 16];
+    let mut i = 0;
+    while i < count {
+        let row = row_in(after(octets, i * 24));
+        rows[i] = row;
+        i += 1;
+    }
+    rows
 }
 
 fn is_code_tag(tag: u8) -> bool

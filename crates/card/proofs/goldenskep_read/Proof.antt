@@ -10,7 +10,7 @@ use Rattle.base.proofs.Puts.{put-front, put-then, put-length}
 use Rattle.tcap.specs.declared.{Outcome.Outcome, Reading.Reading}
 use Rattle.tcap.specs.Reading.{reading}
 use Rattle.reader.specs.Parts.{assembled}
-use Rattle.reader.proofs.Few.{outline-few}
+use Rattle.card.proofs.Few.{outline-few}
 use Rattle.card.specs.Answer.{outcomeBits, readAnswer, recordRoom, readRoom}
 use Rattle.card.proofs.Kept.{laid-most, laid-record, laid-outcome}
 use Rattle.card.proofs.goldenskep_read.Statement.{statement}

@@ -25,58 +25,33 @@ either false = refl
 invoke-at-requires : tie.Need-invoke-at-requires
 invoke-at-requires c κs = search needs
 
-same-length : tie.Need-same-length
-same-length c = search needs
-
 returns : tie.Need-returns
 unfolding bodyOf
-returns c = rw (eq-eqb _ _ (c .before .before .before .before .if1 .taken)) (c .before .before .invoke-at .ensures)
+returns c = rw (eq-eqb _ _ (c .before .if1 .taken)) (c .invoke-at .ensures)
 
 error-at-requires : tie.Need-error-at-requires
 error-at-requires c κs = search needs
 
-same-length-2 : tie.Need-same-length-2
-same-length-2 c = search needs
-
 returns-2 : tie.Need-returns-2
 unfolding bodyOf
-returns-2 c = rw (ne-eqb _ _ (c .before .before .before .before .before .if1 .left), other _ 0xA2 (c .before .before .before .before .if2 .taken) refl, eq-eqb _ _ (c .before .before .before .before .if2 .taken)) (c .before .before .error-at .ensures)
+returns-2 c = rw (ne-eqb _ _ (c .before .before .if1 .left), other _ 0xA2 (c .before .if2 .taken) refl, eq-eqb _ _ (c .before .if2 .taken)) (c .error-at .ensures)
 
 reject-at-requires : tie.Need-reject-at-requires
 reject-at-requires c κs = search needs
 
-same-length-3 : tie.Need-same-length-3
-same-length-3 c = search needs
-
 returns-3 : tie.Need-returns-3
 unfolding bodyOf
 returns-3 c =
-    rw (ne-eqb _ _ (c .before .before .before .before .before .before .if1 .left), other _ 0xA2 (c .before .before .before .before .if3 .taken) refl, ne-eqb _ _ (c .before .before .before .before .before .if2 .left), eq-eqb _ _ (c .before .before .before .before .if3 .taken)) (c .before .before .reject-at .ensures)
+    rw (ne-eqb _ _ (c .before .before .before .if1 .left), other _ 0xA2 (c .before .if3 .taken) refl, ne-eqb _ _ (c .before .before .if2 .left), eq-eqb _ _ (c .before .if3 .taken)) (c .reject-at .ensures)
 
 result-at-requires : tie.Need-result-at-requires
 result-at-requires c κs = search needs
 
-same-length-4 : tie.Need-same-length-4
-same-length-4 c = search needs
-
 returns-4 : tie.Need-returns-4
 unfolding bodyOf
 returns-4 c =
-    rw (ne-eqb _ _ (c .before .before .before .before .before .before .if1 .left), ne-eqb _ _ (c .before .before .before .before .before .if2 .left), ne-eqb _ _ (c .before .before .before .before .if3 .left), either) (c .before .before .result-at .ensures)
+    rw (ne-eqb _ _ (c .before .before .before .if1 .left), ne-eqb _ _ (c .before .before .if2 .left), ne-eqb _ _ (c .before .if3 .left), either) (c .result-at .ensures)
 
 pub contents-at-spec : {M : Type 1} → statement M
 contents-at-spec =
-    tie.close
-    (tie.spec
-    invoke-at-requires
-    same-length
-    returns
-    error-at-requires
-    same-length-2
-    returns-2
-    reject-at-requires
-    same-length-3
-    returns-3
-    result-at-requires
-    same-length-4
-    returns-4)
+    tie.close (tie.spec invoke-at-requires returns error-at-requires returns-2 reject-at-requires returns-3 result-at-requires returns-4)

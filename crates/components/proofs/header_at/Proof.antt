@@ -1,90 +1,37 @@
 -- `header_at` meets its contract. Assumes nothing.
 use mathlib.Core.Path.{sym, _∙_}
-use borrow.Author.Needs.{needs}
+use native.Mathlib.Omega.{arith}
 use borrow.Author.Tests.{not-true, not-false}
-use Rattle.asking.proofs.Sizes.{next-size}
-use Rattle.components.specs.Rows.{headerOf}
+use Rattle.components.proofs.Headed.{some-stands, one-stands, none-stands}
+use borrow.Author.Needs.{needs}
 use Rattle.components.proofs.header_at.Statement.{statement}
 use Rattle.components.proofs.header_at.Tie as tie
 
+stands-requires : tie.Need-stands-requires
+stands-requires c κs = search needs
+
+header-fault-requires : tie.Need-header-fault-requires
+header-fault-requires c κs = search needs
+
 returns : tie.Need-returns
-unfolding headerOf
-returns c = rw (← (c .before .before .before .before .before .before .before .next-at .ensures), c .before .before .before .before .before .first .given .1, sym (c .before .before .before .is-component .ensures) ∙ not-true _ (c .before .before .if1 .taken), c .owned-by2 .ensures, c .before .found4 .ensures)
+returns c = rw (c .header-fault .ensures) (sym (none-stands _ _ _ (sym (c .before .before .stands .ensures) ∙ not-true _ (c .before .if1 .taken))))
+
+shared-slice-read-inside-at : tie.Need-shared-slice-read-inside-at
+shared-slice-read-inside-at c = omega (arith, some-stands _ (sym (c .before .before .stands .ensures) ∙ not-false _ (c .before .if1 .left)))
 
 inside-at-requires : tie.Need-inside-at-requires
-inside-at-requires c κs = next-size _ _ _ _ (sym (c .before .before .before .before .before .next-at .ensures) ∙ c .before .before .before .first .given .1) .1
+inside-at-requires c κs = some-stands _ (sym (c .before .before .stands .ensures) ∙ not-false _ (c .before .if1 .left))
 
 returns-2 : tie.Need-returns-2
-unfolding headerOf
-returns-2 c = rw (← (c .before .before .before .next-at .ensures), c .before .enum-told .given .1, c .found .ensures)
-
-returns-3 : tie.Need-returns-3
-unfolding headerOf
-returns-3 c = rw (← (c .before .before .before .next-at .ensures), c .before .enum-told2 .given .1, c .found2 .ensures)
-
-returns-4 : tie.Need-returns-4
-unfolding headerOf
-returns-4 c = rw (← (c .before .before .before .before .before .next-at .ensures), c .before .before .before .kind .given .1, c .owned-by .ensures, c .before .found3 .ensures)
-
-returns-5 : tie.Need-returns-5
-unfolding headerOf
-returns-5 c = rw (← (c .before .before .before .before .before .before .next-at .ensures), c .before .before .before .before .first .given .1, sym (c .before .before .is-component .ensures) ∙ not-false _ (c .before .if1 .left)) (c .inside-at .ensures)
-
-next-at-requires : tie.Need-next-at-requires
-next-at-requires c κs = search needs
-
-enum-told : tie.Need-enum-told
-enum-told c = search needs
-
-found-requires : tie.Need-found-requires
-found-requires c κs = search needs
-
-enum-told-2 : tie.Need-enum-told-2
-enum-told-2 c = search needs
-
-found-requires-2 : tie.Need-found-requires-2
-found-requires-2 c κs = search needs
-
-enum-known-kind : tie.Need-enum-known-kind
-enum-known-kind c = search needs
-
-found-requires-3 : tie.Need-found-requires-3
-found-requires-3 c κs = search needs
-
-owned-by-requires : tie.Need-owned-by-requires
-owned-by-requires c κs = search needs
-
-enum-known-first : tie.Need-enum-known-first
-enum-known-first c = search needs
-
-is-component-requires : tie.Need-is-component-requires
-is-component-requires c κs = search needs
-
-found-requires-4 : tie.Need-found-requires-4
-found-requires-4 c κs = search needs
-
-owned-by-requires-2 : tie.Need-owned-by-requires-2
-owned-by-requires-2 c κs = search needs
+returns-2 c = c .inside-at .ensures ∙ sym (one-stands _ _ _ (sym (c .before .before .before .stands .ensures) ∙ not-false _ (c .before .before .if1 .left)))
 
 pub header-at-spec : {M : Type 1} → statement M
 header-at-spec =
     tie.close
     (tie.spec
-    next-at-requires
-    enum-told
-    found-requires
-    enum-told-2
-    found-requires-2
-    enum-known-kind
-    found-requires-3
-    owned-by-requires
-    enum-known-first
-    is-component-requires
-    found-requires-4
-    owned-by-requires-2
+    stands-requires
+    header-fault-requires
     returns
+    shared-slice-read-inside-at
     inside-at-requires
-    returns-2
-    returns-3
-    returns-4
-    returns-5)
+    returns-2)

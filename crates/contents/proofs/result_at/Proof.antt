@@ -16,11 +16,11 @@ use Rattle.fields.proofs.Told.{id-bad, id-got}
 use Rattle.contents.proofs.Joined.{bound-first, bound-later, bound-got}
 use Rattle.element.specs.Parts.{lastBody}
 use Rattle.tcap.specs.Productions.{levelAt, idItem, bothItem}
-use Rattle.contents.specs.Contents.{resultFor}
+use Rattle.contents.specs.Contents.{resultFor, resultField}
 use Rattle.contents.proofs.Found.{last-found}
-use Rattle.contents.proofs.Told.{both-bad, both-got, bad-laid, got-laid}
+use Rattle.contents.proofs.Told.{both-bad, both-got, bad-row, got-row}
 use Rattle.contents.proofs.Fitted.{id-fit, both-fits}
-use Rattle.contents.proofs.Joined.{resultRow, result-row, result-octets, result-fit}
+use Rattle.contents.proofs.Joined.{result-row}
 use Rattle.contents.proofs.result_at.Tie as tie
 
 octet-id-requires : tie.Need-octet-id-requires
@@ -32,21 +32,21 @@ enum-known-fault c = search needs
 
 returns : tie.Need-returns
 returns c =
-    bad-laid (bound-first some idItem (lastBody (levelAt deepestLevel 4) (bothItem deepestLevel)) (λ v. resultFor (c .before .before .before .before .before .before .args .last) (v .0) (v .1)) _ _ _ (id-bad _ _ (c .before .before .before .octet-id .ensures) _ (c .before .fault .given .1)))
+    bad-row (bound-first some idItem (lastBody (levelAt deepestLevel 4) (bothItem deepestLevel)) (λ v. resultFor (c .before .before .before .before .before .args .last) (v .0) (v .1)) _ _ _ (id-bad _ _ (c .before .before .before .octet-id .ensures) _ (c .before .fault .given .1)))
 
 enum-known-id : tie.Need-enum-known-id
 enum-known-id c = search needs
 
 add-here : tie.Need-add-here
 add-here c =
-    omega (arith, c .before .before .before .before .before .before .pre .1, fit-got _ _ _ _ _ (id-fit 0x02) (id-got _ _ (c .before .before .before .octet-id .ensures) _ _ (c .before .id .given .1)))
+    omega (arith, c .before .before .before .before .before .pre, fit-got _ _ _ _ _ (id-fit 0x02) (id-got _ _ (c .before .before .before .octet-id .ensures) _ _ (c .before .id .given .1)))
 
 after-requires : tie.Need-after-requires
 after-requires c κs = fit-got _ _ _ _ _ (id-fit 0x02) (id-got _ _ (c .before .before .before .octet-id .ensures) _ _ (c .before .id .given .1))
 
 both-at-requires : tie.Need-both-at-requires
 both-at-requires c κs =
-    omega (arith, c .before .before .before .before .before .before .before .pre .1, fit-got _ _ _ _ _ (id-fit 0x02) (id-got _ _ (c .before .before .before .before .octet-id .ensures) _ _ (c .before .before .id .given .1)), simp length-drop at (ap length (c .after .ensures)))
+    omega (arith, c .before .before .before .before .before .before .pre, fit-got _ _ _ _ _ (id-fit 0x02) (id-got _ _ (c .before .before .before .before .octet-id .ensures) _ _ (c .before .before .id .given .1)), simp length-drop at (ap length (c .after .ensures)))
 
 enum-known-kind : tie.Need-enum-known-kind
 enum-known-kind c = search needs
@@ -60,27 +60,22 @@ with-id-requires c κs = search needs
 returns-2 : tie.Need-returns-2
 returns-2 c =
     let first = (id-got _ _ (c .before .before .before .before .before .before .before .before .before .before .octet-id .ensures) _ _ (c .before .before .before .before .before .before .before .before .id .given .1)) in
-    bad-laid (bound-later some idItem (lastBody (levelAt deepestLevel 4) (bothItem deepestLevel)) (λ v. resultFor (c .before .before .before .before .before .before .before .before .before .before .before .before .before .args .last) (v .0) (v .1)) _ _ _ first _ (c .before .before .before .before .before .before .after .ensures) _ (ap InvokeId.Id (toZ-ofZ {w = w8} {z = c .before .before .before .before .before .before .before .before .id .given .0 .0} (record { sfits = c .before .before .before .before .before .before .before .known-told2 .given .0 .1 }) ∙ first .2)) (rw (c .before .found .ensures) at (c .with-id .ensures)) (both-bad (last-found _ _ _) _ (c .before .before .before .before .before .both-at .ensures) _ _ (c .before .before .before .kind .given .1)))
+    bad-row (bound-later some idItem (lastBody (levelAt deepestLevel 4) (bothItem deepestLevel)) (λ v. resultFor (c .before .before .before .before .before .before .before .before .before .before .before .before .args .last) (v .0) (v .1)) _ _ _ first _ (c .before .before .before .before .before .before .after .ensures) _ (ap InvokeId.Id (toZ-ofZ {w = w8} {z = c .before .before .before .before .before .before .before .before .id .given .0 .0} (record { sfits = c .before .before .before .before .before .before .before .known-told2 .given .0 .1 }) ∙ first .2)) (rw (c .before .found .ensures) at (c .with-id .ensures)) (both-bad (last-found _ _ _) _ (c .before .before .before .before .before .both-at .ensures) _ _ (c .before .before .before .kind .given .1)))
 
 enum-known-both : tie.Need-enum-known-both
 enum-known-both c = search needs
 
-result-tag-requires : tie.Need-result-tag-requires
-result-tag-requires c κs = search needs
+result-kind-requires : tie.Need-result-kind-requires
+result-kind-requires c κs = search needs
 
-put-result-requires : tie.Need-put-result-requires
-put-result-requires c κs = search needs
-
-add-t23 : tie.Need-add-t23
-add-t23 c =
-    omega (arith, c .before .before .before .before .before .before .before .before .before .before .before .before .before .before .before .before .pre .1, fit-got _ _ _ _ _ (id-fit 0x02) (id-got _ _ (c .before .before .before .before .before .before .before .before .before .before .before .before .before .octet-id .ensures) _ _ (c .before .before .before .before .before .before .before .before .before .before .before .id .given .1)), fits-got _ _ _ both-fits (both-got _ _ (c .before .before .before .before .before .before .before .before .both-at .ensures) _ _ (c .before .before .before .before .before .before .both .given .1)), simp length-drop at (ap length (c .before .before .before .before .before .before .before .before .before .after .ensures)))
-
-same-length : tie.Need-same-length
-same-length c = search needs
+add-t24 : tie.Need-add-t24
+add-t24 c =
+    omega (arith, c .before .before .before .before .before .before .before .before .before .before .before .pre, fit-got _ _ _ _ _ (id-fit 0x02) (id-got _ _ (c .before .before .before .before .before .before .before .before .before .octet-id .ensures) _ _ (c .before .before .before .before .before .before .before .id .given .1)), fits-got _ _ _ both-fits (both-got _ _ (c .before .before .before .before .both-at .ensures) _ _ (c .before .before .both .given .1)), simp length-drop at (ap length (c .before .before .before .before .before .after .ensures)))
 
 returns-3 : tie.Need-returns-3
 returns-3 c =
-    got-laid (bound-got some idItem (lastBody (levelAt deepestLevel 4) (bothItem deepestLevel)) (λ v. resultFor (c .before .before .before .before .before .before .before .before .before .before .before .before .before .before .before .before .args .last) (v .0) (v .1)) _ _ _ (id-got _ _ (c .before .before .before .before .before .before .before .before .before .before .before .before .before .octet-id .ensures) _ _ (c .before .before .before .before .before .before .before .before .before .before .before .id .given .1)) _ (c .before .before .before .before .before .before .before .before .before .after .ensures) rowOf (resultRow (c .before .before .before .before .before .before .before .before .before .before .before .before .before .before .before .before .args .last)) (result-row (c .before .before .before .before .before .before .before .before .before .before .before .before .before .before .before .before .args .last)) (both-got _ _ (c .before .before .before .before .before .before .before .before .both-at .ensures) _ _ (c .before .before .before .before .before .before .both .given .1))) (c .before .before .before .before .before .before .before .before .before .before .before .before .before .before .before .before .pre .0) (rw (c .before .before .before .result-tag .ensures, toZ-ofZ {w = w8} {z = c .before .before .before .before .before .before .before .before .before .before .before .id .given .0 .0} (record { sfits = c .before .before .before .before .before .before .before .before .before .before .known-told2 .given .0 .1 }), result-octets) at (c .before .before .put-result .ensures .0)) (rw (toZ-ofZ {w = w8} {z = c .before .before .before .before .before .before .before .before .before .before .before .id .given .0 .0} (record { sfits = c .before .before .before .before .before .before .before .before .before .before .known-told2 .given .0 .1 })) at (c .before .before .put-result .ensures .1 .0), result-fit (c .before .before .before .before .before .before .before .before .before .before .before .before .before .before .before .before .args .last) _ (c .before .before .put-result .ensures .1 .1))
+    rw (toZ-ofZ {w = w8} {z = c .before .before .before .before .before .before .before .id .given .0 .0} (record { sfits = c .before .before .before .before .before .before .known-told2 .given .0 .1 }), c .result-kind .ensures)
+    (got-row (bound-got some idItem (lastBody (levelAt deepestLevel 4) (bothItem deepestLevel)) (λ v. resultFor (c .before .before .before .before .before .before .before .before .before .before .before .args .last) (v .0) (v .1)) _ _ _ (id-got _ _ (c .before .before .before .before .before .before .before .before .before .octet-id .ensures) _ _ (c .before .before .before .before .before .before .before .id .given .1)) _ (c .before .before .before .before .before .after .ensures) rowOf (λ i u. record { id = InvokeId.Id i; kind = resultField (c .before .before .before .before .before .before .before .before .before .before .before .args .last) u }) (λ i r. result-row (c .before .before .before .before .before .before .before .before .before .before .before .args .last) i r) (both-got _ _ (c .before .before .before .before .both-at .ensures) _ _ (c .before .before .both .given .1))))
 
 pub result-at-spec : {M : Type 1} → statement M
 result-at-spec =
@@ -98,8 +93,6 @@ result-at-spec =
     with-id-requires
     returns-2
     enum-known-both
-    result-tag-requires
-    put-result-requires
-    add-t23
-    same-length
+    result-kind-requires
+    add-t24
     returns-3)

@@ -1,36 +1,36 @@
 -- `bare` meets its contract. Assumes nothing.
-use mathlib.Core.Path.{sym, ap, _∙_}
-use native.Mathlib.Omega.{arith}
-use native.Mathlib.Nat.{add-zero}
-use borrow.Author.Needs.{needs}
 use borrow.Author.Tests.{eq-eqb, ne-eqb}
-use Rattle.reader.specs.Parts.{outlineOf, ownedIn, closingOf, closedWith, rowsRead}
+use Rattle.reader.specs.Begun.{bareBegun}
+use borrow.Author.Needs.{needs}
 use Rattle.reader.proofs.bare.Statement.{statement}
 use Rattle.reader.proofs.bare.Tie as tie
+use Rattle.reader.proofs.bare.Reads as reads
+use Rattle.reader.proofs.bare.Lts as lts
+use Rattle.asking.proofs.found.Reads as found-reads
+use Rattle.asking.proofs.whole_size.Reads as whole-size-reads
+use Rattle.reader.proofs.stopped.Reads as stopped-reads
 
 whole-size-requires : tie.Need-whole-size-requires
-whole-size-requires c κs = omega (arith, c .pre)
+whole-size-requires c κs = search needs
 
-returns : tie.Need-returns
-unfolding outlineOf rowsRead closingOf closedWith ownedIn
-returns c = rw (add-zero, ← (c .before .before .before .before .whole-size .ensures), ne-eqb _ _ (c .before .before .if1 .taken), c .refused .ensures, c .before .found .ensures)
-
-returns-2 : tie.Need-returns-2
-unfolding rowsRead closingOf closedWith outlineOf
-returns-2 c = rw (add-zero, ← (c .before .before .whole-size .ensures), eq-eqb _ _ (c .if1 .left))
-
+-- src/lib.rt:292:30
 found-requires : tie.Need-found-requires
 found-requires c κs = search needs
 
-refused-requires : tie.Need-refused-requires
-refused-requires c κs = search needs
+-- src/lib.rt:292:9
+stopped-requires : tie.Need-stopped-requires
+stopped-requires c κs = search needs
+
+-- src/lib.rt:292:9
+returns : tie.Need-returns
+unfolding bareBegun
+returns c = rw (← (c .before .before .before .before .whole-size .ensures), ne-eqb _ _ (c .before .before .if1 .taken), c .stopped .ensures, c .before .found .ensures)
+
+-- src/lib.rt:286:1
+returns-2 : tie.Need-returns-2
+unfolding bareBegun
+returns-2 c = rw (← (c .before .before .whole-size .ensures), eq-eqb _ _ (c .if1 .left))
 
 pub bare-spec : {M : Type 1} → statement M
 bare-spec =
-    tie.close
-    (tie.spec
-    whole-size-requires
-    found-requires
-    refused-requires
-    returns
-    returns-2)
+    tie.close (tie.spec whole-size-requires found-requires stopped-requires returns returns-2)

@@ -1,57 +1,69 @@
 -- `rows_at` meets its contract. Assumes nothing.
-use mathlib.Core.Path.{sym, ap, _∙_}
 use native.Mathlib.Omega.{arith}
-use borrow.Author.Needs.{needs}
+use mathlib.Core.Path.{sym, _∙_}
 use Rattle.asking.proofs.Sizes.{entry-size}
-use Rattle.reader.specs.Parts.{ownedIn}
-use Rattle.reader.proofs.Gathered.{refused-as}
-use Rattle.reader.proofs.Rows.{rowsIn, rows-law}
+use Rattle.reader.specs.Begun.{entered}
+use borrow.Author.Needs.{needs}
 use Rattle.reader.proofs.rows_at.Statement.{statement}
 use Rattle.reader.proofs.rows_at.Tie as tie
-
-gather-requires : tie.Need-gather-requires
-gather-requires c κs = (c .before .before .before .before .before .before .before .pre .0, (c .before .before .before .before .before .before .before .pre .1, (entry-size _ _ _ _ _ _ (sym (c .before .before .before .before .entry-at .ensures) ∙ c .before .before .at .given .1) .1, entry-size _ _ _ _ _ _ (sym (c .before .before .before .before .entry-at .ensures) ∙ c .before .before .at .given .1) .2)))
-
-returns : tie.Need-returns
-unfolding rowsIn ownedIn
-returns c = rw (rows-law, ← (c .before .before .before .before .before .before .entry-at .ensures), c .before .before .before .before .kind .given .1, ← (c .before .found .ensures)) (refused-as _ _ (c .refused .ensures))
-
-returns-2 : tie.Need-returns-2
-unfolding rowsIn
-returns-2 c = rw (rows-law, ← (c .before .before .before .before .before .before .before .entry-at .ensures), c .before .before .before .before .before .at .given .1) (c .before .before .gather .ensures)
-
-entry-at-requires : tie.Need-entry-at-requires
-entry-at-requires c κs = search needs
-
-enum-known-kind : tie.Need-enum-known-kind
-enum-known-kind c = search needs
+use Rattle.reader.proofs.rows_at.Reads as reads
+use Rattle.reader.proofs.rows_at.Lts as lts
+use Rattle.asking.proofs.entry_at.Reads as entry-at-reads
+use Rattle.asking.proofs.found.Reads as found-reads
+use Rattle.reader.proofs.stopped.Reads as stopped-reads
 
 add-here : tie.Need-add-here
 add-here c = search needs
 
+-- src/lib.rt:336:11
+entry-at-requires : tie.Need-entry-at-requires
+entry-at-requires c κs = search needs
+
+-- src/lib.rt:337:20
+enum-known-kind : tie.Need-enum-known-kind
+enum-known-kind c = search needs
+
+-- src/lib.rt:337:43
 found-requires : tie.Need-found-requires
 found-requires c κs = search needs
 
-refused-requires : tie.Need-refused-requires
-refused-requires c κs = search needs
+-- src/lib.rt:337:29
+stopped-requires : tie.Need-stopped-requires
+stopped-requires c κs = search needs
 
+-- src/lib.rt:338:23
 enum-known-at : tie.Need-enum-known-at
 enum-known-at c = search needs
 
-same-length : tie.Need-same-length
-same-length c = search needs
+-- src/lib.rt:342:21
+add-t13 : tie.Need-add-t13
+add-t13 c = omega (arith, c .before .before .before .before .before .before .pre, entry-size _ _ _ _ _ _ (sym (c .before .before .before .entry-at .ensures) ∙ c .before .at .given .1))
+
+-- src/lib.rt:343:22
+add-t14 : tie.Need-add-t14
+add-t14 c = omega (arith, c .before .before .before .before .before .before .pre, entry-size _ _ _ _ _ _ (sym (c .before .before .before .entry-at .ensures) ∙ c .before .at .given .1))
+
+-- src/lib.rt:331:1
+returns : tie.Need-returns
+unfolding entered
+returns c = rw (← (c .before .before .before .before .before .entry-at .ensures), c .before .before .before .kind .given .1, c .stopped .ensures, c .before .found .ensures)
+
+-- src/lib.rt:331:1
+returns-2 : tie.Need-returns-2
+unfolding entered
+returns-2 c = rw (← (c .before .before .before .entry-at .ensures), c .before .at .given .1)
 
 pub rows-at-spec : {M : Type 1} → statement M
 rows-at-spec =
     tie.close
     (tie.spec
+    add-here
     entry-at-requires
     enum-known-kind
-    add-here
     found-requires
-    refused-requires
+    stopped-requires
     enum-known-at
-    gather-requires
+    add-t13
+    add-t14
     returns
-    same-length
     returns-2)

@@ -3,7 +3,8 @@ use mathlib.Core.Path.{_≡_, ap, _∙_}
 use lib.ListN.{getD}
 use Rattle.tcap.specs.declared.Row.{Row}
 use Rattle.tcap.specs.Record.{blankRow}
-use Rattle.reader.specs.Parts.{rowsHeld, assembled}
+use Rattle.layout.specs.Layout.{rowsHeld}
+use Rattle.reader.specs.Parts.{assembled}
 use Rattle.steering.specs.Steering.{firstOf, keyOf}
 use Rattle.steering.proofs.First.{first-laid}
 use borrow.Author.Needs.{needs}

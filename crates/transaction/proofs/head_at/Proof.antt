@@ -20,6 +20,9 @@ found-requires c κs = search needs
 carried-by-requires : tie.Need-carried-by-requires
 carried-by-requires c κs = search needs
 
+spoilt-requires : tie.Need-spoilt-requires
+spoilt-requires c κs = search needs
+
 enum-known-orig : tie.Need-enum-known-orig
 enum-known-orig c = search needs
 
@@ -38,6 +41,9 @@ enum-known-fault c = search needs
 carried-by-requires-2 : tie.Need-carried-by-requires-2
 carried-by-requires-2 c κs = search needs
 
+spoilt-requires-2 : tie.Need-spoilt-requires-2
+spoilt-requires-2 c κs = search needs
+
 enum-known-dialogue : tie.Need-enum-known-dialogue
 enum-known-dialogue c = search needs
 
@@ -46,11 +52,11 @@ add-whole c = omega (arith, c .before .before .before .before .before .before .b
 
 returns : tie.Need-returns
 unfolding headBy headWith
-returns c = rw (head-law, ← (c .before .before .before .before .before .ids-at .ensures), c .before .before .before .early .given .1, c .carried-by .ensures, c .before .found .ensures)
+returns c = rw (head-law, ← (c .before .before .before .before .before .before .ids-at .ensures), c .before .before .before .before .early .given .1, c .spoilt .ensures, c .before .carried-by .ensures, c .before .before .found .ensures)
 
 returns-2 : tie.Need-returns-2
 unfolding headBy headWith
-returns-2 c = rw (head-law, ← (c .before .before .before .before .before .before .before .before .before .ids-at .ensures), c .before .before .before .before .before .before .before .orig .given .1, ← (c .before .before .before .before .before .after .ensures), ← (c .before .before .before .before .portion-for .ensures), c .before .before .fault .given .1, c .carried-by2 .ensures)
+returns-2 c = rw (head-law, ← (c .before .before .before .before .before .before .before .before .before .before .ids-at .ensures), c .before .before .before .before .before .before .before .before .orig .given .1, ← (c .before .before .before .before .before .before .after .ensures), ← (c .before .before .before .before .before .portion-for .ensures), c .before .before .before .fault .given .1, c .spoilt2 .ensures, c .before .carried-by2 .ensures)
 
 returns-3 : tie.Need-returns-3
 unfolding headBy headWith
@@ -64,12 +70,14 @@ head-at-spec =
     enum-known-early
     found-requires
     carried-by-requires
+    spoilt-requires
     enum-known-orig
     after-requires
     add-portion-for
     portion-for-requires
     enum-known-fault
     carried-by-requires-2
+    spoilt-requires-2
     enum-known-dialogue
     add-whole
     returns

@@ -3,7 +3,6 @@ use borrow.Author.Needs.{needs}
 use Rattle.base.proofs.Puts.{put-then}
 use Rattle.layout.specs.Layout.{idsOctets}
 use Rattle.pack.proofs.Rooms.{put-room}
-use Rattle.layout.proofs.Typed.{id-typed, returned-typed}
 use Rattle.pack.proofs.row.put_result.Statement.{statement}
 use Rattle.pack.proofs.row.put_result.Tie as tie
 
@@ -18,7 +17,7 @@ same-length : tie.Need-same-length
 same-length c = search needs
 
 returns : tie.Need-returns
-returns c = (put-then (c .before .before .before .before .before .before .put-ids .ensures) (c .before .before .put-returned .ensures), (id-typed (c .before .before .before .before .before .before .before .before .before .args .id) _ (c .before .before .before .before .before .before .before .before .before .good .1 .1 .1 .0), returned-typed (c .before .before .before .before .before .before .before .before .before .args .returned) _ (c .before .before .before .before .before .before .before .before .before .good .1 .1 .1 .1 .0)))
+returns c = put-then (c .before .before .before .before .before .before .put-ids .ensures) (c .before .before .put-returned .ensures)
 
 pub put-result-spec : {M : Type 1} → statement M
 put-result-spec = tie.close (tie.spec put-ids-requires put-returned-requires same-length returns)

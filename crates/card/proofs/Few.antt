@@ -9,11 +9,11 @@ use Rattle.tcap.specs.WellFormed.{mostComponents}
 use Rattle.tcap.specs.Record.{blankRow, blankRecord}
 use Rattle.tcap.specs.Reading.{reading}
 use Rattle.tcap.proofs.Refusals.{refused-carries}
-use Rattle.layout.specs.Layout.{rowsIn}
+use Rattle.layout.specs.Layout.{rowsIn, rowsHeld}
 use Rattle.layout.proofs.Readings.{reading-fits}
 use Rattle.reader.specs.declared.{Outline.Outline}
-use Rattle.reader.specs.Parts.{rowsHeld, assembled}
-use Rattle.reader.proofs.Held.{rows-in-length}
+use Rattle.reader.specs.Parts.{assembled}
+use Rattle.unpack.proofs.Rows.{rows-length}
 
 pub outline-few : (m : List ℕ) (o : Outline) (l : List ℕ) → assembled o l ≡ reading m → o .count ≤ 16
 unfolding assembled rowsHeld
@@ -23,7 +23,7 @@ outline-few m o l e = by-outcome (reading m .outcome) refl
     by-outcome Outcome.Accepted h =
         let s : length (reading m .message .rows) ≡ 16 = reading-fits m h .sixteen in
         let t : length (rowsIn (o .count) l ++ replicate (mostComponents - o .count) blankRow) ≡ 16 = ap (λ (r : Reading). length (r .message .rows)) e ∙ s in
-        omega (arith, t, length-append (rowsIn (o .count) l) (replicate (mostComponents - o .count) blankRow), rows-in-length (o .count) l)
+        omega (arith, t, length-append (rowsIn (o .count) l) (replicate (mostComponents - o .count) blankRow), rows-length (o .count) l)
     by-outcome (Outcome.Refused f) h =
         let n : o .count ≡ 0 = ap (λ (r : Reading). r .message .count) e ∙ ap (λ (r : Record). r .count) (refused-carries m f h .1) in
         omega (arith, n)

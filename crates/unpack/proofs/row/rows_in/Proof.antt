@@ -5,11 +5,10 @@ use Prim.Native.Nat.{_≤_, _-_, _*_}
 use native.Mathlib.Omega.{arith}
 use mathlib.Core.Path.{_≡_, refl}
 use lib.ListN.{length, drop, length-drop}
-use Rattle.layout.specs.Layout.{rowsIn}
-use Rattle.reader.specs.Parts.{rowsHeld}
-use Rattle.reader.proofs.Held.{rows-step}
-use Rattle.reader.proofs.rows_in.Statement.{statement}
-use Rattle.reader.proofs.rows_in.Tie as tie
+use Rattle.layout.specs.Layout.{rowsIn, rowsHeld}
+use Rattle.unpack.proofs.Rows.{rows-step}
+use Rattle.unpack.proofs.row.rows_in.Statement.{statement}
+use Rattle.unpack.proofs.row.rows_in.Tie as tie
 
 abbrev Inv-loop : tie.InvT-loop
 Inv-loop octets count rows₀ i₀ rows i = (i ≤ count) × (rows ≡ rowsHeld i octets)
@@ -17,12 +16,12 @@ Inv-loop octets count rows₀ i₀ rows i = (i ≤ count) × (rows ≡ rowsHeld 
 abbrev μ-loop : tie.MeasureT-loop
 μ-loop octets count rows₀ i₀ rows i = count - i
 
-blank-requires : tie.Need-blank-requires Inv-loop μ-loop
-blank-requires c κs = search needs
+blank-row-requires : tie.Need-blank-row-requires Inv-loop μ-loop
+blank-row-requires c κs = search needs
 
 loop-holds : tie.Need-loop-holds Inv-loop μ-loop
 unfolding rowsHeld rowsIn
-loop-holds c = (omega arith, rw (c .blank .ensures))
+loop-holds c = (omega arith, rw (c .blank-row .ensures))
 
 mul-after : tie.Need-mul-after Inv-loop μ-loop
 mul-after c = omega (arith, c .before .before .before .before .pre)
@@ -59,7 +58,7 @@ rows-in-spec =
     (tie.spec
     Inv-loop
     μ-loop
-    blank-requires
+    blank-row-requires
     loop-holds
     mul-after
     after-requires
