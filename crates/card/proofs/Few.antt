@@ -12,7 +12,7 @@ use Rattle.tcap.proofs.Refusals.{refused-carries}
 use Rattle.layout.specs.Layout.{rowsIn, rowsHeld}
 use Rattle.layout.proofs.Readings.{reading-fits}
 use Rattle.reader.specs.declared.{Outline.Outline}
-use Rattle.reader.specs.Parts.{assembled}
+use Rattle.reader.specs.Outlines.{assembled}
 use Rattle.unpack.proofs.Rows.{rows-length}
 
 pub outline-few : (m : List ℕ) (o : Outline) (l : List ℕ) → assembled o l ≡ reading m → o .count ≤ 16

@@ -12,7 +12,7 @@ use Rattle.tcap.specs.declared.{Refusal.Refusal, Outcome.Outcome, Reading.Readi
 use Rattle.tcap.specs.Reading.{reading}
 use Rattle.tcap.proofs.Refusals.{numbered}
 use Rattle.reader.specs.declared.{Outline.Outline}
-use Rattle.reader.specs.Parts.{assembled, Laid}
+use Rattle.reader.specs.Outlines.{assembled, Laid}
 use Rattle.layout.specs.Layout.{recordSize, isRecord, recordIn, rowsOctets, headOctets, recordOctets}
 use Rattle.layout.proofs.RoundTrip.{record-is, record-length}
 use Rattle.layout.proofs.Readings.{reading-fits, reading-back}

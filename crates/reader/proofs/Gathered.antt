@@ -37,9 +37,11 @@ use Rattle.transaction.specs.declared.{Head.Head}
 use Rattle.transaction.specs.Head.{carriedField}
 use Rattle.layout.specs.Layout.{rowSize, rowsIn, rowsOctets, rowsHeld}
 use Rattle.layout.proofs.RoundTrip.{rows-length}
-use Rattle.reader.specs.declared.{Frame.Frame, Turn.Turn, Outline.Outline, Closing.Closing}
-use Rattle.reader.specs.Parts.{refusedBy, acceptedWith, closingOf, closedWith, gathered, assembled, outlineOf, Laid}
-use Rattle.reader.specs.Begun.{turnOf, acceptedAs}
+use Rattle.beginning.specs.declared.{Frame.Frame, Closing.Closing}
+use Rattle.reader.specs.declared.{Turn.Turn, Outline.Outline}
+use Rattle.beginning.specs.Parts.{refusedBy, acceptedWith, closingOf, closedWith, gathered}
+use Rattle.reader.specs.Outlines.{assembled, outlineOf, Laid}
+use Rattle.reader.specs.Outlines.{turnOf, acceptedAs}
 
 -- of a refused message the octets of the rows mean nothing
 pub refused-as : {r : Outline} (g : Fault) (l : List ℕ) → r ≡ outlineOf (refusedBy g) → Laid r l (refusedBy g)

@@ -1,8 +1,2 @@
-pub mod Bodies
-pub mod Whole
-pub mod Tails
 pub mod Gathered
-pub mod Rows
-pub mod Places
-pub mod Begins
 pub mod Held

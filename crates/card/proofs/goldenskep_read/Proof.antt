@@ -9,7 +9,7 @@ use borrow.Author.Tests.{lt-ltb, le-ltb}
 use Rattle.base.proofs.Puts.{put-front, put-then, put-length}
 use Rattle.tcap.specs.declared.{Outcome.Outcome, Reading.Reading}
 use Rattle.tcap.specs.Reading.{reading}
-use Rattle.reader.specs.Parts.{assembled}
+use Rattle.reader.specs.Outlines.{assembled}
 use Rattle.card.proofs.Few.{outline-few}
 use Rattle.card.specs.Answer.{outcomeBits, readAnswer, recordRoom, readRoom}
 use Rattle.card.proofs.Kept.{laid-most, laid-record, laid-outcome}

@@ -1,7 +1,7 @@
 -- The rows are taken from their octets. Assumes nothing.
 use borrow.Author.Needs.{needs}
 use native.Mathlib.Omega.{arith}
-use Rattle.reader.specs.Parts.{assembled}
+use Rattle.reader.specs.Outlines.{assembled}
 use Rattle.card.proofs.Few.{outline-few}
 use Rattle.card.proofs.reading_of.Statement.{statement}
 use Rattle.card.proofs.reading_of.Tie as tie

@@ -1,7 +1,7 @@
 -- `answer_of` meets its contract. Assumes nothing.
 use borrow.Author.Tests.{ne-eqb}
 use Rattle.base.proofs.Tests.{tests}
-use Rattle.reader.specs.Parts.{answerFrom, answerBy}
+use Rattle.beginning.specs.Parts.{answerFrom, answerBy}
 use borrow.Author.Needs.{needs}
 use Rattle.reader.proofs.answer_of.Statement.{statement}
 use Rattle.reader.proofs.answer_of.Tie as tie

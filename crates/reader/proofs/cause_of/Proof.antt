@@ -1,6 +1,6 @@
 -- `cause_of` meets its contract. Assumes nothing.
 use Rattle.base.proofs.Tests.{tests}
-use Rattle.reader.specs.Parts.{causeBy}
+use Rattle.beginning.specs.Parts.{causeBy}
 use Rattle.reader.proofs.cause_of.Statement.{statement}
 use Rattle.reader.proofs.cause_of.Tie as tie
 

@@ -2,8 +2,8 @@
 use native.Mathlib.Omega.{arith}
 use native.Mathlib.Nat.{zero-add}
 use borrow.Author.Tests.{eq-eqb, ne-eqb}
-use Rattle.reader.specs.Parts.{closingOf}
-use Rattle.reader.proofs.Places.{take-behind, whole-there}
+use Rattle.beginning.specs.Parts.{closingOf}
+use Rattle.beginning.proofs.Places.{take-behind, whole-there}
 use borrow.Author.Needs.{needs}
 use Rattle.reader.proofs.closing_at.Statement.{statement}
 use Rattle.reader.proofs.closing_at.Tie as tie

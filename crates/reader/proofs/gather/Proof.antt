@@ -11,7 +11,7 @@ use Rattle.fields.proofs.Fits.{fit-got, fits-got}
 use Rattle.contents.proofs.Told.{row-bad, row-got}
 use Rattle.contents.proofs.Fitted.{component-fit}
 use Rattle.components.proofs.Chosen.{body-fits, header-bad, header-open, header-room, header-later, header-got}
-use Rattle.reader.specs.Parts.{ownedIn}
+use Rattle.beginning.specs.Parts.{ownedIn}
 use Rattle.reader.proofs.Gathered.{refused-as, Left, left-all, closedAs, refused-by, turn-bad, turn-end, turn-more, more-bad, more-got, handed-out, whole-laid, end-inside, piece-bound, after-bound}
 use Rattle.reader.proofs.Held.{Held, held-none, held-more, held-room}
 use Rattle.reader.proofs.gather.Statement.{statement}

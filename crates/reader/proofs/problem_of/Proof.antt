@@ -1,6 +1,6 @@
 -- `problem_of` meets its contract. Assumes nothing.
 use Rattle.base.proofs.Tests.{tests}
-use Rattle.reader.specs.Parts.{problemBy}
+use Rattle.beginning.specs.Parts.{problemBy}
 use Rattle.reader.proofs.problem_of.Statement.{statement}
 use Rattle.reader.proofs.problem_of.Tie as tie
 

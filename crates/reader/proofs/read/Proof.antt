@@ -16,10 +16,10 @@ use Rattle.components.proofs.Chosen.{body-fits, header-bad, header-open, header
 use denote.Ref.{now}
 use Rattle.tcap.specs.Reading.{reading}
 use Rattle.transaction.specs.Head.{carriedField}
-use Rattle.reader.specs.declared.Ahead.{Ahead}
-use Rattle.reader.specs.Parts.{ownedIn, refusedBy, closedWith}
+use Rattle.beginning.specs.declared.Ahead.{Ahead}
+use Rattle.beginning.specs.Parts.{ownedIn, refusedBy, closedWith}
 use Rattle.reader.proofs.Gathered.{Left, left-all, closedAs, fault-ends, turn-bad, turn-end, turn-more, more-bad, more-got, handed-out, of-two, set-next, end-inside, piece-bound, after-bound}
-use Rattle.reader.proofs.Begins.{begun-bad, begun-bare, begun-rows, begun-within}
+use Rattle.beginning.proofs.Begins.{begun-bad, begun-bare, begun-rows, begun-within}
 use Rattle.reader.proofs.read.Statement.{statement}
 use Rattle.reader.proofs.read.Tie as tie
 

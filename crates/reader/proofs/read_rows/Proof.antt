@@ -1,9 +1,9 @@
 -- `read_rows` meets its contract. Assumes nothing.
 use native.Mathlib.Omega.{arith}
 use borrow.Author.Needs.{needs}
-use Rattle.reader.specs.Parts.{ownedIn}
+use Rattle.beginning.specs.Parts.{ownedIn}
 use Rattle.reader.proofs.Gathered.{refused-as, bare-as}
-use Rattle.reader.proofs.Begins.{begun-bad, begun-bare, begun-rows, begun-within}
+use Rattle.beginning.proofs.Begins.{begun-bad, begun-bare, begun-rows, begun-within}
 use Rattle.reader.proofs.read_rows.Statement.{statement}
 use Rattle.reader.proofs.read_rows.Tie as tie
 

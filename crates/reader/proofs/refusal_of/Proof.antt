@@ -1,5 +1,5 @@
 -- `refusal_of` meets its contract. Assumes nothing.
-use Rattle.reader.specs.Parts.{refusalFrom}
+use Rattle.beginning.specs.Parts.{refusalFrom}
 use borrow.Author.Needs.{needs}
 use Rattle.reader.proofs.refusal_of.Statement.{statement}
 use Rattle.reader.proofs.refusal_of.Tie as tie

@@ -1,6 +1,7 @@
 -- `refused` meets its contract. Assumes nothing.
 use borrow.Author.Needs.{needs}
-use Rattle.reader.specs.Parts.{refusedBy, outlineOf}
+use Rattle.beginning.specs.Parts.{refusedBy}
+use Rattle.reader.specs.Outlines.{outlineOf}
 use Rattle.reader.proofs.refused.Statement.{statement}
 use Rattle.reader.proofs.refused.Tie as tie
 

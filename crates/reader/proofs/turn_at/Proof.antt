@@ -1,6 +1,6 @@
 -- `turn_at` meets its contract. Assumes nothing.
 use borrow.Author.Tests.{eq-eqb, ne-eqb}
-use Rattle.reader.specs.Begun.{turnOf}
+use Rattle.reader.specs.Outlines.{turnOf}
 use borrow.Author.Needs.{needs}
 use Rattle.reader.proofs.turn_at.Statement.{statement}
 use Rattle.reader.proofs.turn_at.Tie as tie

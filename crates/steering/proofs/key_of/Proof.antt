@@ -4,7 +4,7 @@ use lib.ListN.{getD}
 use Rattle.tcap.specs.declared.Row.{Row}
 use Rattle.tcap.specs.Record.{blankRow}
 use Rattle.layout.specs.Layout.{rowsHeld}
-use Rattle.reader.specs.Parts.{assembled}
+use Rattle.reader.specs.Outlines.{assembled}
 use Rattle.steering.specs.Steering.{firstOf, keyOf}
 use Rattle.steering.proofs.First.{first-laid}
 use borrow.Author.Needs.{needs}

@@ -30,9 +30,9 @@ use Rattle.asking.proofs.Sizes.{inner-size, inner-open}
 use Rattle.asking.proofs.Opened.{sizeFor, byTag, byNext, ask-next, byEntry, length-inner}
 use Rattle.asking.proofs.Fronts.{around-open}
 use Rattle.transaction.specs.Head.{Ids, carriedBy}
-use Rattle.reader.specs.declared.{KindRead.KindRead}
-use Rattle.reader.specs.Parts.{bodyOf, recordRead, causeBy, problemBy, answerBy, answerFrom, refusalFrom, refusedBy, acceptedWith, finished, readAs, kindOf, readKind, readMessage}
-use Rattle.reader.proofs.Bodies.{idsIn, toRecord, body-read}
+use Rattle.beginning.specs.declared.{KindRead.KindRead}
+use Rattle.beginning.specs.Parts.{bodyOf, recordRead, causeBy, problemBy, answerBy, answerFrom, refusalFrom, refusedBy, acceptedWith, finished, readAs, kindOf, readKind, readMessage}
+use Rattle.beginning.proofs.Bodies.{idsIn, toRecord, body-read}
 
 -- The refusal of a fault
 

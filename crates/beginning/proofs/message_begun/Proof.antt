@@ -3,17 +3,17 @@ use native.Mathlib.Omega.{arith}
 use mathlib.Core.Path.{sym, ap, _∙_}
 use lib.ListN.{length, length-take, length-drop}
 use Rattle.asking.proofs.Sizes.{inner-size}
-use Rattle.reader.specs.Begun.{begunIn}
+use Rattle.beginning.specs.Begun.{begunIn}
 use borrow.Author.Needs.{needs}
-use Rattle.reader.proofs.message_begun.Statement.{statement}
-use Rattle.reader.proofs.message_begun.Tie as tie
-use Rattle.reader.proofs.message_begun.Reads as reads
-use Rattle.reader.proofs.message_begun.Lts as lts
+use Rattle.beginning.proofs.message_begun.Statement.{statement}
+use Rattle.beginning.proofs.message_begun.Tie as tie
+use Rattle.beginning.proofs.message_begun.Reads as reads
+use Rattle.beginning.proofs.message_begun.Lts as lts
 use Rattle.asking.proofs.found.Reads as found-reads
 use Rattle.asking.proofs.inner_at.Reads as inner-at-reads
 use Rattle.base.proofs.piece.Reads as piece-reads
-use Rattle.reader.proofs.contents_begun.Reads as contents-begun-reads
-use Rattle.reader.proofs.unheaded.Reads as unheaded-reads
+use Rattle.beginning.proofs.contents_begun.Reads as contents-begun-reads
+use Rattle.beginning.proofs.unheaded.Reads as unheaded-reads
 
 inner-at-requires : tie.Need-inner-at-requires
 inner-at-requires c κs = search needs

@@ -29,7 +29,7 @@ use Rattle.asking.proofs.Opened.{ask-map, next-next, rest}
 use Rattle.asking.proofs.Fronts.{opt-absent, opt-present}
 use Rattle.transaction.specs.Head.{Ids, carriedBy, idsOf, origIn, destIn, portionRead, portionFor, headOf}
 use Rattle.transaction.proofs.Firsts.{next-over, next-first}
-use Rattle.reader.specs.Parts.{Rest, tailOf, restOf, recordRead, someRows, rowsFor}
+use Rattle.beginning.specs.Parts.{Rest, tailOf, restOf, recordRead, someRows, rowsFor}
 
 -- 6B, and then what may follow it
 

@@ -1,8 +1,8 @@
 -- `lacks_rows` meets its contract. Assumes nothing.
 use borrow.Author.Needs.{needs}
-use Rattle.reader.specs.Parts.{leftOut}
-use Rattle.reader.proofs.lacks_rows.Statement.{statement}
-use Rattle.reader.proofs.lacks_rows.Tie as tie
+use Rattle.beginning.specs.Parts.{leftOut}
+use Rattle.beginning.proofs.lacks_rows.Statement.{statement}
+use Rattle.beginning.proofs.lacks_rows.Tie as tie
 
 end-at-requires : tie.Need-end-at-requires
 end-at-requires c κs = search needs

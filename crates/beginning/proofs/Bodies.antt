@@ -20,7 +20,7 @@ use Rattle.asking.specs.Asked.{front}
 use Rattle.transaction.specs.Head.{Ids, carriedBy, origAsked, destAsked, idsOf, origIn, destIn}
 use Rattle.transaction.proofs.Firsts.{next-over}
 use Rattle.asking.proofs.Opened.{ask-map, ask-bind, ask-then, next-next, blamed-same, rest}
-use Rattle.reader.specs.Parts.{bodyOf, Rest, tailOf, restOf, recordRead}
+use Rattle.beginning.specs.Parts.{bodyOf, Rest, tailOf, restOf, recordRead}
 
 -- the IDs that a message has
 abbrev pub idsIn : Message Text → Ids

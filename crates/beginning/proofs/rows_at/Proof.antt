@@ -2,15 +2,15 @@
 use native.Mathlib.Omega.{arith}
 use mathlib.Core.Path.{sym, _∙_}
 use Rattle.asking.proofs.Sizes.{entry-size}
-use Rattle.reader.specs.Begun.{entered}
+use Rattle.beginning.specs.Begun.{entered}
 use borrow.Author.Needs.{needs}
-use Rattle.reader.proofs.rows_at.Statement.{statement}
-use Rattle.reader.proofs.rows_at.Tie as tie
-use Rattle.reader.proofs.rows_at.Reads as reads
-use Rattle.reader.proofs.rows_at.Lts as lts
+use Rattle.beginning.proofs.rows_at.Statement.{statement}
+use Rattle.beginning.proofs.rows_at.Tie as tie
+use Rattle.beginning.proofs.rows_at.Reads as reads
+use Rattle.beginning.proofs.rows_at.Lts as lts
 use Rattle.asking.proofs.entry_at.Reads as entry-at-reads
 use Rattle.asking.proofs.found.Reads as found-reads
-use Rattle.reader.proofs.stopped.Reads as stopped-reads
+use Rattle.beginning.proofs.stopped.Reads as stopped-reads
 
 add-here : tie.Need-add-here
 add-here c = search needs

@@ -1,13 +1,13 @@
 -- `rows_for` meets its contract. Assumes nothing.
-use Rattle.reader.specs.Begun.{begunFor}
+use Rattle.beginning.specs.Begun.{begunFor}
 use borrow.Author.Needs.{needs}
-use Rattle.reader.proofs.rows_for.Statement.{statement}
-use Rattle.reader.proofs.rows_for.Tie as tie
-use Rattle.reader.proofs.rows_for.Reads as reads
-use Rattle.reader.proofs.rows_for.Lts as lts
-use Rattle.reader.proofs.bare.Reads as bare-reads
-use Rattle.reader.proofs.is_bare.Reads as is-bare-reads
-use Rattle.reader.proofs.rows_at.Reads as rows-at-reads
+use Rattle.beginning.proofs.rows_for.Statement.{statement}
+use Rattle.beginning.proofs.rows_for.Tie as tie
+use Rattle.beginning.proofs.rows_for.Reads as reads
+use Rattle.beginning.proofs.rows_for.Lts as lts
+use Rattle.beginning.proofs.bare.Reads as bare-reads
+use Rattle.beginning.proofs.is_bare.Reads as is-bare-reads
+use Rattle.beginning.proofs.rows_at.Reads as rows-at-reads
 
 is-bare-requires : tie.Need-is-bare-requires
 is-bare-requires c κs = search needs

@@ -3,15 +3,15 @@ use native.Mathlib.Omega.{arith}
 use mathlib.Core.Path.{ap}
 use lib.ListN.{length, length-drop}
 use Rattle.transaction.proofs.Heads.{head-size}
-use Rattle.reader.specs.Begun.{headedBy}
+use Rattle.beginning.specs.Begun.{headedBy}
 use borrow.Author.Needs.{needs}
-use Rattle.reader.proofs.contents_begun.Statement.{statement}
-use Rattle.reader.proofs.contents_begun.Tie as tie
-use Rattle.reader.proofs.contents_begun.Reads as reads
-use Rattle.reader.proofs.contents_begun.Lts as lts
+use Rattle.beginning.proofs.contents_begun.Statement.{statement}
+use Rattle.beginning.proofs.contents_begun.Tie as tie
+use Rattle.beginning.proofs.contents_begun.Reads as reads
+use Rattle.beginning.proofs.contents_begun.Lts as lts
 use Rattle.base.proofs.after.Reads as after-reads
-use Rattle.reader.proofs.rows_for.Reads as rows-for-reads
-use Rattle.reader.proofs.stopped.Reads as stopped-reads
+use Rattle.beginning.proofs.rows_for.Reads as rows-for-reads
+use Rattle.beginning.proofs.stopped.Reads as stopped-reads
 use Rattle.transaction.proofs.head_at.Reads as head-at-reads
 
 head-at-requires : tie.Need-head-at-requires

@@ -23,12 +23,12 @@ use Rattle.asking.proofs.Sizes.{entry-size, inner-size}
 use Rattle.transaction.specs.declared.{Head.Head, HeadRead.HeadRead, HeadFault.HeadFault}
 use Rattle.transaction.specs.Head.{Ids, carriedField, spoiltBy, headGot, headOf}
 use Rattle.transaction.proofs.Heads.{head-size}
-use Rattle.reader.specs.declared.{KindRead.KindRead, Frame.Frame, Ahead.Ahead, Begun.Begun, Closing.Closing}
-use Rattle.reader.specs.Parts.{refusedBy, kindOf, bareFor, rowsFor, closingOf, closedWith, gathered, rowsRead, readAs, readKind, readMessage}
-use Rattle.reader.specs.Begun.{counted, rowsAt, onwardBy, onward, noHead, stoppedBy, bareBegun, entered, begunFor, headedBy, headed, begunIn, begunKind, begunOf}
-use Rattle.reader.proofs.Rows.{rowsIn, rows-law, rows-left, rows-there, readOn, readBy, record-law}
-use Rattle.reader.proofs.Whole.{message-read}
-use Rattle.reader.proofs.Places.{take-behind, whole-moved, whole-counted}
+use Rattle.beginning.specs.declared.{KindRead.KindRead, Frame.Frame, Ahead.Ahead, Begun.Begun, Closing.Closing}
+use Rattle.beginning.specs.Parts.{refusedBy, kindOf, bareFor, rowsFor, closingOf, closedWith, gathered, rowsRead, readAs, readKind, readMessage}
+use Rattle.beginning.specs.Begun.{counted, rowsAt, onwardBy, onward, noHead, stoppedBy, bareBegun, entered, begunFor, headedBy, headed, begunIn, begunKind, begunOf}
+use Rattle.beginning.proofs.Rows.{rowsIn, rows-law, rows-left, rows-there, readOn, readBy, record-law}
+use Rattle.beginning.proofs.Whole.{message-read}
+use Rattle.beginning.proofs.Places.{take-behind, whole-moved, whole-counted}
 
 -- 6C lies in the contents of the message, and they in the message
 abbrev pub Within : List ℕ → Begun → Type 0

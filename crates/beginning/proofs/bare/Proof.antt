@@ -1,14 +1,14 @@
 -- `bare` meets its contract. Assumes nothing.
 use borrow.Author.Tests.{eq-eqb, ne-eqb}
-use Rattle.reader.specs.Begun.{bareBegun}
+use Rattle.beginning.specs.Begun.{bareBegun}
 use borrow.Author.Needs.{needs}
-use Rattle.reader.proofs.bare.Statement.{statement}
-use Rattle.reader.proofs.bare.Tie as tie
-use Rattle.reader.proofs.bare.Reads as reads
-use Rattle.reader.proofs.bare.Lts as lts
+use Rattle.beginning.proofs.bare.Statement.{statement}
+use Rattle.beginning.proofs.bare.Tie as tie
+use Rattle.beginning.proofs.bare.Reads as reads
+use Rattle.beginning.proofs.bare.Lts as lts
 use Rattle.asking.proofs.found.Reads as found-reads
 use Rattle.asking.proofs.whole_size.Reads as whole-size-reads
-use Rattle.reader.proofs.stopped.Reads as stopped-reads
+use Rattle.beginning.proofs.stopped.Reads as stopped-reads
 
 whole-size-requires : tie.Need-whole-size-requires
 whole-size-requires c κs = search needs

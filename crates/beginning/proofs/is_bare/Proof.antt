@@ -1,8 +1,8 @@
 -- `is_bare` meets its contract. Assumes nothing.
 use borrow.Author.Needs.{needs}
-use Rattle.reader.specs.Parts.{bareFor}
-use Rattle.reader.proofs.is_bare.Statement.{statement}
-use Rattle.reader.proofs.is_bare.Tie as tie
+use Rattle.beginning.specs.Parts.{bareFor}
+use Rattle.beginning.proofs.is_bare.Statement.{statement}
+use Rattle.beginning.proofs.is_bare.Tie as tie
 
 enum-told : tie.Need-enum-told
 enum-told c = search needs

@@ -26,9 +26,9 @@ use Rattle.transaction.specs.declared.{Head.Head, HeadRead.HeadRead, HeadFault.
 use Rattle.transaction.specs.Head.{Ids, carriedBy, origIn, destIn, carriedField, spoiltBy, headGot, headOf}
 use Rattle.transaction.proofs.Heads.{carried-same}
 use Rattle.transaction.proofs.Stops.{unfinished-on, more-on}
-use Rattle.reader.specs.declared.{Frame.Frame, Closing.Closing}
-use Rattle.reader.specs.Parts.{refusedBy, acceptedWith, finished, recordRead, someRows, leftOut, bareFor, rowsFor, closingOf, closedWith, gathered, rowsRead}
-use Rattle.reader.proofs.Tails.{whole, and-rows, head-rows}
+use Rattle.beginning.specs.declared.{Frame.Frame, Closing.Closing}
+use Rattle.beginning.specs.Parts.{refusedBy, acceptedWith, finished, recordRead, someRows, leftOut, bareFor, rowsFor, closingOf, closedWith, gathered, rowsRead}
+use Rattle.beginning.proofs.Tails.{whole, and-rows, head-rows}
 
 abbrev pub rowsBody : Body (List (Component Text))
 rowsBody = seriesBody (componentAt deepestLevel) FaultKind.UnknownComponent (componentItem deepestLevel) none mostComponents 0

@@ -3,14 +3,14 @@
 use Prim.Native.Nat.{ℕ, _+_, _-_}
 use mathlib.Core.{Bool.Bool, Bool.false, Bool.cond, List.List, List.[], Option.none}
 use lib.{ListN.length, ListN.take, ListN.drop, ListN.getD, Dec.eqb, Dec.ltb}
-use Rattle.element.specs.{declared.FaultKind.FaultKind, declared.EndRead.EndRead, Fault.Text, Fault.at, Head.endOf, Ask.Got, Ask.ask, Parts.seriesBody}
-use Rattle.tcap.specs.{declared.MessageKind.MessageKind, declared.OptionalOrig.OptionalOrig, declared.OptionalDest.OptionalDest, declared.Dialogue.Dialogue, declared.Outcome.Outcome, declared.Reading.Reading, Meaning.Component, WellFormed.mostOctets, WellFormed.mostComponents, WellFormed.deepestLevel, Productions.componentAt, Productions.componentItem}
+use Rattle.element.specs.{declared.FaultKind.FaultKind, Fault.Text, Fault.at, Head.endOf, Ask.Got, Ask.ask, Parts.seriesBody}
+use Rattle.tcap.specs.{declared.MessageKind.MessageKind, declared.OptionalOrig.OptionalOrig, declared.OptionalDest.OptionalDest, declared.Dialogue.Dialogue, declared.Reading.Reading, Meaning.Component, WellFormed.mostOctets, WellFormed.mostComponents, WellFormed.deepestLevel, Productions.componentAt, Productions.componentItem}
 use Rattle.asking.specs.Asked.{faultField, innerOf, entryOf, wholeOf}
 use Rattle.asking.specs.declared.{Fault.Fault as FaultField, Entry.Entry}
 use Rattle.transaction.specs.declared.{Head.Head, HeadRead.HeadRead, HeadFault.HeadFault}
 use Rattle.transaction.specs.Head.{carriedField, headGot, headOf}
-use Rattle.reader.specs.declared.{KindRead.KindRead, Frame.Frame, Portion.Portion, Ahead.Ahead, Begun.Begun, Turn.Turn, Outline.Outline, Closing.Closing}
-use Rattle.reader.specs.Parts.{refusedBy, kindOf, bareFor, closedWith, gathered}
+use Rattle.beginning.specs.declared.{KindRead.KindRead, Frame.Frame, Portion.Portion, Ahead.Ahead, Begun.Begun, Closing.Closing}
+use Rattle.beginning.specs.Parts.{refusedBy, kindOf, bareFor, closedWith, gathered}
 
 -- a frame whose places are counted from the message's first octet
 abbrev pub counted : Frame → Frame
@@ -74,14 +74,3 @@ begunOf m =
     cond (ltb mostOctets (length m)) (stoppedBy noHead (faultField (at FaultKind.Overlong mostOctets)))
     (cond (eqb (length m) 0) (stoppedBy noHead (faultField (at FaultKind.CutOff 0)))
     (begunKind m (kindOf (getD m 0 0))))
-
--- In 6C
-
--- what a place asks for, by its end and how many components stand before it
-unfoldable pub turnOf : ℕ → EndRead → Turn
-turnOf n EndRead.Ended = cond (eqb n 0) (Turn.Bad FaultKind.Missing) Turn.End
-turnOf n EndRead.Unfinished = Turn.Bad FaultKind.CutOff
-turnOf n EndRead.More = cond (eqb n mostComponents) (Turn.Bad FaultKind.Seventeenth) Turn.More
-
-abbrev pub acceptedAs : Head → ℕ → Outline
-acceptedAs h n = record { outcome = Outcome.Accepted; kind = h .kind; orig = h .orig; dest = h .dest; dialogue = h .dialogue; count = n }

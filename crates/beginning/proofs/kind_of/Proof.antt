@@ -1,8 +1,8 @@
 -- `kind_of` meets its contract. Assumes nothing.
 use Rattle.base.proofs.Tests.{tests}
-use Rattle.reader.specs.Parts.{kindOf}
-use Rattle.reader.proofs.kind_of.Statement.{statement}
-use Rattle.reader.proofs.kind_of.Tie as tie
+use Rattle.beginning.specs.Parts.{kindOf}
+use Rattle.beginning.proofs.kind_of.Statement.{statement}
+use Rattle.beginning.proofs.kind_of.Tie as tie
 
 returns : tie.Need-returns
 unfolding kindOf

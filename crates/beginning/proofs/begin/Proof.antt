@@ -1,15 +1,15 @@
 -- `begin` meets its contract. Assumes nothing.
 use borrow.Author.Tests.{lt-ltb, le-ltb, eq-eqb, ne-eqb}
-use Rattle.reader.specs.Begun.{begunOf, begunKind}
+use Rattle.beginning.specs.Begun.{begunOf, begunKind}
 use borrow.Author.Needs.{needs}
-use Rattle.reader.proofs.begin.Statement.{statement}
-use Rattle.reader.proofs.begin.Tie as tie
-use Rattle.reader.proofs.begin.Reads as reads
-use Rattle.reader.proofs.begin.Lts as lts
+use Rattle.beginning.proofs.begin.Statement.{statement}
+use Rattle.beginning.proofs.begin.Tie as tie
+use Rattle.beginning.proofs.begin.Reads as reads
+use Rattle.beginning.proofs.begin.Lts as lts
 use Rattle.asking.proofs.found.Reads as found-reads
-use Rattle.reader.proofs.kind_of.Reads as kind-of-reads
-use Rattle.reader.proofs.message_begun.Reads as message-begun-reads
-use Rattle.reader.proofs.unheaded.Reads as unheaded-reads
+use Rattle.beginning.proofs.kind_of.Reads as kind-of-reads
+use Rattle.beginning.proofs.message_begun.Reads as message-begun-reads
+use Rattle.beginning.proofs.unheaded.Reads as unheaded-reads
 
 found-requires : tie.Need-found-requires
 found-requires c κs = search needs

@@ -4,15 +4,14 @@ use Prim.Native.Nat.{ℕ, _+_, _-_, _*_}
 use mathlib.Core.{Path._≡_, Bool.Bool, Bool.true, Bool.false, Bool.cond, List.List, List.[], List._++_, Option.Option, Option.none, Option.some, Option.Option·map, Option.Option·getD}
 use lib.{ListN.length, ListN.take, ListN.drop, ListN.getD, ListN.replicate, Dec.eqb, Dec.ltb, Dec.leb}
 use Rattle.element.specs.{declared.FaultKind.FaultKind, declared.EndRead.EndRead, Fault.numberOf, Fault.Text, Fault.Fault, Fault.at, Ask.Got, Ask.got, Ask.bad, Ask.next, Ask.blamed, Ask.Body, Ask.ask, Parts.mapItem, Parts.orItem, Parts.onlyBody, Parts.lastBody, Parts.optBody}
-use Rattle.tcap.specs.{declared.MessageKind.MessageKind, declared.OptionalOrig.OptionalOrig, declared.OptionalDest.OptionalDest, declared.Record.Record, declared.Span.Span, declared.InvokeId.InvokeId, declared.Answer.Answer, declared.Refusal.Refusal, declared.Outcome.Outcome, declared.Row.Row, declared.Reading.Reading, Meaning.Originating, Meaning.Destination, Meaning.Component, Meaning.Ending, Meaning.silent, Meaning.cause, Meaning.says, Meaning.Message, WellFormed.mostOctets, WellFormed.mostComponents, WellFormed.deepestLevel, Productions.octetItem, Productions.origItem, Productions.destItem, Productions.carried, Productions.levelAt, Productions.componentsItem, Productions.dialogueItem, Productions.tailBody, Productions.uniBody, Productions.beginBody, Productions.endBody, Productions.continueBody, Productions.abortBody, Record.spanOf, Record.origField, Record.destField, Record.dialogueField, Record.portionField, Record.endingField, Record.recordFrom, Record.blankRow, Record.blankRecord}
+use Rattle.tcap.specs.{declared.MessageKind.MessageKind, declared.OptionalOrig.OptionalOrig, declared.OptionalDest.OptionalDest, declared.Record.Record, declared.Span.Span, declared.InvokeId.InvokeId, declared.Answer.Answer, declared.Refusal.Refusal, declared.Outcome.Outcome, declared.Reading.Reading, Meaning.Originating, Meaning.Destination, Meaning.Component, Meaning.Ending, Meaning.silent, Meaning.cause, Meaning.says, Meaning.Message, WellFormed.mostOctets, WellFormed.mostComponents, WellFormed.deepestLevel, Productions.octetItem, Productions.origItem, Productions.destItem, Productions.carried, Productions.levelAt, Productions.componentsItem, Productions.dialogueItem, Productions.tailBody, Productions.uniBody, Productions.beginBody, Productions.endBody, Productions.continueBody, Productions.abortBody, Record.spanOf, Record.origField, Record.destField, Record.dialogueField, Record.portionField, Record.endingField, Record.recordFrom, Record.blankRow, Record.blankRecord}
 use Rattle.tcap.specs.declared.Dialogue.{Dialogue}
 use Rattle.asking.specs.Asked.{front, faultField, innerOf, wholeOf, begins, leafOf, closeOf}
 use Rattle.asking.specs.declared.{Owner.Owner, Fault.Fault as FaultField, Entry.Entry, Field.Field, Next.Next, Closed.Closed}
 use Rattle.transaction.specs.declared.{Head.Head}
 use Rattle.transaction.specs.Head.{Ids, carriedBy, idsOf, origIn, destIn, carriedField}
 use Rattle.components.specs.Rows.{ownedBy}
-use Rattle.layout.specs.Layout.{rowSize, rowsHeld, rowsOctets}
-use Rattle.reader.specs.declared.{KindRead.KindRead, Frame.Frame, Outline.Outline, Closing.Closing}
+use Rattle.beginning.specs.declared.{KindRead.KindRead, Frame.Frame, Closing.Closing}
 use Rattle.tcap.specs.Meaning.{Dialogue as Dialogues}
 use Rattle.tcap.specs.Productions.{inside6B, externalBody}
 use Rattle.element.specs.Parts.{aroundItem}
@@ -150,17 +149,3 @@ gathered h f n rest m (bad g) = refusedBy (carriedField (h .orig) (faultField g)
 unfoldable pub rowsRead : Head → Frame → ℕ → Got (List (Component Text)) → Reading
 rowsRead h f n (got cs k) = closedWith h cs (closingOf f n k Closed.Done)
 rowsRead h f n (bad g) = refusedBy (carriedField (h .orig) (faultField g))
-
--- The rows as octets, 24 a row
-
-unfoldable pub assembled : Outline → List ℕ → Reading
-assembled o l = record { outcome = o .outcome; message = record { kind = o .kind; orig = o .orig; dest = o .dest; dialogue = o .dialogue; count = o .count; rows = rowsHeld (o .count) l } }
-
--- a reading but for its rows
-unfoldable pub outlineOf : Reading → Outline
-outlineOf r = record { outcome = r .outcome; kind = r .message .kind; orig = r .message .orig; dest = r .message .dest; dialogue = r .message .dialogue; count = r .message .count }
-
--- outline and octets are those of a reading: its rows stand in them one after the other, as they are laid out
-pub record Laid (o : Outline) (l : List ℕ) (r : Reading) : Type 0 where
-  pub same : assembled o l ≡ r
-  pub rows : take (rowSize * o .count) l ≡ rowsOctets (take (o .count) (r .message .rows))
