@@ -63,7 +63,8 @@ fuzz: $(ARCHIVE)
 	@SEED=$(SEED) COUNT=$(COUNT) ROUNDS=$(ROUNDS) sh tests/fuzz.sh $(ARCHIVE)
 
 bench: $(ARCHIVE)
-	@sh bench/run.sh $(ARCHIVE)
+	rt check readings
+	@sh bench/run.sh $(ARCHIVE) target/bin/readings
 
 fmt:
 	rt fmt

@@ -1,16 +1,17 @@
 #!/bin/sh
-# What calls of the library cost: run.sh ARCHIVE
+# What calls of the library cost: run.sh ARCHIVE READINGS
 #
 # Instructions of a call beside plain C, by the size of the message (count_calls.sh);
-# the costliest messages to read that a search finds (worst.py); the deepest stack
+# those of reader::read (count_read.sh, with the program READINGS); the costliest messages to read that a search finds (worst.py); the deepest stack
 # of each call (tests/c/stack.c). SEED (1) and GENERATIONS (60) of the search may
 # be set, and what count_calls.sh takes.
 set -eu
-if [ $# -ne 1 ]; then
-    echo "usage: run.sh ARCHIVE" >&2
+if [ $# -ne 2 ]; then
+    echo "usage: run.sh ARCHIVE READINGS" >&2
     exit 2
 fi
 archive=$1
+readings=$2
 here=$(cd "$(dirname "$0")" && pwd)
 root=$(dirname "$here")
 tools=$root/tools/cc.sh
@@ -26,6 +27,10 @@ python3 "$root/tests/model/cases.py" "${SEED:-1}" 5000 "$tmp/model" >/dev/null
 
 echo "Instructions of a call, on the readable messages of the vectors:"
 sh "$here/count_calls.sh" "$archive" "$tmp/vectors"
+
+echo
+echo "Instructions of reader::read, as one record, on the same messages:"
+sh "$here/count_read.sh" "$readings" "$root/tests/vectors/read.txt"
 
 echo
 echo "The costliest messages to read of at most 255 octets that were found:"
