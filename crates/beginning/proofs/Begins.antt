@@ -18,15 +18,15 @@ use Rattle.tcap.specs.Meaning.{Component}
 use Rattle.tcap.specs.WellFormed.{mostOctets}
 use Rattle.tcap.specs.Reading.{reading}
 use Rattle.asking.specs.declared.{Fault.Fault as FaultField, Entry.Entry, Closed.Closed}
-use Rattle.asking.specs.Asked.{faultField, entryOf, innerOf, closeOf, wholeOf}
+use Rattle.asking.specs.Asked.{faultField, entryOf, innerOf, wholeOf}
 use Rattle.asking.proofs.Sizes.{entry-size, inner-size}
-use Rattle.transaction.specs.declared.{Head.Head, HeadRead.HeadRead, HeadFault.HeadFault}
+use Rattle.transaction.specs.declared.{Head.Head}
 use Rattle.transaction.specs.Head.{Ids, carriedField, spoiltBy, headGot, headOf}
 use Rattle.transaction.proofs.Heads.{head-size}
 use Rattle.beginning.specs.declared.{KindRead.KindRead, Frame.Frame, Ahead.Ahead, Begun.Begun, Closing.Closing}
 use Rattle.beginning.specs.Parts.{refusedBy, kindOf, bareFor, rowsFor, closingOf, closedWith, gathered, rowsRead, readAs, readKind, readMessage}
 use Rattle.beginning.specs.Begun.{counted, rowsAt, onwardBy, onward, noHead, stoppedBy, bareBegun, entered, begunFor, headedBy, headed, begunIn, begunKind, begunOf}
-use Rattle.beginning.proofs.Rows.{rowsIn, rows-law, rows-left, rows-there, readOn, readBy, record-law}
+use Rattle.beginning.proofs.Rows.{rowsBy, rows-law, rows-left, rows-there, readOn, readBy, record-law}
 use Rattle.beginning.proofs.Whole.{message-read}
 use Rattle.beginning.proofs.Places.{take-behind, whole-moved, whole-counted}
 
@@ -36,7 +36,7 @@ Within m b = (b .portion .at ≤ b .portion .end) × (b .portion .end ≤ b .fra
 
 pub record Begins (m : List ℕ) (b : Begun) (r : Reading) : Type 0 where
   pub same : onward m b ≡ r
-  pub within : b .ahead ≡ Ahead.Rows → Within m b
+  pub within : b .ahead ≡ Ahead.Components → Within m b
 
 -- Places counted from the message's first octet
 
@@ -86,8 +86,8 @@ module _ (h : Head) (f : Frame) (n : ℕ) (m : List ℕ) where
       by false = begins-stopped (faultField (at FaultKind.OctetsAfter w)) (refusedBy (carriedField (h .orig) (faultField (at FaultKind.OctetsAfter w)))) refl
 
   module _ (small : length m ≤ 255) (reach : from ≤ f .end) (inside : f .end ≤ length m) where
-    begins-entered : (x : Entry) → entryOf 0x6C (f .definite) behind ≡ x → Begins m (entered h f n x) (rowsIn h f n behind x)
-    unfolding entered rowsIn onwardBy
+    begins-entered : (x : Entry) → entryOf 0x6C (f .definite) behind ≡ x → Begins m (entered h f n x) (rowsBy h f n behind x)
+    unfolding entered rowsBy onwardBy
     begins-entered (Entry.Bad k) e = begins-stopped (faultField (at k from)) (refusedBy (carriedField (h .orig) (faultField (at k from)))) refl
     begins-entered (Entry.Open u e i) x =
         let s = entry-size 0x6C (f .definite) behind u e i x in
@@ -170,7 +170,7 @@ module _ (m : List ℕ) (b : Begun) (is : b ≡ begunOf m) where
   unfolding onwardBy
   begun-bare e = rw e at (begun .same)
 
-  module _ (e : b .ahead ≡ Ahead.Rows) where
+  module _ (e : b .ahead ≡ Ahead.Components) where
     pub begun-rows : gathered (b .head) (counted (b .frame)) 0 (take (b .frame .end) m) (wholeOf (b .portion .at) (b .portion .end) (b .portion .definite)) (rowsAt m (b .portion)) ≡ reading m
     unfolding onwardBy
     begun-rows = rw e at (begun .same)

@@ -2,25 +2,23 @@
 use Prim.Native.Nat.{ℕ, _+_}
 use native.Mathlib.Nat.{add-assoc, add-zero, zero-add}
 use mathlib.Core.Path.{_≡_, refl, sym, ap, ap₂, _∙_}
-use mathlib.Core.Bool.{Bool, true, false}
+use mathlib.Core.Bool.{Bool}
 use mathlib.Core.List.{List, []}
-use mathlib.Core.Option.{Option, none, some, Option·map, Option·getD}
+use mathlib.Core.Option.{Option, none, some, Option·getD}
 use lib.ListN.{drop}
 use lib.Seq.{drop-drop}
-use Rattle.element.specs.declared.{FaultKind.FaultKind}
 use Rattle.element.specs.Fault.{Text, Fault}
 use Rattle.element.specs.Ask.{Got, got, bad, next, blamed, Body, ask}
-use Rattle.element.specs.Parts.{mapItem, orItem, bindBody, thenBody, onlyBody, lastBody, optBody, mapBody}
+use Rattle.element.specs.Parts.{mapItem, orItem, bindBody, thenBody, onlyBody, lastBody, optBody}
 use Rattle.tcap.specs.declared.{MessageKind.MessageKind, Record.Record}
 use Rattle.tcap.specs.Meaning.{Originating, Destination, Component, Dialogue, Ending, silent, cause, says, Message, unidirectional, begin, finish, continue, abort}
 use Rattle.tcap.specs.WellFormed.{deepestLevel}
-use Rattle.tcap.specs.Productions.{octetItem, origItem, destItem, carried, levelAt, componentsItem, dialogueItem, tailBody, uniBody, beginBody, endBody, continueBody, abortBody}
-use Rattle.tcap.specs.Record.{origField, destField, portionField, endingField, recordFrom, recordOf}
-use Rattle.asking.specs.Asked.{front}
+use Rattle.tcap.specs.Productions.{octetItem, origItem, destItem, carried, levelAt, componentsItem, dialogueItem, tailBody}
+use Rattle.tcap.specs.Record.{portionField, endingField, recordFrom, recordOf}
 use Rattle.transaction.specs.Head.{Ids, carriedBy, origAsked, destAsked, idsOf, origIn, destIn}
 use Rattle.transaction.proofs.Firsts.{next-over}
 use Rattle.asking.proofs.Opened.{ask-map, ask-bind, ask-then, next-next, blamed-same, rest}
-use Rattle.beginning.specs.Parts.{bodyOf, Rest, tailOf, restOf, recordRead}
+use Rattle.beginning.specs.Parts.{kindBody, Rest, tailOf, restOf, recordRead}
 
 -- the IDs that a message has
 abbrev pub idsIn : Message Text → Ids
@@ -34,14 +32,9 @@ idsIn (abort e s) = (none, some e)
 abbrev pub toRecord : Message Text → ℕ → Got (Ids × Record)
 toRecord v n = got (idsIn v, recordOf v) n
 
-blamed-next : {A B : Type 0} (w : Fault → Fault) (x : Got A) (f : A → B) (m : ℕ → ℕ) → next (blamed w (next x (λ a n. got a (m n)))) (λ a n. got (f a) n) ≡ blamed w (next x (λ a n. got (f a) (m n)))
-unfolding next blamed
-blamed-next w (got a n) f m = refl
-blamed-next w (bad g) f m = refl
-
 module _ (d : Bool) (p : ℕ) (part : List ℕ) where
   abbrev asked : MessageKind → Got (Ids × Record)
-  asked k = next (ask (bodyOf k) d p part) toRecord
+  asked k = next (ask (kindBody k) d p part) toRecord
 
   -- one value made of another, and one of that
   twice : {A B C : Type 0} (x : Got A) (f : A → B) (g : B → C) (m : ℕ → ℕ) → next (next x (λ a n. got (f a) n)) (λ b n. got (g b) (m n)) ≡ next x (λ a n. got (g (f a)) (m n))
@@ -181,7 +174,7 @@ module _ (d : Bool) (p : ℕ) (part : List ℕ) where
       ∙ sym (next-next (origAsked d p part) _ _)
 
   -- every kind alike
-  pub body-read : (k : MessageKind) → next (ask (bodyOf k) d p part) toRecord ≡ recordRead k d p part
+  pub body-read : (k : MessageKind) → next (ask (kindBody k) d p part) toRecord ≡ recordRead k d p part
   body-read MessageKind.Unidirectional = uni-read
   body-read MessageKind.Begin = begin-read
   body-read MessageKind.End = end-read

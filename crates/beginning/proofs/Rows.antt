@@ -1,24 +1,24 @@
 -- 6C, its entry and its end, and then the record, as the code joins them. Assumes nothing.
-use Prim.Native.Nat.{ℕ, _+_, _-_, _≤_}
+use Prim.Native.Nat.{ℕ, _+_, _-_}
 use native.Mathlib.Omega.{arith}
-use native.Mathlib.Nat.{add-zero, zero-add, add-assoc}
+use native.Mathlib.Nat.{add-zero, zero-add}
 use mathlib.Core.Path.{_≡_, refl, sym, ap, _∙_}
 use mathlib.Core.Bool.{Bool, true, false, cond}
 use mathlib.Core.List.{List, []}
-use mathlib.Core.Option.{Option, none, some, Option·getD}
-use lib.ListN.{length, take, drop}
+use mathlib.Core.Option.{Option, some, Option·getD}
+use lib.ListN.{take, drop}
 use lib.Dec.{eqb}
 use Rattle.element.specs.declared.{FaultKind.FaultKind, EndRead.EndRead}
 use Rattle.element.specs.Element.{constructorOf}
-use Rattle.element.specs.Fault.{Text, Fault, at}
+use Rattle.element.specs.Fault.{Text, at}
 use Rattle.element.specs.Head.{endOf}
 use Rattle.element.specs.Ask.{Got, got, bad, next, blamed, Body, ask}
-use Rattle.element.specs.Parts.{onlyBody, lastBody, seriesBody, done}
+use Rattle.element.specs.Parts.{onlyBody, done}
 use Rattle.tcap.specs.declared.{MessageKind.MessageKind, Dialogue.Dialogue as DialogueField, Reading.Reading}
 use Rattle.tcap.specs.Meaning.{Component}
-use Rattle.tcap.specs.WellFormed.{deepestLevel, mostComponents}
-use Rattle.tcap.specs.Productions.{levelAt, componentAt, componentItem, componentsItem}
-use Rattle.asking.specs.declared.{Fault.Fault as FaultField, Entry.Entry, Closed.Closed}
+use Rattle.tcap.specs.WellFormed.{deepestLevel}
+use Rattle.tcap.specs.Productions.{levelAt, componentsItem}
+use Rattle.asking.specs.declared.{Entry.Entry, Closed.Closed}
 use Rattle.asking.specs.Asked.{front, faultField, entryOf, closeOf, wholeOf}
 use Rattle.asking.proofs.Opened.{ask-only, ask-last-ended, ask-last, rest}
 use Rattle.asking.proofs.Fronts.{aroundGot, front-around, closedGot, ask-done}
@@ -28,10 +28,8 @@ use Rattle.transaction.proofs.Heads.{carried-same}
 use Rattle.transaction.proofs.Stops.{unfinished-on, more-on}
 use Rattle.beginning.specs.declared.{Frame.Frame, Closing.Closing}
 use Rattle.beginning.specs.Parts.{refusedBy, acceptedWith, finished, recordRead, someRows, leftOut, bareFor, rowsFor, closingOf, closedWith, gathered, rowsRead}
+use Rattle.beginning.specs.Begun.{rowsBody}
 use Rattle.beginning.proofs.Tails.{whole, and-rows, head-rows}
-
-abbrev pub rowsBody : Body (List (Component Text))
-rowsBody = seriesBody (componentAt deepestLevel) FaultKind.UnknownComponent (componentItem deepestLevel) none mostComponents 0
 
 abbrev onlyRows : Body (List (Component Text))
 onlyRows = onlyBody (levelAt deepestLevel 2) (componentsItem deepestLevel)
@@ -49,9 +47,9 @@ module _ (h : Head) (f : Frame) (n : ℕ) (part : List ℕ) where
   abbrev p : ℕ
   p = f .start + n
 
-  unfoldable pub rowsIn : Entry → Reading
-  rowsIn (Entry.Bad k) = refusedBy (carriedField (h .orig) (faultField (at k p)))
-  rowsIn (Entry.Open u e i) = gathered h f n part (wholeOf u e i) (ask rowsBody i (p + u) (take (e - u) (drop u part)))
+  unfoldable pub rowsBy : Entry → Reading
+  rowsBy (Entry.Bad k) = refusedBy (carriedField (h .orig) (faultField (at k p)))
+  rowsBy (Entry.Open u e i) = gathered h f n part (wholeOf u e i) (ask rowsBody i (p + u) (take (e - u) (drop u part)))
 
   closing : (cs : List (Component Text)) (s : ℕ) (c : Closed) → rowsRead h f n (next (closedGot (levelAt deepestLevel 2) cs d (p + s) (drop s part) c) (λ b k. got cs (s + k))) ≡ closedWith h cs (closingOf f n s c)
   unfolding closedGot next rowsRead
@@ -66,12 +64,12 @@ module _ (h : Head) (f : Frame) (n : ℕ) (part : List ℕ) where
       ap (λ (y : Got (List (Component Text))). rowsRead h f n (next y (λ b j. got cs (m k + j)))) (ask-done (levelAt deepestLevel 2) cs d (p + m k) (drop (m k) part) refl)
       ∙ closing cs (m k) (closeOf d (drop (m k) part))
 
-  by-entry : (x : Entry) → rowsRead h f n (next (aroundGot 15 refl 0x6C built-6C rowsBody d p part x) (rest (λ a. done (levelAt deepestLevel 2) a) (λ a b. a) d p part)) ≡ rowsIn x
-  unfolding aroundGot rowsIn
+  by-entry : (x : Entry) → rowsRead h f n (next (aroundGot 15 refl 0x6C built-6C rowsBody d p part x) (rest (λ a. done (levelAt deepestLevel 2) a) (λ a b. a) d p part)) ≡ rowsBy x
+  unfolding aroundGot rowsBy
   by-entry (Entry.Bad k) = unfold next rowsRead in refl
   by-entry (Entry.Open u e i) = by-series (wholeOf u e i) (ask rowsBody i (p + u) (take (e - u) (drop u part)))
 
-  pub rows-law : rowsRead h f n (ask onlyRows d p part) ≡ rowsIn (entryOf 0x6C d part)
+  pub rows-law : rowsRead h f n (ask onlyRows d p part) ≡ rowsBy (entryOf 0x6C d part)
   rows-law =
       ap (rowsRead h f n) (ask-only (levelAt deepestLevel 2) (componentsItem deepestLevel) d p part ∙ ap (λ (x : Got (List (Component Text))). next x (rest (λ a. done (levelAt deepestLevel 2) a) (λ a b. a) d p part)) (front-around 15 refl 0x6C built-6C rowsBody d p part))
       ∙ by-entry (entryOf 0x6C d part)

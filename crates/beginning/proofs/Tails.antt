@@ -1,30 +1,25 @@
 -- The rest of a message is 6B and then the components; and all is the head of a message and then its rows. Assumes nothing.
-use Prim.Native.Nat.{ℕ, suc, _+_}
+use Prim.Native.Nat.{ℕ, _+_}
 use native.Mathlib.Nat.{add-assoc, add-zero, zero-add}
 use mathlib.Core.Path.{_≡_, refl, sym, ap, ap₂, _∙_}
-use mathlib.Core.Bool.{Bool, true, false, cond, not, _&&_, false≢true}
-use mathlib.Core.List.{List, [], _∷_}
-use mathlib.Core.Option.{Option, none, some, Option·map, Option·getD}
+use mathlib.Core.Bool.{Bool, true, false, cond}
+use mathlib.Core.List.{List, []}
+use mathlib.Core.Option.{Option, none, some, Option·getD}
 use native.Mathlib.Omega.{arith}
-use lib.ListN.{length, drop, getD}
+use lib.ListN.{drop}
 use lib.Seq.{drop-drop}
-use lib.Dec.{ltb, eqb}
-use borrow.Author.Tests.{eqb-true, eq-eqb, ne-eqb}
-use Rattle.element.specs.declared.{FaultKind.FaultKind, EndRead.EndRead, TagRead.TagRead}
-use Rattle.element.specs.Element.{extendedOf, codeZero, IsTag}
-use Rattle.element.specs.Fault.{Text, Fault}
-use Rattle.element.specs.Head.{endOf, tagOf}
+use lib.Dec.{ltb}
+use Rattle.element.specs.declared.{FaultKind.FaultKind}
+use Rattle.element.specs.Element.{extendedOf, codeZero}
+use Rattle.element.specs.Fault.{Text}
 use Rattle.element.specs.Ask.{Got, got, bad, next, blamed, Body, ask}
-use Rattle.element.specs.Parts.{Item, mapItem, orItem, onlyBody, lastBody, optBody, mapBody}
-use Rattle.element.specs.Answers.{fronted, frontOf}
-use Rattle.element.proofs.Heads.{tag-complete}
+use Rattle.element.specs.Parts.{mapItem, orItem, onlyBody, lastBody, optBody, mapBody}
 use Rattle.tcap.specs.declared.{MessageKind.MessageKind, Record.Record, Dialogue.Dialogue as DialogueField}
-use Rattle.tcap.specs.Meaning.{Originating, Destination, Component, Dialogue, Ending, silent, cause, says}
+use Rattle.tcap.specs.Meaning.{Component, Dialogue, Ending, silent, cause, says}
 use Rattle.tcap.specs.WellFormed.{deepestLevel}
-use Rattle.tcap.specs.Productions.{octetItem, levelAt, componentsItem, dialogueItem, tailBody}
+use Rattle.tcap.specs.Productions.{octetItem, levelAt, componentsItem, dialogueItem}
 use Rattle.tcap.specs.Record.{dialogueField, portionField, endingField, recordFrom}
-use Rattle.asking.specs.declared.{Next.Next}
-use Rattle.asking.specs.Asked.{front, onFront, onEnd, nextOf, begins}
+use Rattle.asking.specs.Asked.{front, begins}
 use Rattle.asking.proofs.Opened.{ask-map, next-next, rest}
 use Rattle.asking.proofs.Fronts.{opt-absent, opt-present}
 use Rattle.transaction.specs.Head.{Ids, carriedBy, idsOf, origIn, destIn, portionRead, portionFor, headOf}
@@ -78,7 +73,7 @@ module _ {A : Type 0} (y : Body A) (d : Bool) (p : ℕ) (part : List ℕ) (full 
       ∙ next-next opening _ _
       ∙ next-over opening _ _ (λ v n. got-got (ask y d (p + n) (drop n part)) (λ b. (some v, b)) fields (λ k. n + k))
 
-  pub portion-rest : next (ask (optBody (dialogueItem deepestLevel) y) d p part) (λ v n. got (fields v) n) ≡ next (portionRead d p part) following
+  portion-rest : next (ask (optBody (dialogueItem deepestLevel) y) d p part) (λ v n. got (fields v) n) ≡ next (portionRead d p part) following
   unfolding portionRead
   portion-rest = by-first (begins 0x6B part) refl
     where
@@ -121,7 +116,7 @@ module _ (d : Bool) (p : ℕ) (part : List ℕ) where
   no-rows (got v n) = ap (λ (m : ℕ). got (alone v) m) (sym (add-zero n))
   no-rows (bad f) = refl
 
-  pub rest-rows : (k : MessageKind) → restOf k d p part ≡ next (portionFor k d p part) (by-rows (rowsFor k d))
+  rest-rows : (k : MessageKind) → restOf k d p part ≡ next (portionFor k d p part) (by-rows (rowsFor k d))
   unfolding restOf portionFor rowsFor
   rest-rows MessageKind.Unidirectional = portion-rest (onlyBody (levelAt deepestLevel 2) (componentsItem deepestLevel)) d p part refl refl refl
   rest-rows MessageKind.Begin = tail-rest

@@ -1,37 +1,36 @@
 -- The code's order over a whole message is the definition of reading. Assumes nothing.
-use Prim.Native.Nat.{ℕ, suc, _+_, _-_, _≤_, _<_}
+use Prim.Native.Nat.{ℕ, _+_, _-_}
 use mathlib.Core.Path.{_≡_, refl, sym, ap, _∙_}
-use mathlib.Core.Bool.{Bool, true, false, cond, _||_, false≢true}
+use mathlib.Core.Bool.{Bool, true, false, cond, _||_}
 use mathlib.Core.List.{List, [], _∷_}
-use mathlib.Core.Option.{Option, none, some, Option·map, Option·getD}
+use mathlib.Core.Option.{Option}
 use native.Mathlib.Omega.{arith}
 use lib.ListN.{length, take, drop, getD}
 use lib.Dec.{ltb, leb, eqb}
 use lib.IntN.{ℤ}
 use borrow.Author.Tests.{eqb-true, le-leb, lt-leb, ltb-true, ltb-false, ne-eqb}
-use Rattle.base.proofs.Tests.{cond-all}
-use Rattle.element.specs.declared.{FaultKind.FaultKind, EndRead.EndRead, TagRead.TagRead}
+use Rattle.element.specs.declared.{FaultKind.FaultKind}
 use Rattle.element.specs.Element.{constructorOf, extendedOf, codeZero, IsTag}
 use Rattle.element.specs.Fault.{numberOf, Text, Owner, portion, dialogue, component, Fault, fault, at}
-use Rattle.element.specs.Head.{endOf, tagOf}
-use Rattle.element.specs.Ask.{Got, got, bad, next, check, blamed, Head, head, Body, askLength, ask}
+use Rattle.element.specs.Head.{endOf}
+use Rattle.element.specs.Ask.{Got, got, bad, next, check, blamed, head, Body, ask}
 use Rattle.element.specs.Parts.{aroundItem}
 use Rattle.element.specs.Answers.{fronted, frontOf}
 use Rattle.element.proofs.Heads.{tag-complete}
-use Rattle.tcap.specs.declared.{MessageKind.MessageKind, Answer.Answer, InvokeId.InvokeId, Record.Record, Outcome.Outcome, Reading.Reading}
+use Rattle.tcap.specs.declared.{MessageKind.MessageKind, Answer.Answer}
 use Rattle.tcap.specs.Meaning.{Message, unidirectional, begin, finish, continue, abort}
 use Rattle.tcap.specs.WellFormed.{mostOctets, deepestLevel}
 use Rattle.tcap.specs.Productions.{messageItem}
-use Rattle.tcap.specs.Record.{idField, recordOf, blankRecord, messageTag}
+use Rattle.tcap.specs.Record.{idField, recordOf, messageTag}
 use Rattle.tcap.specs.Reading.{learnt, aloneBody, readFirst, locatedUpTo, byOwner, answerFor, refusalOf, answered, readingUpTo, reading}
 use Rattle.asking.specs.declared.{Next.Next, Entry.Entry}
 use Rattle.asking.specs.Asked.{ownerField, faultField, onFront, onEnd, nextOf, innerOf, wholeOf}
 use Rattle.asking.proofs.Sizes.{inner-size, inner-open}
 use Rattle.asking.proofs.Opened.{sizeFor, byTag, byNext, ask-next, byEntry, length-inner}
 use Rattle.asking.proofs.Fronts.{around-open}
-use Rattle.transaction.specs.Head.{Ids, carriedBy}
+use Rattle.transaction.specs.Head.{carriedBy}
 use Rattle.beginning.specs.declared.{KindRead.KindRead}
-use Rattle.beginning.specs.Parts.{bodyOf, recordRead, causeBy, problemBy, answerBy, answerFrom, refusalFrom, refusedBy, acceptedWith, finished, readAs, kindOf, readKind, readMessage}
+use Rattle.beginning.specs.Parts.{kindBody, causeBy, problemBy, answerBy, answerFrom, refusalFrom, refusedBy, acceptedWith, finished, readAs, kindOf, readKind, readMessage}
 use Rattle.beginning.proofs.Bodies.{idsIn, toRecord, body-read}
 
 -- The refusal of a fault
@@ -91,18 +90,18 @@ module _ (k : MessageKind) (r : List ℕ) where
   whole = aloneBody deepestLevel (messageItem deepestLevel)
 
   by-entry : (x : Entry) → innerOf m 1 ≡ x
-      → ((u e : ℕ) (f : Bool) → messageItem deepestLevel .contents (head (messageTag k) u (sizeFor u e f)) 0 m ≡ aroundItem (messageTag k) (bodyOf k) .contents (head (messageTag k) u (sizeFor u e f)) 0 m)
+      → ((u e : ℕ) (f : Bool) → messageItem deepestLevel .contents (head (messageTag k) u (sizeFor u e f)) 0 m ≡ aroundItem (messageTag k) (kindBody k) .contents (head (messageTag k) u (sizeFor u e f)) 0 m)
       → answered (byEntry whole true 0 m (messageTag k) x) ≡ readAs k m x
   unfolding byEntry readAs
   by-entry (Entry.Bad f) h c = sym (refused-same (at f 0))
   by-entry (Entry.Open u e f) h c =
       let s = inner-size m 1 (omega arith) u e f h in
-      ap (λ (x : Got (Message Text)). answered (next x (closing (length m) u e f))) (c u e f ∙ around-open (bodyOf k) (messageTag k) 0 m (messageTag k) u e f (s .1) (inner-open m 1 u e f h))
-      ∙ finished-same (length m) u e f (ask (bodyOf k) f (0 + u) (take (e - u) (drop u m)))
+      ap (λ (x : Got (Message Text)). answered (next x (closing (length m) u e f))) (c u e f ∙ around-open (kindBody k) (messageTag k) 0 m (messageTag k) u e f (s .1) (inner-open m 1 u e f h))
+      ∙ finished-same (length m) u e f (ask (kindBody k) f (0 + u) (take (e - u) (drop u m)))
       ∙ ap (finished (length m) u e f) (body-read f (0 + u) (take (e - u) (drop u m)) k)
 
   of-kind : extendedOf (messageTag k) ≡ false → codeZero (messageTag k) ≡ false → constructorOf (messageTag k) ≡ true → messageItem deepestLevel .mine (messageTag k) ≡ true
-      → ((u e : ℕ) (f : Bool) → messageItem deepestLevel .contents (head (messageTag k) u (sizeFor u e f)) 0 m ≡ aroundItem (messageTag k) (bodyOf k) .contents (head (messageTag k) u (sizeFor u e f)) 0 m)
+      → ((u e : ℕ) (f : Bool) → messageItem deepestLevel .contents (head (messageTag k) u (sizeFor u e f)) 0 m ≡ aroundItem (messageTag k) (kindBody k) .contents (head (messageTag k) u (sizeFor u e f)) 0 m)
       → answered (ask whole true 0 m) ≡ readAs k m (innerOf m 1)
   unfolding byNext byTag check
   of-kind x z c o g =

@@ -1,36 +1,33 @@
 -- A message in the order in which the code reads it: IDs, then the rest, for every kind alike; cited by inner contracts, and no part of the definition of reading.
 -- Assumes nothing: these are definitions.
-use Prim.Native.Nat.{ℕ, _+_, _-_, _*_}
-use mathlib.Core.{Path._≡_, Bool.Bool, Bool.true, Bool.false, Bool.cond, List.List, List.[], List._++_, Option.Option, Option.none, Option.some, Option.Option·map, Option.Option·getD}
-use lib.{ListN.length, ListN.take, ListN.drop, ListN.getD, ListN.replicate, Dec.eqb, Dec.ltb, Dec.leb}
-use Rattle.element.specs.{declared.FaultKind.FaultKind, declared.EndRead.EndRead, Fault.numberOf, Fault.Text, Fault.Fault, Fault.at, Ask.Got, Ask.got, Ask.bad, Ask.next, Ask.blamed, Ask.Body, Ask.ask, Parts.mapItem, Parts.orItem, Parts.onlyBody, Parts.lastBody, Parts.optBody}
-use Rattle.tcap.specs.{declared.MessageKind.MessageKind, declared.OptionalOrig.OptionalOrig, declared.OptionalDest.OptionalDest, declared.Record.Record, declared.Span.Span, declared.InvokeId.InvokeId, declared.Answer.Answer, declared.Refusal.Refusal, declared.Outcome.Outcome, declared.Reading.Reading, Meaning.Originating, Meaning.Destination, Meaning.Component, Meaning.Ending, Meaning.silent, Meaning.cause, Meaning.says, Meaning.Message, WellFormed.mostOctets, WellFormed.mostComponents, WellFormed.deepestLevel, Productions.octetItem, Productions.origItem, Productions.destItem, Productions.carried, Productions.levelAt, Productions.componentsItem, Productions.dialogueItem, Productions.tailBody, Productions.uniBody, Productions.beginBody, Productions.endBody, Productions.continueBody, Productions.abortBody, Record.spanOf, Record.origField, Record.destField, Record.dialogueField, Record.portionField, Record.endingField, Record.recordFrom, Record.blankRow, Record.blankRecord}
+use Prim.Native.Nat.{ℕ, _+_, _-_}
+use mathlib.Core.{Bool.Bool, Bool.true, Bool.false, Bool.cond, List.List, List.[], Option.none, Option.Option·getD}
+use lib.{ListN.length, ListN.take, ListN.drop, ListN.getD, Dec.eqb, Dec.ltb}
+use Rattle.element.specs.{declared.FaultKind.FaultKind, declared.EndRead.EndRead, Fault.numberOf, Fault.Text, Fault.at, Ask.Got, Ask.got, Ask.bad, Ask.next, Ask.blamed, Ask.Body, Ask.ask, Parts.mapItem, Parts.orItem, Parts.onlyBody, Parts.lastBody, Parts.optBody}
+use Rattle.tcap.specs.{declared.MessageKind.MessageKind, declared.Record.Record, declared.InvokeId.InvokeId, declared.Answer.Answer, declared.Refusal.Refusal, declared.Outcome.Outcome, declared.Reading.Reading, Meaning.Component, Meaning.silent, Meaning.cause, Meaning.says, Meaning.Message, WellFormed.mostOctets, WellFormed.deepestLevel, Productions.octetItem, Productions.levelAt, Productions.componentsItem, Productions.dialogueItem, Productions.tailBody, Productions.uniBody, Productions.beginBody, Productions.endBody, Productions.continueBody, Productions.abortBody, Record.portionField, Record.endingField, Record.recordFrom, Record.blankRecord}
 use Rattle.tcap.specs.declared.Dialogue.{Dialogue}
-use Rattle.asking.specs.Asked.{front, faultField, innerOf, wholeOf, begins, leafOf, closeOf}
-use Rattle.asking.specs.declared.{Owner.Owner, Fault.Fault as FaultField, Entry.Entry, Field.Field, Next.Next, Closed.Closed}
+use Rattle.asking.specs.Asked.{faultField, innerOf, wholeOf, closeOf}
+use Rattle.asking.specs.declared.{Owner.Owner, Fault.Fault as FaultField, Entry.Entry, Closed.Closed}
 use Rattle.transaction.specs.declared.{Head.Head}
 use Rattle.transaction.specs.Head.{Ids, carriedBy, idsOf, origIn, destIn, carriedField}
-use Rattle.components.specs.Rows.{ownedBy}
 use Rattle.beginning.specs.declared.{KindRead.KindRead, Frame.Frame, Closing.Closing}
-use Rattle.tcap.specs.Meaning.{Dialogue as Dialogues}
-use Rattle.tcap.specs.Productions.{inside6B, externalBody}
-use Rattle.element.specs.Parts.{aroundItem}
 
 -- the body of each kind
-abbrev pub bodyOf : MessageKind → Body (Message Text)
-bodyOf MessageKind.Unidirectional = uniBody deepestLevel
-bodyOf MessageKind.Begin = beginBody deepestLevel
-bodyOf MessageKind.End = endBody deepestLevel
-bodyOf MessageKind.Continue = continueBody deepestLevel
-bodyOf MessageKind.Abort = abortBody deepestLevel
+abbrev pub kindBody : MessageKind → Body (Message Text)
+kindBody MessageKind.Unidirectional = uniBody deepestLevel
+kindBody MessageKind.Begin = beginBody deepestLevel
+kindBody MessageKind.End = endBody deepestLevel
+kindBody MessageKind.Continue = continueBody deepestLevel
+kindBody MessageKind.Abort = abortBody deepestLevel
 
 abbrev pub Rest : Type 0
 Rest = Dialogue × List (Component Text)
 
--- 6B and 6C; of an Abort 4A or 6B
+-- 6B and 6C
 unfoldable pub tailOf : Bool → ℕ → List ℕ → Got Rest
 tailOf d p part = next (ask (tailBody deepestLevel) d p part) (λ v n. got (portionField (v .0), v .1) n)
 
+-- what stands behind the IDs; in an Abort 4A or 6B
 unfoldable pub restOf : MessageKind → Bool → ℕ → List ℕ → Got Rest
 restOf MessageKind.Unidirectional d p part = next (ask (optBody (dialogueItem deepestLevel) (onlyBody (levelAt deepestLevel 2) (componentsItem deepestLevel))) d p part) (λ v n. got (portionField (v .0), v .1) n)
 restOf MessageKind.Begin d p part = tailOf d p part
@@ -60,12 +57,6 @@ answerFrom n o i = cond (eqb n 8) (Answer.AbortCause 0) (cond (eqb n 12) (Answer
 
 unfoldable pub refusalFrom : FaultField → Refusal
 refusalFrom f = record { kind = f .kind; place = f .place; orig = f .orig; answer = answerFrom (numberOf (f .kind)) (f .owner) (f .id) }
-
--- a fault found in the contents of a component belongs to it
-unfoldable pub ownedIn : Owner → FaultField → FaultField
-ownedIn Owner.Portion f = f
-ownedIn Owner.Dialogue f = f
-ownedIn (Owner.Component k) f = ownedBy k f
 
 unfoldable pub refusedBy : FaultField → Reading
 refusedBy f = record { outcome = Outcome.Refused (refusalFrom f); message = blankRecord }
@@ -128,7 +119,7 @@ bareFor MessageKind.End e = leftOut e
 bareFor MessageKind.Continue e = leftOut e
 bareFor MessageKind.Abort e = true
 
--- how a message ends whose contents have n octets before 6C, which takes s
+-- how a message ends: n octets of its contents stand before 6C, which takes s; of a `counted` frame n is 0, and 6C ends at s
 unfoldable pub closingOf : Frame → ℕ → ℕ → Closed → Closing
 closingOf f n s Closed.Done =
     let w = wholeOf (f .start) (f .end) (f .definite) (n + s) in
@@ -140,7 +131,7 @@ unfoldable pub closedWith : Head → List (Component Text) → Closing → Readi
 closedWith h cs Closing.Whole = acceptedWith (recordFrom (h .kind) (h .orig) (h .dest) (h .dialogue) cs)
 closedWith h cs (Closing.Bad g) = refusedBy (carriedField (h .orig) g)
 
--- the reading, once the contents of 6C have been read: m k octets of `rest` are 6C, if k were read
+-- the reading, once the contents of 6C have been read: if k octets were, 6C ends behind m k octets of `rest`
 unfoldable pub gathered : Head → Frame → ℕ → List ℕ → (ℕ → ℕ) → Got (List (Component Text)) → Reading
 gathered h f n rest m (got cs k) = closedWith h cs (closingOf f n (m k) (closeOf (f .definite) (drop (m k) rest)))
 gathered h f n rest m (bad g) = refusedBy (carriedField (h .orig) (faultField g))

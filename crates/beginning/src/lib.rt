@@ -26,7 +26,7 @@ pub enum KindRead {
     Kind(MessageKind),
 }
 
-// Where a message stands: its contents from `start` to `end`, if they are definite, and all of it in `len` octets.
+// Where a message stands: its contents from `start` to `end`, if they are definite; otherwise the end pair lies before `end`. `len` octets were handed over.
 pub struct Frame {
     pub start: usize,
     pub end: usize,
@@ -35,16 +35,16 @@ pub struct Frame {
 }
 
 // Where the contents of 6C stand in the message.
-pub struct Portion {
+pub struct ComponentPortion {
     pub at: usize,
     pub end: usize,
     pub definite: bool,
 }
 
-// What follows the head: no components, the contents of 6C, or a fault before them.
+// What follows the head: no components, the contents of 6C, or a fault.
 pub enum Ahead {
     Bare,
-    Rows,
+    Components,
     Bad(Fault),
 }
 
@@ -52,11 +52,11 @@ pub enum Ahead {
 pub struct Begun {
     pub head: Head,
     pub frame: Frame,
-    pub portion: Portion,
+    pub portion: ComponentPortion,
     pub ahead: Ahead,
 }
 
-// How a message ends.
+// How a message ends; the reader of its components answers it.
 pub enum Closing {
     Whole,
     Bad(Fault),
@@ -84,7 +84,7 @@ fn kind_of(first: u8) -> KindRead
     KindRead::Unknown
 }
 
-// A message that is refused for what stands before its components.
+// A message that is refused before any component is read.
 fn stopped(head: Head, fault: Fault) -> Begun
     ensures { λ r. ⌜ r ≡ stoppedBy head fault ⌝ }
 {
@@ -96,7 +96,7 @@ fn stopped(head: Head, fault: Fault) -> Begun
             definite: false,
             len: 0,
         },
-        portion: Portion {
+        portion: ComponentPortion {
             at: 0,
             end: 0,
             definite: false,
@@ -105,7 +105,7 @@ fn stopped(head: Head, fault: Fault) -> Begun
     }
 }
 
-// The head where none was read.
+// A message that is refused before its head was read.
 fn unheaded(fault: Fault) -> Begun
     ensures { λ r. ⌜ r ≡ stoppedBy noHead fault ⌝ }
 {
@@ -130,7 +130,7 @@ fn bare(head: Head, frame: Frame, before: usize) -> Begun
     Begun {
         head: head,
         frame: frame,
-        portion: Portion {
+        portion: ComponentPortion {
             at: 0,
             end: 0,
             definite: false,
@@ -139,8 +139,8 @@ fn bare(head: Head, frame: Frame, before: usize) -> Begun
     }
 }
 
-// Whether 6C may be left out here, and is.
-fn lacks_rows(rest: &[u8], definite: bool) -> bool
+// Whether the contents end here, so that 6C is left out.
+fn lacks_components(rest: &[u8], definite: bool) -> bool
     ensures { λ r. ⌜ r ≡ leftOut (endOf definite (now (rest .entry))) ⌝ }
 {
     match element::end_at(rest, definite) {
@@ -156,15 +156,15 @@ fn is_bare(kind: MessageKind, rest: &[u8], definite: bool) -> bool
 {
     match kind {
         MessageKind::Unidirectional => false,
-        MessageKind::Begin => lacks_rows(rest, definite),
-        MessageKind::End => lacks_rows(rest, definite),
-        MessageKind::Continue => lacks_rows(rest, definite),
+        MessageKind::Begin => lacks_components(rest, definite),
+        MessageKind::End => lacks_components(rest, definite),
+        MessageKind::Continue => lacks_components(rest, definite),
         MessageKind::Abort => true,
     }
 }
 
 // 6C, which must stand here.
-fn rows_at(head: Head, frame: Frame, rest: &[u8], before: usize) -> Begun
+fn components_at(head: Head, frame: Frame, rest: &[u8], before: usize) -> Begun
     requires { ⌜ frame .start + before + length (now rest) ≤ 4096 ⌝ }
     ensures { λ r. ⌜ r ≡ entered head frame before (entryOf 0x6C (frame .definite) (now (rest .entry))) ⌝ }
 {
@@ -174,25 +174,25 @@ fn rows_at(head: Head, frame: Frame, rest: &[u8], before: usize) -> Begun
         Entry::Open { at, end, definite } => Begun {
             head: head,
             frame: frame,
-            portion: Portion {
+            portion: ComponentPortion {
                 at: here + at,
                 end: here + end,
                 definite: definite,
             },
-            ahead: Ahead::Rows,
+            ahead: Ahead::Components,
         },
     }
 }
 
 // The components that the kind has.
-fn rows_for(kind: MessageKind, head: Head, frame: Frame, rest: &[u8], before: usize) -> Begun
+fn components_for(kind: MessageKind, head: Head, frame: Frame, rest: &[u8], before: usize) -> Begun
     requires { ⌜ frame .start + before + length (now rest) ≤ 4096 ⌝ }
     ensures { λ r. ⌜ r ≡ begunFor kind head frame before (now (rest .entry)) ⌝ }
 {
     if is_bare(kind, rest, frame.definite) {
         return bare(head, frame, before);
     }
-    rows_at(head, frame, rest, before)
+    components_at(head, frame, rest, before)
 }
 
 // The contents of a message of a kind, up to the components.
@@ -206,7 +206,7 @@ fn contents_begun(kind: MessageKind, part: &[u8], frame: Frame) -> Begun
     let fault = read.fault;
     match fault {
         HeadFault::Bad(found) => stopped(head, found),
-        HeadFault::Sound => rows_for(kind, head, frame, after(part, size), size),
+        HeadFault::Sound => components_for(kind, head, frame, after(part, size), size),
     }
 }
 

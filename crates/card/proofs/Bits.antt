@@ -1,12 +1,11 @@
 -- The fields of an answer lie side by side in 64 bits, and are read back by division and remainder. Assumes nothing.
-use Prim.Native.Nat.{ℕ, _+_, _-_, _*_, _/_, _%_, _^_, _≤_, _<_}
+use Prim.Native.Nat.{_+_, _-_, _*_, _%_, _^_, _≤_}
 use native.Mathlib.Omega.{arith}
-use mathlib.Core.Path.{_≡_, refl}
 use Rattle.element.specs.Fault.{numberOf}
 use Rattle.tcap.specs.declared.{OptionalOrig.OptionalOrig, InvokeId.InvokeId, Answer.Answer, Refusal.Refusal}
 use Rattle.tcap.proofs.Refusals.{numbered}
-use Rattle.layout.specs.Layout.{origSpan, idFlag, idOctet}
-use Rattle.card.specs.Answer.{origBits, sendBits, refusalBits}
+use Rattle.layout.specs.Layout.{idFlag, idOctet}
+use Rattle.card.specs.Answer.{origBits, sendBits}
 
 pub flag-small : (i : InvokeId) → idFlag i ≤ 1
 unfolding idFlag

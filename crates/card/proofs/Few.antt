@@ -1,12 +1,12 @@
 -- An outline that is a reading's has at most sixteen components. Assumes nothing.
 use Prim.Native.Nat.{ℕ, _+_, _-_, _≤_}
 use native.Mathlib.Omega.{arith}
-use mathlib.Core.Path.{_≡_, refl, sym, ap, _∙_}
+use mathlib.Core.Path.{_≡_, refl, ap, _∙_}
 use mathlib.Core.List.{List, _++_}
-use lib.ListN.{length, replicate, length-append, length-replicate}
-use Rattle.tcap.specs.declared.{Row.Row, Record.Record, Reading.Reading, Outcome.Outcome, Refusal.Refusal}
+use lib.ListN.{length, replicate, length-append}
+use Rattle.tcap.specs.declared.{Record.Record, Reading.Reading, Outcome.Outcome}
 use Rattle.tcap.specs.WellFormed.{mostComponents}
-use Rattle.tcap.specs.Record.{blankRow, blankRecord}
+use Rattle.tcap.specs.Record.{blankRow}
 use Rattle.tcap.specs.Reading.{reading}
 use Rattle.tcap.proofs.Refusals.{refused-carries}
 use Rattle.layout.specs.Layout.{rowsIn, rowsHeld}

@@ -1,7 +1,7 @@
 -- The fields of a refusal's answer, read back by division and remainder. Assumes nothing.
 use Prim.Native.Nat.{ℕ, _+_, _*_, _/_, _%_, _^_, _≤_, _<_}
 use native.Mathlib.Omega.{arith}
-use mathlib.Core.Path.{_≡_, refl, sym, ap, _∙_}
+use mathlib.Core.Path.{_≡_}
 use Rattle.element.specs.Fault.{numberOf}
 use Rattle.tcap.specs.declared.{InvokeId.InvokeId, Answer.Answer, Refusal.Refusal}
 use Rattle.layout.specs.Layout.{origSpan, idFlag, idOctet}

@@ -1,13 +1,12 @@
 -- What reading leaves in the room is a record, and stands for what was read; 0 is answered for nothing else. Assumes nothing.
-use Prim.Native.Nat.{ℕ, _+_, _*_, _≤_, _<_}
+use Prim.Native.Nat.{ℕ, _+_, _*_, _≤_}
 use native.Mathlib.Omega.{arith}
 use mathlib.Core.Path.{_≡_, refl, sym, ap, ap₂, _∙_}
 use mathlib.Core.Bool.{Bool, true, false}
 use mathlib.Core.List.{List, _++_}
 use lib.ListN.{length, take, drop, length-append, length-drop}
 use lib.Dec.{ltb}
-use borrow.Author.Tests.{le-ltb, ltb-true, ltb-false}
-use Rattle.element.specs.Fault.{numberOf}
+use borrow.Author.Tests.{le-ltb, ltb-false}
 use Rattle.tcap.specs.declared.{Refusal.Refusal, Outcome.Outcome, Reading.Reading}
 use Rattle.tcap.specs.Reading.{reading}
 use Rattle.tcap.proofs.Refusals.{numbered}

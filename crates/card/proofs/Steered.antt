@@ -1,12 +1,10 @@
 -- What the answer of a steering tells: the link whole, no rule, or the refusal as reading gives it. Assumes nothing.
-use Prim.Native.Nat.{ℕ, _+_, _*_, _/_, _%_, _^_, _<_}
+use Prim.Native.Nat.{ℕ, _/_, _%_, _^_}
 use native.Mathlib.Omega.{arith}
 use mathlib.Core.Path.{_≡_, refl}
-use mathlib.Core.List.{List}
 use Rattle.element.specs.Fault.{numberOf}
 use Rattle.steering.specs.declared.{Steered.Steered}
 use Rattle.card.specs.Answer.{done, noRule, steeredBits}
-use Rattle.card.proofs.Bits.{number-small}
 use Rattle.card.proofs.Fields.{status-field}
 
 abbrev pub statusOf : Steered → ℕ

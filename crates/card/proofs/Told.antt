@@ -1,8 +1,8 @@
 -- The answer to a refused message tells its place, its IDs, its cause or problem and its component whole: the fields are wide enough. Assumes nothing.
 use Prim.Native.Nat.{ℕ, _+_, _/_, _%_, _^_, _≤_, _<_}
 use native.Mathlib.Omega.{arith}
-use mathlib.Core.Path.{_≡_, refl, sym, ap, _∙_}
-use mathlib.Core.Logic.{_⊎_, inl, inr}
+use mathlib.Core.Path.{_≡_, refl}
+use mathlib.Core.Logic.{inl, inr}
 use mathlib.Core.Bool.{Bool, true, false, and-eq-true-iff}
 use mathlib.Core.List.{List}
 use mathlib.Core.Option.{some}
@@ -11,11 +11,11 @@ use lib.Dec.{leb}
 use borrow.Author.Tests.{leb-true}
 use Rattle.base.specs.Number.{topOf}
 use Rattle.base.proofs.Numbers.{bits-within, holds-small}
-use Rattle.element.specs.Fault.{Owner, Text}
+use Rattle.element.specs.Fault.{Owner}
 use Rattle.element.specs.Ask.{check}
 use Rattle.element.proofs.Laid.{stands-here, here-within}
 use Rattle.tcap.specs.declared.{OptionalOrig.OptionalOrig, InvokeId.InvokeId, Answer.Answer, Refusal.Refusal, Outcome.Outcome}
-use Rattle.tcap.specs.WellFormed.{mostOctets, mostComponents, deepestLevel, idOk}
+use Rattle.tcap.specs.WellFormed.{mostOctets, mostComponents, idOk}
 use Rattle.tcap.specs.Reading.{locatedUpTo, refusalOf, answered, readingUpTo, reading}
 use Rattle.tcap.proofs.Refusals.{Standard, unknownType, tooMany, inside6B, unknownComponent, mistypedComponent, badComponent, mistypedElsewhere, badElsewhere, OrigRead, SendOk, refused-carries}
 use Rattle.layout.specs.Layout.{origSpan, idIn, idOctet}

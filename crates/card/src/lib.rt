@@ -167,7 +167,7 @@ fn listed_bits(listed: Listed) -> u64
     }
 }
 
-// The reading of a message as one record, by the octets that every call here reads it into: beside `reader::read` the compiler would take neither into its caller.
+// The reading of a message as one record, made of the octets of `read_rows`: with `reader::read` in the library too, every reading through C would cost more.
 fn reading_of(message: &[u8]) -> Reading
     ensures { λ r. ⌜ r ≡ reading (now (message .entry)) ⌝ }
 {

@@ -32,7 +32,7 @@ headerOf k p part Next.Unfinished = Opened.Bad (faultField (at FaultKind.CutOff 
 headerOf k p part (Next.Fault j) = Opened.Bad (ownedBy k (faultField (at j p)))
 headerOf k p part (Next.Tag a s) = cond (componentItem deepestLevel .mine a) (insideOf k p a (innerOf part s)) (Opened.Bad (ownedBy k (faultField (at FaultKind.UnknownComponent p))))
 
--- why no component stands here, from what was asked of its tag
+-- why no component stands here, by what was asked of the place; a tag that stands here is no component's
 unfoldable pub headerFault : ℕ → ℕ → Next → Fault
 headerFault k p Next.Ended = faultField (at FaultKind.Missing p)
 headerFault k p Next.Unfinished = faultField (at FaultKind.CutOff p)

@@ -1,4 +1,4 @@
-// The components: the contents of 6C.
+// One component: its tag, where its contents stand, and its row.
 ghost use mathlib.Core.Path.{_≡_};
 ghost use mathlib.Core.Bool.{true};
 ghost use Prim.Native.Nat.{_+_, _≤_};
@@ -103,7 +103,7 @@ fn inside_at(part: &[u8], place: usize, index: usize, first: u8, size: usize) ->
     }
 }
 
-// Why no component stands here.
+// Why no component stands here; asked only where none does.
 fn header_fault(part: &[u8], place: usize, index: usize) -> Fault
     ensures { λ r. ⌜ r ≡ headerFault index place (nextOf true (now (part .entry))) ⌝ }
 {

@@ -10,14 +10,14 @@ use lib.ListN.{drop}
 use Rattle.element.specs.declared.{FaultKind.FaultKind, EndRead.EndRead}
 use Rattle.element.specs.Fault.{Text, at}
 use Rattle.element.specs.Head.{endOf}
-use Rattle.element.specs.Ask.{Got, got, bad, next, Body, ask}
+use Rattle.element.specs.Ask.{Got, got, bad, next, ask}
 use Rattle.element.specs.Parts.{Item, level, thenBody, onlyBody, lastBody}
 use Rattle.element.proofs.Asking.{ask-ends, ask-missing}
 use Rattle.tcap.specs.declared.{OptionalSpan.OptionalSpan, Code.Code as CodeField, Returned.Returned, Span.Span}
 use Rattle.tcap.specs.Meaning.{Code}
 use Rattle.tcap.specs.WellFormed.{deepestLevel}
 use Rattle.tcap.specs.Productions.{levelAt, parameterItem, codeItem}
-use Rattle.tcap.specs.Record.{spanOf, spanField, codeField, bothField}
+use Rattle.tcap.specs.Record.{spanOf, spanField, bothField}
 use Rattle.asking.specs.declared.Fault.{Fault}
 use Rattle.asking.specs.Asked.{faultField}
 use Rattle.asking.proofs.Opened.{rest, ask-then}

@@ -68,11 +68,13 @@ pub enum InvokeRead {
     },
 }
 
+// What follows the invoke ID of a Return Result.
 pub enum BothRead {
     Got { both: Returned, size: usize },
     Bad { kind: FaultKind, place: usize },
 }
 
+// A component's row and the octets its contents take, or the fault with the invoke ID that was read.
 pub enum RowRead {
     Got { row: Row, size: usize },
     Bad(Fault),

@@ -146,7 +146,7 @@ kind-length i (ComponentKind.ReturnError c p) = refl
 kind-length i (ComponentKind.Reject q) = refl
 kind-length i (ComponentKind.ResultNotLast r) = omega (arith, returned-length r)
 
-pub row-length : (r : Row) → length (rowOctets r) ≡ rowSize
+row-length : (r : Row) → length (rowOctets r) ≡ rowSize
 unfolding rowOctets
 row-length r = kind-length (r .id) (r .kind)
 

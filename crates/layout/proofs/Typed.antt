@@ -33,15 +33,15 @@ span-typed : (s : Span) (vs : List Val) → Is Spans.the-row s vs → SpanFits s
 unfolding topOf
 span-typed s vs p = (omega (arith, p .1 .1 .0 .1), omega (arith, p .1 .1 .1 .0 .1))
 
-pub optional-typed : (u : OptionalSpan) (vs : List Val) → Is Optionals.the-row u vs → OptionalFits u
+optional-typed : (u : OptionalSpan) (vs : List Val) → Is Optionals.the-row u vs → OptionalFits u
 optional-typed OptionalSpan.Absent vs p = tt
 optional-typed (OptionalSpan.Present s) vs p = span-typed s _ (p .1 .1 .1 .1 .0)
 
-pub id-typed : (i : InvokeId) (vs : List Val) → Is Ids.the-row i vs → IdFits i
+id-typed : (i : InvokeId) (vs : List Val) → Is Ids.the-row i vs → IdFits i
 id-typed InvokeId.Null vs p = tt
 id-typed (InvokeId.Id i) vs p = octet-holds i (p .1 .1 .1 .1 .0 .1)
 
-pub linked-typed : (l : LinkedId) (vs : List Val) → Is Linked.the-row l vs → LinkedFits l
+linked-typed : (l : LinkedId) (vs : List Val) → Is Linked.the-row l vs → LinkedFits l
 linked-typed LinkedId.Unlinked vs p = tt
 linked-typed (LinkedId.Linked i) vs p = octet-holds i (p .1 .1 .1 .1 .0 .1)
 

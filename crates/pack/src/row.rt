@@ -1,5 +1,4 @@
 // A row as its 24 octets: kind and IDs, then code, parameter or problem.
-ghost use mathlib.Core.Path.{_≡_};
 ghost use mathlib.Core.List.{[], _∷_, _++_};
 ghost use Prim.Native.Nat.{_+_, _≤_};
 ghost use lib.ListN.{length};

@@ -1,4 +1,4 @@
--- The loop over the components: the rows of those that were read, and then those of the rest. Assumes nothing.
+-- The two loops over the components: the rows of those that were read, and then those of the rest. Assumes nothing.
 use Prim.Native.Nat.{ℕ, zero, suc, _+_, _-_, _*_, _%_, _≤_, _<_}
 use native.Mathlib.Omega.{arith}
 use native.Mathlib.Nat.{add-zero, zero-add, add-assoc}
@@ -23,7 +23,7 @@ use Rattle.tcap.specs.Meaning.{Component}
 use Rattle.tcap.specs.WellFormed.{deepestLevel, mostComponents}
 use Rattle.tcap.specs.Productions.{componentItem, componentAt}
 use Rattle.tcap.specs.Record.{rowOf, blankRow}
-use Rattle.asking.specs.declared.{Fault.Fault, Closed.Closed}
+use Rattle.asking.specs.declared.{Fault.Fault}
 use Rattle.asking.specs.Asked.{faultField}
 use Rattle.asking.proofs.Opened.{rest}
 use Rattle.asking.proofs.Fronts.{series-more}
@@ -40,8 +40,7 @@ use Rattle.layout.proofs.RoundTrip.{rows-length}
 use Rattle.beginning.specs.declared.{Frame.Frame, Closing.Closing}
 use Rattle.reader.specs.declared.{Turn.Turn, Outline.Outline}
 use Rattle.beginning.specs.Parts.{refusedBy, acceptedWith, closingOf, closedWith, gathered}
-use Rattle.reader.specs.Outlines.{assembled, outlineOf, Laid}
-use Rattle.reader.specs.Outlines.{turnOf, acceptedAs}
+use Rattle.reader.specs.Outlines.{assembled, outlineOf, Laid, turnOf, acceptedAs}
 
 -- of a refused message the octets of the rows mean nothing
 pub refused-as : {r : Outline} (g : Fault) (l : List ℕ) → r ≡ outlineOf (refusedBy g) → Laid r l (refusedBy g)

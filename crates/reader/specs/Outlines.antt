@@ -1,4 +1,4 @@
--- What the loops over the components answer: an outline with the rows as octets, 24 a row; cited by inner contracts, and no part of the definition of reading.
+-- What a place in 6C asks for, and what `read_rows` answers: an outline, with the rows as octets, 24 a row; cited by inner contracts, and no part of the definition of reading.
 -- Assumes nothing: these are definitions.
 use Prim.Native.Nat.{ℕ, _*_}
 use mathlib.Core.{Path._≡_, Bool.cond, List.List}
@@ -6,8 +6,16 @@ use lib.{ListN.take, Dec.eqb}
 use Rattle.element.specs.{declared.FaultKind.FaultKind, declared.EndRead.EndRead}
 use Rattle.tcap.specs.{declared.Outcome.Outcome, declared.Reading.Reading, WellFormed.mostComponents}
 use Rattle.transaction.specs.declared.{Head.Head}
+use Rattle.asking.specs.declared.{Owner.Owner, Fault.Fault as FaultField}
+use Rattle.components.specs.Rows.{ownedBy}
 use Rattle.layout.specs.Layout.{rowSize, rowsHeld, rowsOctets}
 use Rattle.reader.specs.declared.{Outline.Outline, Turn.Turn}
+
+-- a fault found in the contents of a component belongs to it
+unfoldable pub ownedIn : Owner → FaultField → FaultField
+ownedIn Owner.Portion f = f
+ownedIn Owner.Dialogue f = f
+ownedIn (Owner.Component k) f = ownedBy k f
 
 -- what a place asks for, by its end and how many components stand before it
 unfoldable pub turnOf : ℕ → EndRead → Turn

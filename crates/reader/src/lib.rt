@@ -1,4 +1,4 @@
-// The reader: one message into its record, or the refusal.
+// The reader: one message into its record, or into an outline and the octets of its rows, or the refusal.
 ghost use mathlib.Core.Path.{_≡_};
 ghost use Prim.Native.Nat.{_+_, _≤_};
 ghost use lib.ListN.{length, drop, take};
@@ -6,9 +6,9 @@ ghost use Rattle.element.specs.Head.{endOf};
 ghost use Rattle.tcap.specs.Reading.{reading};
 ghost use Rattle.asking.specs.Asked.{closeOf, wholeOf};
 ghost use Rattle.transaction.specs.Head.{carriedField};
-ghost use Rattle.beginning.specs.Parts.{causeBy, problemBy, answerFrom, refusalFrom, ownedIn, refusedBy, closingOf, gathered};
+ghost use Rattle.beginning.specs.Parts.{causeBy, problemBy, answerFrom, refusalFrom, refusedBy, closingOf, gathered};
 ghost use Rattle.beginning.specs.Begun.{counted, rowsAt};
-ghost use Rattle.reader.specs.Outlines.{outlineOf, Laid, turnOf, acceptedAs};
+ghost use Rattle.reader.specs.Outlines.{outlineOf, Laid, ownedIn, turnOf, acceptedAs};
 use asking::Closed;
 use asking::Fault;
 use asking::Owner;
@@ -16,8 +16,8 @@ use base::after;
 use base::piece;
 use beginning::Ahead;
 use beginning::Closing;
+use beginning::ComponentPortion;
 use beginning::Frame;
-use beginning::Portion;
 use beginning::begin;
 use components::Opened;
 use contents::RowRead;
@@ -45,7 +45,7 @@ pub enum Turn {
     Bad(FaultKind),
 }
 
-// What a message is but for its rows.
+// A reading but for its rows.
 pub struct Outline {
     pub outcome: Outcome,
     pub kind: MessageKind,
@@ -133,8 +133,7 @@ fn owned_in(owner: Owner, fault: Fault) -> Fault
     }
 }
 
-// A refusal has no components; a fault found behind the IDs carries the originating one. Callers hand over the fault as they have it, so that the
-// compiler does not take it apart before it is needed.
+// A refusal has no components, and a fault behind the IDs carries the originating one; the owner is set here, so that callers hand the fault over whole.
 fn refused(orig: OptionalOrig, owner: Owner, fault: Fault) -> Outline
     ensures { λ r. ⌜ r ≡ outlineOf (refusedBy (carriedField orig (ownedIn owner fault))) ⌝ }
 {
@@ -207,7 +206,13 @@ fn accepted(known: Head, count: usize) -> Outline
 }
 
 // The components, at most 16, each laid out as a row behind those before it; then the end of the message.
-fn gather(rows: &mut [u8], message: &[u8], head: Head, frame: Frame, portion: Portion) -> Outline
+fn gather(
+    rows: &mut [u8],
+    message: &[u8],
+    head: Head,
+    frame: Frame,
+    portion: ComponentPortion,
+) -> Outline
     requires { ⌜ 384 ≤ length (now rows) ⌝ }
     requires { ⌜ (portion .at ≤ portion .end) × (portion .end ≤ frame .end) × (frame .end ≤ length (now message)) × (length (now message) ≤ 255) ⌝ }
     ensures { λ r. ⌜ Laid r (now (rows .exit)) (gathered head (counted frame) 0 (take (frame .end) (now (message .entry))) (wholeOf (portion .at) (portion .end) (portion .definite)) (rowsAt (now (message .entry)) portion)) ⌝ }
@@ -276,7 +281,7 @@ pub fn read_rows(message: &[u8], rows: &mut [u8]) -> Outline
             refused(orig, Owner::Portion, fault)
         }
         Ahead::Bare => accepted(head, 0),
-        Ahead::Rows => {
+        Ahead::Components => {
             let frame = begun.frame;
             let portion = begun.portion;
             gather(rows, message, head, frame, portion)
@@ -284,7 +289,7 @@ pub fn read_rows(message: &[u8], rows: &mut [u8]) -> Outline
     }
 }
 
-// The same as one record. It is made in one place: a call that hands a record back copies it, and sixteen rows with it.
+// The same as one record, made in this function by a loop of its own: a call that hands a record back copies it, and sixteen rows with it.
 pub fn read(message: &[u8]) -> Reading
     ensures { λ r. ⌜ r ≡ reading (now (message .entry)) ⌝ }
 {
@@ -301,6 +306,7 @@ pub fn read(message: &[u8]) -> Reading
     let two = [blank; 2];
     let row = two[message.len() % 2];
     let mut rows = [row; 16];
+    // Set before it is used: a variable needs a first value.
     let mut fault = asking::found(FaultKind::CutOff, 0);
     let mut owner = Owner::Portion;
     let ahead = begun.ahead;
@@ -321,7 +327,7 @@ pub fn read(message: &[u8]) -> Reading
                 },
             };
         }
-        Ahead::Rows => {
+        Ahead::Components => {
             let part = piece(message, portion.at, portion.end - portion.at);
             let mut count: usize = 0;
             let mut at: usize = 0;

@@ -1,20 +1,16 @@
 -- What stands before the components, as the code joins it. Assumes nothing.
 use Prim.Native.Nat.{ℕ, _+_, _≤_}
-use native.Mathlib.Nat.{zero-add}
 use mathlib.Core.Path.{_≡_, refl, ap}
-use mathlib.Core.Bool.{Bool, cond}
+use mathlib.Core.Bool.{Bool}
 use mathlib.Core.List.{List}
 use mathlib.Core.Option.{none, some}
 use native.Mathlib.Omega.{arith}
 use lib.ListN.{length, drop, length-drop}
-use lib.Dec.{eqb}
-use Rattle.element.specs.declared.{FaultKind.FaultKind}
-use Rattle.element.specs.Fault.{Text, Fault, fault, at, withOrigId}
+use Rattle.element.specs.Fault.{Fault, fault, at, withOrigId}
 use Rattle.element.specs.Ask.{Got, got, bad, next, blamed}
 use Rattle.tcap.specs.declared.{MessageKind.MessageKind, OptionalOrig.OptionalOrig, OptionalDest.OptionalDest, Dialogue.Dialogue as DialogueField}
 use Rattle.tcap.specs.Meaning.{orig}
-use Rattle.asking.specs.declared.{Fault.Fault as FaultField}
-use Rattle.asking.specs.Asked.{faultField, wholeOf}
+use Rattle.asking.specs.Asked.{faultField}
 use Rattle.dialogue.specs.declared.{DialogueRead.DialogueRead}
 use Rattle.transaction.specs.declared.{IdsRead.IdsRead, HeadFault.HeadFault, HeadRead.HeadRead}
 use Rattle.transaction.specs.Head.{Ids, carriedBy, origIn, destIn, idsOf, idsGot, portionFor, portionGot, carriedField, spoiltBy, headGot, headOf}

@@ -1,31 +1,31 @@
 -- What the readers of the IDs answer, from what their code was told. Assumes nothing.
 use Prim.Native.Nat.{ℕ, _+_, _≤_, _<_}
 use mathlib.Core.Path.{_≡_, refl, sym, ap, _∙_}
-use mathlib.Core.Bool.{Bool, true, false, cond, _&&_}
+use mathlib.Core.Bool.{Bool, true, false, _&&_}
 use mathlib.Core.List.{List}
 use mathlib.Core.Option.{Option, none, some}
 use native.Mathlib.Omega.{arith}
 use lib.ListN.{length, take, drop, length-drop}
 use lib.Seq.{length-take-le}
-use lib.Dec.{leb, eqb}
+use lib.Dec.{leb}
 use borrow.Author.Tests.{le-leb, lt-leb}
 use Rattle.element.specs.declared.{FaultKind.FaultKind}
 use Rattle.element.specs.Element.{constructorOf}
 use Rattle.element.specs.Fault.{Text, fault, at, portion, withOrigId}
-use Rattle.element.specs.Ask.{Got, got, bad, next, check, blamed, definite, Head, head, ask}
-use Rattle.element.specs.Parts.{leafContents, leafItem, mapItem}
+use Rattle.element.specs.Ask.{Got, got, bad, next, check, blamed, ask}
+use Rattle.element.specs.Parts.{leafContents, leafItem}
 use Rattle.tcap.specs.declared.{MessageKind.MessageKind, Span.Span, OptionalOrig.OptionalOrig, OptionalDest.OptionalDest}
 use Rattle.tcap.specs.Meaning.{Originating, orig, Destination, dest}
 use Rattle.tcap.specs.WellFormed.{deepestLevel, idOk}
-use Rattle.tcap.specs.Productions.{origItem, destItem, carried, levelAt}
+use Rattle.tcap.specs.Productions.{carried, levelAt}
 use Rattle.tcap.specs.Record.{spanOf}
-use Rattle.asking.specs.declared.{Fault.Fault as FaultField, Field.Field}
-use Rattle.asking.specs.Asked.{front, faultField, fieldOf, spanFrom}
+use Rattle.asking.specs.declared.{Field.Field}
+use Rattle.asking.specs.Asked.{front, fieldOf, spanFrom}
 use Rattle.asking.proofs.Sizes.{field-size}
 use Rattle.asking.proofs.Fronts.{fieldGot, front-field, front-map}
 use Rattle.transaction.specs.declared.{IdRead.IdRead, IdsRead.IdsRead}
 use Rattle.transaction.proofs.Firsts.{next-over}
-use Rattle.transaction.specs.Head.{Ids, origAsked, destAsked, idsOf, idGot, idsGot, givenOrig, origFrom, destFrom}
+use Rattle.transaction.specs.Head.{Ids, origAsked, destAsked, idsOf, idGot, idsGot, origFrom, destFrom}
 
 -- One ID
 

@@ -1,33 +1,27 @@
 -- 6B as the code reads it. Assumes nothing.
-use Prim.Native.Nat.{ℕ, suc, _+_, _-_, _≤_, _<_}
-use native.Mathlib.Nat.{add-zero}
+use Prim.Native.Nat.{ℕ, _+_, _-_, _≤_}
 use mathlib.Core.Path.{_≡_, refl, sym, ap, _∙_}
-use mathlib.Core.Bool.{Bool, true, false, cond, false≢true}
+use mathlib.Core.Bool.{Bool, true, false, false≢true}
 use mathlib.Core.List.{List, [], _∷_}
-use mathlib.Core.Option.{Option, none, some, Option·getD}
 use native.Mathlib.Omega.{arith}
-use lib.ListN.{length, take, drop, getD}
-use lib.Dec.{ltb, leb, eqb}
+use lib.ListN.{length, take, drop}
 use borrow.Author.Tests.{eq-eqb}
-use Rattle.element.specs.declared.{FaultKind.FaultKind, EndRead.EndRead}
+use Rattle.element.specs.declared.{FaultKind.FaultKind}
 use Rattle.element.specs.Element.{extendedOf, codeZero, constructorOf}
-use Rattle.element.specs.Fault.{Text, Fault, at}
-use Rattle.element.specs.Head.{endOf}
-use Rattle.element.specs.Ask.{Got, got, bad, next, check, Body, ask}
-use Rattle.element.specs.Parts.{Item, level, aroundItem, onlyBody, lastBody, seriesBody, done}
+use Rattle.element.specs.Fault.{Text}
+use Rattle.element.specs.Ask.{Got, got, bad, next, Body, ask}
+use Rattle.element.specs.Parts.{aroundItem, onlyBody}
 use Rattle.tcap.specs.declared.{Dialogue.Dialogue as DialogueField}
-use Rattle.tcap.specs.Meaning.{Dialogue, Component}
-use Rattle.tcap.specs.WellFormed.{deepestLevel, mostComponents}
-use Rattle.tcap.specs.Productions.{levelAt, inside6B, externalBody, dialogueItem, componentAt, componentItem, componentsItem}
+use Rattle.tcap.specs.Meaning.{Dialogue}
+use Rattle.tcap.specs.WellFormed.{deepestLevel}
+use Rattle.tcap.specs.Productions.{levelAt, inside6B, externalBody, dialogueItem}
 use Rattle.tcap.specs.Record.{dialogueField}
-use Rattle.asking.specs.declared.{Next.Next, Entry.Entry, Closed.Closed}
-use Rattle.asking.specs.Asked.{front, faultField, nextOf, innerOf, entryNext, entryOf, closeOf, wholeOf, begins}
-use Rattle.asking.proofs.Opened.{ask-only, ask-last-ended, ask-last, next-next, rest}
-use Rattle.asking.proofs.Fronts.{aroundGot, front-around, closedGot, ask-done}
+use Rattle.asking.specs.declared.{Next.Next, Entry.Entry}
+use Rattle.asking.specs.Asked.{front, nextOf, innerOf, entryNext, entryOf, wholeOf, begins}
+use Rattle.asking.proofs.Fronts.{aroundGot, front-around}
 use Rattle.dialogue.specs.declared.{DialogueRead.DialogueRead}
 use Rattle.dialogue.specs.Reads.{readAs as dialogueAs, dialogueGot}
 use Rattle.transaction.specs.Head.{portionRead, portionGot, portionIn, resized}
-use Rattle.transaction.proofs.Firsts.{next-over}
 use Rattle.transaction.proofs.Firsts.{next-first}
 
 pub begins-some : (a : ℕ) (part : List ℕ) → begins a part ≡ true → 1 ≤ length part

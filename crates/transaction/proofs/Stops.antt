@@ -1,21 +1,21 @@
 -- What an Abort ends with, as the code reads it. Assumes nothing.
-use Prim.Native.Nat.{ℕ, suc, _+_, _-_, _≤_, _<_}
+use Prim.Native.Nat.{ℕ, _+_, _-_, _≤_}
 use native.Mathlib.Nat.{add-zero}
 use mathlib.Core.Path.{_≡_, refl, sym, ap, _∙_}
-use mathlib.Core.Bool.{Bool, true, false, cond, false≢true, _||_}
+use mathlib.Core.Bool.{Bool, true, false, cond}
 use mathlib.Core.List.{List, [], _∷_}
-use mathlib.Core.Option.{Option, none, some, Option·getD}
+use mathlib.Core.Option.{Option, some, Option·getD}
 use native.Mathlib.Omega.{arith}
 use lib.ListN.{length, take, drop, getD, length-drop}
 use lib.Seq.{drop-cons, length-take-le}
-use lib.Dec.{ltb, leb, eqb}
-use borrow.Author.Tests.{eq-eqb, ne-eqb, eqb-true, eqb-false}
+use lib.Dec.{leb, eqb}
+use borrow.Author.Tests.{eq-eqb, eqb-true, eqb-false}
 use Rattle.element.specs.declared.{FaultKind.FaultKind, EndRead.EndRead}
 use Rattle.element.specs.Element.{constructorOf, extendedOf, codeZero}
 use Rattle.element.specs.Fault.{Text, Fault, at}
 use Rattle.element.specs.Head.{endOf}
-use Rattle.element.specs.Ask.{Got, got, bad, next, check, definite, head, Body, atEnd, ask}
-use Rattle.element.specs.Parts.{Item, level, leafContents, leafItem, mapItem, orItem, done, lastBody}
+use Rattle.element.specs.Ask.{Got, got, bad, next, check, Body, atEnd, ask}
+use Rattle.element.specs.Parts.{Item, leafContents, leafItem, mapItem, orItem, done}
 use Rattle.tcap.specs.declared.{MessageKind.MessageKind, Dialogue.Dialogue as DialogueField}
 use Rattle.tcap.specs.Meaning.{Dialogue, Ending, silent, cause, says}
 use Rattle.tcap.specs.WellFormed.{deepestLevel}

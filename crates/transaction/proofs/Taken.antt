@@ -1,27 +1,25 @@
 -- How many octets each part of a message takes: never more than there are. Assumes nothing.
 use Prim.Native.Nat.{ℕ, _+_, _-_, _≤_}
-use mathlib.Core.Path.{_≡_, refl, sym, ap, _∙_}
+use mathlib.Core.Path.{_≡_, refl, sym, _∙_}
 use mathlib.Core.Bool.{Bool, true, false, cond}
-use mathlib.Core.List.{List, [], _∷_, _++_, append-nil}
+use mathlib.Core.List.{List, [], _++_, append-nil}
 use native.Mathlib.Omega.{arith}
-use lib.ListN.{length, take, drop, replicate, length-replicate, length-drop}
-use lib.Seq.{length-take-le}
+use lib.ListN.{length, drop, replicate, length-replicate, length-drop}
 use Rattle.element.specs.declared.{FaultKind.FaultKind, EndRead.EndRead}
 use Rattle.element.specs.Element.{constructorOf}
-use Rattle.element.specs.Fault.{Text, Fault}
+use Rattle.element.specs.Fault.{Text}
 use Rattle.element.specs.Head.{endOf}
 use Rattle.element.specs.Ask.{Got, got, bad, next, Body, ask}
 use Rattle.element.specs.Parts.{Item, level, onlyBody, aroundItem}
 use Rattle.element.proofs.Ends.{Ends, held, the-held, ends-ask, ends-next, ends-weaken, ends-blamed}
 use Rattle.element.proofs.Laid.{Here, Claim, Span as Spanned, ItemLaid, BodyLaid, nothing-ends}
-use Rattle.element.proofs.Insides.{end-indefinite}
 use Rattle.tcap.specs.declared.{MessageKind.MessageKind, OptionalOrig.OptionalOrig, OptionalDest.OptionalDest, Span.Span, Dialogue.Dialogue as DialogueField}
 use Rattle.tcap.specs.Meaning.{Dialogue, Ending}
 use Rattle.tcap.specs.WellFormed.{deepestLevel}
 use Rattle.tcap.specs.Productions.{levelAt, inside6B, externalBody, dialogueItem}
 use Rattle.tcap.specs.Record.{dialogueField}
 use Rattle.tcap.proofs.Places.{inside-reads, dialogue-reads, stop-reads, ending-reads}
-use Rattle.asking.specs.Asked.{front, wholeOf, nextOf, begins}
+use Rattle.asking.specs.Asked.{front, nextOf, begins}
 use Rattle.dialogue.specs.declared.{DialogueRead.DialogueRead}
 use Rattle.dialogue.specs.Reads.{readAs as dialogueAs, dialogueGot}
 use Rattle.transaction.specs.declared.{IdRead.IdRead, IdsRead.IdsRead}
@@ -39,14 +37,6 @@ body-takes : {L : Type 0} {q : List ℕ → Claim} {b : Body L} {S : List ℕ �
 body-takes {b = b} s d p part =
     ends-ask b d p part (λ v f e. (omega arith, e)) (λ k i. refl) (λ f g h. refl) refl
     (λ h i f k. ends-weaken (s (replicate p 0 ++ part) .goes d p part h (stands p part) i f k) (λ v n g. (g .0 .within, g .1)) (λ f g. refl))
-
--- of contents that end where they say, the whole is in its part
-pub whole-within : (part : List ℕ) (u e n : ℕ) (f : Bool) → u ≤ e → e ≤ length part → Takes f (take (e - u) (drop u part)) n → wholeOf u e f n ≤ length part
-unfolding wholeOf
-whole-within part u e n true h i t = i
-whole-within part u e n false h i t =
-    let z = end-indefinite (drop n (take (e - u) (drop u part))) (t .1) in
-    omega (arith, t .0, ap length (z .1), length-drop n (take (e - u) (drop u part)), length-take-le (e - u) (drop u part) (omega (arith, length-drop u part)))
 
 abbrev inner6B : Body (Dialogue Text)
 inner6B = onlyBody (inside6B deepestLevel) (aroundItem 0x28 (externalBody deepestLevel))

@@ -1,16 +1,15 @@
 -- The transaction portion in the order in which the code reads it: IDs, then 6B or a cause; cited by inner contracts, and no part of the definition of reading.
 -- Assumes nothing: these are definitions.
 use Prim.Native.Nat.{ℕ, _+_, _-_}
-use mathlib.Core.{Bool.Bool, Bool.cond, List.List, List.[], Option.Option, Option.none, Option.some, Option.Option·map, Option.Option·getD}
-use lib.{ListN.length, ListN.take, ListN.drop, ListN.getD, Dec.eqb, Dec.ltb, Dec.leb}
-use Rattle.element.specs.{declared.FaultKind.FaultKind, Fault.numberOf, Fault.Text, Fault.Fault, Fault.fault, Fault.at, Ask.Got, Ask.got, Ask.bad, Ask.next, Ask.blamed, Ask.Body, Ask.ask, Parts.mapItem, Parts.orItem, Parts.onlyBody, Parts.lastBody, Parts.optBody}
-use Rattle.tcap.specs.{declared.MessageKind.MessageKind, declared.OptionalOrig.OptionalOrig, declared.OptionalDest.OptionalDest, declared.Record.Record, declared.Span.Span, declared.InvokeId.InvokeId, declared.Answer.Answer, declared.Refusal.Refusal, declared.Outcome.Outcome, declared.Reading.Reading, Meaning.Originating, Meaning.orig, Meaning.Destination, Meaning.Component, Meaning.Ending, Meaning.silent, Meaning.cause, Meaning.says, Meaning.Message, WellFormed.mostOctets, WellFormed.deepestLevel, Productions.octetItem, Productions.origItem, Productions.destItem, Productions.carried, Productions.levelAt, Productions.componentsItem, Productions.dialogueItem, Productions.tailBody, Productions.uniBody, Productions.beginBody, Productions.endBody, Productions.continueBody, Productions.abortBody, Record.spanOf, Record.origField, Record.destField, Record.dialogueField, Record.portionField, Record.endingField, Record.recordFrom, Record.blankRecord}
+use mathlib.Core.{Bool.Bool, Bool.cond, List.List, Option.Option, Option.none, Option.some, Option.Option·map, Option.Option·getD}
+use lib.{ListN.take, ListN.drop, ListN.getD, Dec.eqb, Dec.leb}
+use Rattle.element.specs.{declared.FaultKind.FaultKind, Fault.Text, Fault.Fault, Fault.fault, Fault.at, Ask.Got, Ask.got, Ask.bad, Ask.next, Ask.blamed, Ask.ask, Parts.mapItem, Parts.orItem, Parts.onlyBody, Parts.lastBody}
+use Rattle.tcap.specs.{declared.MessageKind.MessageKind, declared.OptionalOrig.OptionalOrig, declared.OptionalDest.OptionalDest, declared.Span.Span, Meaning.Originating, Meaning.orig, Meaning.Destination, Meaning.silent, Meaning.cause, Meaning.says, WellFormed.deepestLevel, Productions.octetItem, Productions.origItem, Productions.destItem, Productions.carried, Productions.levelAt, Productions.dialogueItem, Record.spanOf, Record.origField, Record.destField, Record.dialogueField, Record.endingField}
 use Rattle.tcap.specs.declared.Dialogue.{Dialogue}
 use Rattle.asking.specs.Asked.{front, faultField, innerOf, wholeOf, begins, leafOf, closeOf}
-use Rattle.asking.specs.declared.{Owner.Owner, Fault.Fault as FaultField, Entry.Entry, Field.Field, Next.Next, Closed.Closed}
+use Rattle.asking.specs.declared.{Fault.Fault as FaultField, Entry.Entry, Field.Field, Next.Next, Closed.Closed}
 use Rattle.transaction.specs.declared.{IdRead.IdRead, IdsRead.IdsRead, HeadFault.HeadFault, HeadRead.HeadRead}
 use Rattle.dialogue.specs.{declared.DialogueRead.DialogueRead, Reads.dialogueGot}
-use Rattle.tcap.specs.Meaning.{Dialogue as Dialogues}
 use Rattle.tcap.specs.Productions.{inside6B, externalBody}
 use Rattle.element.specs.Parts.{aroundItem}
 

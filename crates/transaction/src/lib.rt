@@ -380,7 +380,7 @@ pub fn carried_by(orig: OptionalOrig, fault: Fault) -> Fault
     }
 }
 
-// A fault before the components.
+// What a fault before the components leaves of the head: the kind.
 fn spoilt(kind: MessageKind, fault: Fault) -> HeadRead
     ensures { λ r. ⌜ r ≡ spoiltBy kind fault ⌝ }
 {

@@ -1,8 +1,8 @@
 // The fields of a record's head, and whether its choices are listed.
 ghost use mathlib.Core.Path.{_≡_};
-ghost use Prim.Native.Nat.{_≤_, min};
+ghost use Prim.Native.Nat.{_≤_};
 ghost use lib.ListN.{length, getD};
-ghost use Rattle.layout.specs.Layout.{spanAt, numberAt, isMessageTag, messageKindIn, origIn, destIn, isSourceTag, diagnosticIn, isDialogue, pduIn, outsideIn, dialogueIn, isHead};
+ghost use Rattle.layout.specs.Layout.{spanAt, isMessageTag, messageKindIn, origIn, destIn, isSourceTag, diagnosticIn, isDialogue, pduIn, outsideIn, dialogueIn, isHead};
 use crate::number::optional_at;
 use crate::number::span_at;
 use tcap::DestTransactionId;

@@ -4,29 +4,20 @@ use Rattle.beginning.specs.Begun.{bareBegun}
 use borrow.Author.Needs.{needs}
 use Rattle.beginning.proofs.bare.Statement.{statement}
 use Rattle.beginning.proofs.bare.Tie as tie
-use Rattle.beginning.proofs.bare.Reads as reads
-use Rattle.beginning.proofs.bare.Lts as lts
-use Rattle.asking.proofs.found.Reads as found-reads
-use Rattle.asking.proofs.whole_size.Reads as whole-size-reads
-use Rattle.beginning.proofs.stopped.Reads as stopped-reads
 
 whole-size-requires : tie.Need-whole-size-requires
 whole-size-requires c κs = search needs
 
--- src/lib.rt:292:30
 found-requires : tie.Need-found-requires
 found-requires c κs = search needs
 
--- src/lib.rt:292:9
 stopped-requires : tie.Need-stopped-requires
 stopped-requires c κs = search needs
 
--- src/lib.rt:292:9
 returns : tie.Need-returns
 unfolding bareBegun
 returns c = rw (← (c .before .before .before .before .whole-size .ensures), ne-eqb _ _ (c .before .before .if1 .taken), c .stopped .ensures, c .before .found .ensures)
 
--- src/lib.rt:286:1
 returns-2 : tie.Need-returns-2
 unfolding bareBegun
 returns-2 c = rw (← (c .before .before .whole-size .ensures), eq-eqb _ _ (c .if1 .left))

@@ -7,51 +7,35 @@ use Rattle.beginning.specs.Begun.{begunIn}
 use borrow.Author.Needs.{needs}
 use Rattle.beginning.proofs.message_begun.Statement.{statement}
 use Rattle.beginning.proofs.message_begun.Tie as tie
-use Rattle.beginning.proofs.message_begun.Reads as reads
-use Rattle.beginning.proofs.message_begun.Lts as lts
-use Rattle.asking.proofs.found.Reads as found-reads
-use Rattle.asking.proofs.inner_at.Reads as inner-at-reads
-use Rattle.base.proofs.piece.Reads as piece-reads
-use Rattle.beginning.proofs.contents_begun.Reads as contents-begun-reads
-use Rattle.beginning.proofs.unheaded.Reads as unheaded-reads
 
 inner-at-requires : tie.Need-inner-at-requires
 inner-at-requires c κs = search needs
 
--- src/lib.rt:383:20
 enum-known-fault : tie.Need-enum-known-fault
 enum-known-fault c = search needs
 
--- src/lib.rt:383:39
 found-requires : tie.Need-found-requires
 found-requires c κs = search needs
 
--- src/lib.rt:383:30
 unheaded-requires : tie.Need-unheaded-requires
 unheaded-requires c κs = search needs
 
--- src/lib.rt:384:23
 enum-known-at : tie.Need-enum-known-at
 enum-known-at c = search needs
 
--- src/lib.rt:391:53
 sub-piece : tie.Need-sub-piece
 sub-piece c = omega (arith, inner-size _ _ (c .before .before .before .before .before .pre .1) _ _ _ (sym (c .before .before .before .inner-at .ensures) ∙ c .before .at .given .1))
 
--- src/lib.rt:391:34
 piece-requires : tie.Need-piece-requires
 piece-requires c κs = omega (arith, inner-size _ _ (c .before .before .before .before .before .pre .1) _ _ _ (sym (c .before .before .before .inner-at .ensures) ∙ c .before .at .given .1))
 
--- src/lib.rt:391:13
 contents-begun-requires : tie.Need-contents-begun-requires
 contents-begun-requires c κs = omega (arith, c .before .before .before .before .before .before .pre .0, inner-size _ _ (c .before .before .before .before .before .before .pre .1) _ _ _ (sym (c .before .before .before .before .inner-at .ensures) ∙ c .before .before .at .given .1), simp (length-take, length-drop) at (ap length (c .piece .ensures)))
 
--- src/lib.rt:378:1
 returns : tie.Need-returns
 unfolding begunIn
 returns c = rw (← (c .before .before .before .before .before .inner-at .ensures), c .before .before .before .fault .given .1, c .unheaded .ensures, c .before .found .ensures)
 
--- src/lib.rt:378:1
 returns-2 : tie.Need-returns-2
 unfolding begunIn
 returns-2 c = rw (← (c .before .before .before .before .before .inner-at .ensures), c .before .before .before .at .given .1, ← (c .before .piece .ensures), c .contents-begun .ensures)

@@ -3,8 +3,6 @@ use mathlib.Core.Path.{refl}
 use Rattle.beginning.specs.Begun.{stoppedBy}
 use Rattle.beginning.proofs.stopped.Statement.{statement}
 use Rattle.beginning.proofs.stopped.Tie as tie
-use Rattle.beginning.proofs.stopped.Reads as reads
-use Rattle.beginning.proofs.stopped.Lts as lts
 
 returns : tie.Need-returns
 unfolding stoppedBy

@@ -2,14 +2,12 @@
 use borrow.Author.Needs.{needs}
 use denote.Ref.{now}
 use native.Mathlib.Omega.{arith}
-use Prim.Native.Nat.{_≤_}
-use mathlib.Core.Path.{_≡_, refl, sym, ap, _∙_}
+use mathlib.Core.Path.{_≡_, refl, sym, _∙_}
 use lib.Seq.{length-take-le}
 use borrow.Author.Tests.{lt-ltb, le-ltb}
 use Rattle.base.proofs.Puts.{put-front, put-then, put-length}
-use Rattle.tcap.specs.declared.{Outcome.Outcome, Reading.Reading}
+use Rattle.tcap.specs.declared.{Outcome.Outcome}
 use Rattle.tcap.specs.Reading.{reading}
-use Rattle.reader.specs.Outlines.{assembled}
 use Rattle.card.proofs.Few.{outline-few}
 use Rattle.card.specs.Answer.{outcomeBits, readAnswer, recordRoom, readRoom}
 use Rattle.card.proofs.Kept.{laid-most, laid-record, laid-outcome}

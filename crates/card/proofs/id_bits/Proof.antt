@@ -3,8 +3,6 @@ use borrow.Author.Needs.{needs}
 use native.Mathlib.Omega.{arith}
 use mir.Syntax.{w8}
 use mir.Facts.{toZ-ofZ}
-use mathlib.Core.Path.{_≡_}
-use Prim.Native.Nat.{_+_, _*_, _%_, _^_}
 use Rattle.layout.specs.Layout.{idFlag, idOctet}
 use Rattle.card.proofs.id_bits.Statement.{statement}
 use Rattle.card.proofs.id_bits.Tie as tie

@@ -1,6 +1,5 @@
 -- Absent, or both fields. Assumes nothing.
 use borrow.Author.Needs.{needs}
-use native.Mathlib.Omega.{arith}
 use Rattle.layout.specs.Layout.{origSpan}
 use Rattle.card.specs.Answer.{origBits}
 use Rattle.card.proofs.orig_bits.Statement.{statement}

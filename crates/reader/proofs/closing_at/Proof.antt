@@ -1,5 +1,4 @@
 -- `closing_at` meets its contract. Assumes nothing.
-use native.Mathlib.Omega.{arith}
 use native.Mathlib.Nat.{zero-add}
 use borrow.Author.Tests.{eq-eqb, ne-eqb}
 use Rattle.beginning.specs.Parts.{closingOf}
@@ -7,68 +6,49 @@ use Rattle.beginning.proofs.Places.{take-behind, whole-there}
 use borrow.Author.Needs.{needs}
 use Rattle.reader.proofs.closing_at.Statement.{statement}
 use Rattle.reader.proofs.closing_at.Tie as tie
-use Rattle.reader.proofs.closing_at.Reads as reads
-use Rattle.reader.proofs.closing_at.Lts as lts
-use Rattle.asking.proofs.close_at.Reads as close-at-reads
-use Rattle.asking.proofs.found.Reads as found-reads
-use Rattle.asking.proofs.whole_size.Reads as whole-size-reads
-use Rattle.base.proofs.piece.Reads as piece-reads
 
 sub-piece : tie.Need-sub-piece
 sub-piece c = search needs
 
--- src/lib.rt:217:28
 piece-requires : tie.Need-piece-requires
 piece-requires c κs = search needs
 
--- src/lib.rt:217:11
 close-at-requires : tie.Need-close-at-requires
 close-at-requires c κs = search needs
 
--- src/lib.rt:218:58
 enum-told : tie.Need-enum-told
 enum-told c = search needs
 
--- src/lib.rt:218:44
 found-requires : tie.Need-found-requires
 found-requires c κs = search needs
 
--- src/lib.rt:219:21
 enum-known-kind : tie.Need-enum-known-kind
 enum-known-kind c = search needs
 
--- src/lib.rt:219:43
 found-requires-2 : tie.Need-found-requires-2
 found-requires-2 c κs = search needs
 
--- src/lib.rt:221:17
 enum-told-2 : tie.Need-enum-told-2
 enum-told-2 c = search needs
 
--- src/lib.rt:221:17
 whole-size-requires : tie.Need-whole-size-requires
 whole-size-requires c κs = search needs
 
--- src/lib.rt:223:37
 found-requires-3 : tie.Need-found-requires-3
 found-requires-3 c κs = search needs
 
--- src/lib.rt:223:17
 returns : tie.Need-returns
 unfolding closingOf
 returns c = rw (← (take-behind _ _ _), ← (c .before .before .before .before .before .before .before .piece .ensures), ← (c .before .before .before .before .before .before .close-at .ensures), c .before .before .before .before .enum-told2 .given .1, ← (whole-there _ _ _), ← (c .before .before .before .whole-size .ensures), ne-eqb _ _ (c .before .if1 .taken), c .found3 .ensures)
 
--- src/lib.rt:213:1
 returns-2 : tie.Need-returns-2
 unfolding closingOf
 returns-2 c = rw (← (take-behind _ _ _), ← (c .before .before .before .before .piece .ensures), ← (c .before .before .before .close-at .ensures), c .before .enum-told .given .1, c .found .ensures, zero-add)
 
--- src/lib.rt:213:1
 returns-3 : tie.Need-returns-3
 unfolding closingOf
 returns-3 c = rw (← (take-behind _ _ _), ← (c .before .before .before .before .before .piece .ensures), ← (c .before .before .before .before .close-at .ensures), c .before .before .kind .given .1, c .found2 .ensures, zero-add)
 
--- src/lib.rt:213:1
 returns-4 : tie.Need-returns-4
 unfolding closingOf
 returns-4 c = rw (← (take-behind _ _ _), ← (c .before .before .before .before .before .before .piece .ensures), ← (c .before .before .before .before .before .close-at .ensures), c .before .before .before .enum-told2 .given .1, ← (whole-there _ _ _), ← (c .before .before .whole-size .ensures), eq-eqb _ _ (c .if1 .left))

@@ -1,9 +1,9 @@
 -- `gather` meets its contract. Assumes nothing.
 use native.Mathlib.Omega.{arith}
-use Prim.Native.Nat.{ℕ, _≤_, _<_, _-_, _+_}
-use mathlib.Core.Path.{_≡_, refl, sym, ap, _∙_}
+use Prim.Native.Nat.{_≤_, _<_, _-_, _+_}
+use mathlib.Core.Path.{_≡_, refl}
 use mathlib.Core.List.{List, [], _∷_, _++_}
-use lib.ListN.{length, length-append, length-take, length-drop}
+use lib.ListN.{length, length-append}
 use borrow.Author.Needs.{needs}
 use Rattle.base.proofs.Puts.{put-length}
 use Rattle.tcap.specs.declared.Row.{Row}
@@ -11,7 +11,7 @@ use Rattle.fields.proofs.Fits.{fit-got, fits-got}
 use Rattle.contents.proofs.Told.{row-bad, row-got}
 use Rattle.contents.proofs.Fitted.{component-fit}
 use Rattle.components.proofs.Chosen.{body-fits, header-bad, header-open, header-room, header-later, header-got}
-use Rattle.beginning.specs.Parts.{ownedIn}
+use Rattle.reader.specs.Outlines.{ownedIn}
 use Rattle.reader.proofs.Gathered.{refused-as, Left, left-all, closedAs, refused-by, turn-bad, turn-end, turn-more, more-bad, more-got, handed-out, whole-laid, end-inside, piece-bound, after-bound}
 use Rattle.reader.proofs.Held.{Held, held-none, held-more, held-room}
 use Rattle.reader.proofs.gather.Statement.{statement}

@@ -1,6 +1,6 @@
 -- `owned_in` meets its contract. Assumes nothing.
 use borrow.Author.Needs.{needs}
-use Rattle.beginning.specs.Parts.{ownedIn}
+use Rattle.reader.specs.Outlines.{ownedIn}
 use Rattle.reader.proofs.owned_in.Statement.{statement}
 use Rattle.reader.proofs.owned_in.Tie as tie
 

@@ -1,10 +1,10 @@
 -- `read` meets its contract. Assumes nothing.
 use native.Mathlib.Omega.{arith}
-use Prim.Native.Nat.{ℕ, _≤_, _<_, _-_, _+_}
-use mathlib.Core.Path.{_≡_, refl, sym, ap, _∙_}
+use Prim.Native.Nat.{_≤_, _<_, _-_, _+_}
+use mathlib.Core.Path.{_≡_, refl, _∙_}
 use mathlib.Core.List.{List, [], _∷_, _++_}
 use mathlib.Core.Logic.{⊎-elim}
-use lib.ListN.{length, replicate, length-append, length-take, length-drop}
+use lib.ListN.{length, replicate, length-append}
 use borrow.Author.Needs.{needs}
 use Rattle.tcap.specs.declared.Row.{Row}
 use Rattle.tcap.specs.Record.{blankRow}
@@ -16,8 +16,8 @@ use Rattle.components.proofs.Chosen.{body-fits, header-bad, header-open, header
 use denote.Ref.{now}
 use Rattle.tcap.specs.Reading.{reading}
 use Rattle.transaction.specs.Head.{carriedField}
-use Rattle.beginning.specs.declared.Ahead.{Ahead}
-use Rattle.beginning.specs.Parts.{ownedIn, refusedBy, closedWith}
+use Rattle.beginning.specs.Parts.{refusedBy, closedWith}
+use Rattle.reader.specs.Outlines.{ownedIn}
 use Rattle.reader.proofs.Gathered.{Left, left-all, closedAs, fault-ends, turn-bad, turn-end, turn-more, more-bad, more-got, handed-out, of-two, set-next, end-inside, piece-bound, after-bound}
 use Rattle.beginning.proofs.Begins.{begun-bad, begun-bare, begun-rows, begun-within}
 use Rattle.reader.proofs.read.Statement.{statement}

@@ -1,7 +1,6 @@
 -- `read_rows` meets its contract. Assumes nothing.
-use native.Mathlib.Omega.{arith}
 use borrow.Author.Needs.{needs}
-use Rattle.beginning.specs.Parts.{ownedIn}
+use Rattle.reader.specs.Outlines.{ownedIn}
 use Rattle.reader.proofs.Gathered.{refused-as, bare-as}
 use Rattle.beginning.proofs.Begins.{begun-bad, begun-bare, begun-rows, begun-within}
 use Rattle.reader.proofs.read_rows.Statement.{statement}

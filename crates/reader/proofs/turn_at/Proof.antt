@@ -4,46 +4,35 @@ use Rattle.reader.specs.Outlines.{turnOf}
 use borrow.Author.Needs.{needs}
 use Rattle.reader.proofs.turn_at.Statement.{statement}
 use Rattle.reader.proofs.turn_at.Tie as tie
-use Rattle.reader.proofs.turn_at.Reads as reads
-use Rattle.reader.proofs.turn_at.Lts as lts
-use Rattle.element.proofs.end_at.Reads as end-at-reads
 
 end-at-requires : tie.Need-end-at-requires
 end-at-requires c κs = search needs
 
--- src/lib.rt:236:16
 enum-told : tie.Need-enum-told
 enum-told c = search needs
 
--- src/lib.rt:237:17
 returns : tie.Need-returns
 unfolding turnOf
 returns c = rw (← (c .before .before .before .end-at .ensures), c .before .enum-told .given .1, eq-eqb _ _ (c .if1 .taken))
 
--- src/lib.rt:241:42
 enum-told-2 : tie.Need-enum-told-2
 enum-told-2 c = search needs
 
--- src/lib.rt:243:16
 enum-told-3 : tie.Need-enum-told-3
 enum-told-3 c = search needs
 
--- src/lib.rt:244:17
 returns-2 : tie.Need-returns-2
 unfolding turnOf
 returns-2 c = rw (← (c .before .before .before .end-at .ensures), c .before .enum-told3 .given .1, eq-eqb _ _ (c .if2 .taken))
 
--- src/lib.rt:231:1
 returns-3 : tie.Need-returns-3
 unfolding turnOf
 returns-3 c = rw (← (c .before .before .before .end-at .ensures), c .before .enum-told .given .1, ne-eqb _ _ (c .if1 .left))
 
--- src/lib.rt:231:1
 returns-4 : tie.Need-returns-4
 unfolding turnOf
 returns-4 c = rw (← (c .before .before .end-at .ensures), c .enum-told2 .given .1)
 
--- src/lib.rt:231:1
 returns-5 : tie.Need-returns-5
 unfolding turnOf
 returns-5 c = rw (← (c .before .before .before .end-at .ensures), c .before .enum-told3 .given .1, ne-eqb _ _ (c .if2 .left))

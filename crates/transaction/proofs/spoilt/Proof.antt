@@ -1,4 +1,4 @@
--- The fault, and a head that says nothing but the kind. Assumes nothing.
+-- `spoilt` meets its contract. Assumes nothing.
 use mathlib.Core.Path.{refl}
 use Rattle.transaction.specs.Head.{spoiltBy}
 use Rattle.transaction.proofs.spoilt.Statement.{statement}

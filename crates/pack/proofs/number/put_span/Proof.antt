@@ -2,7 +2,6 @@
 use borrow.Author.Needs.{needs}
 use Rattle.base.specs.Number.{octetsIn}
 use Rattle.base.proofs.Puts.{put-then}
-use Rattle.base.proofs.Numbers.{length-octets}
 use Rattle.layout.specs.Layout.{spanOctets}
 use Rattle.pack.proofs.Rooms.{put-room}
 use Rattle.pack.proofs.number.put_span.Statement.{statement}

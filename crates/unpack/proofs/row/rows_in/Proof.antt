@@ -1,10 +1,10 @@
 -- The rows passed stand at the front, blank rows behind them. Assumes nothing.
 use borrow.Author.Needs.{needs}
 use denote.Ref.{now}
-use Prim.Native.Nat.{_≤_, _-_, _*_}
+use Prim.Native.Nat.{_≤_, _-_}
 use native.Mathlib.Omega.{arith}
-use mathlib.Core.Path.{_≡_, refl}
-use lib.ListN.{length, drop, length-drop}
+use mathlib.Core.Path.{_≡_}
+use lib.ListN.{length-drop}
 use Rattle.layout.specs.Layout.{rowsIn, rowsHeld}
 use Rattle.unpack.proofs.Rows.{rows-step}
 use Rattle.unpack.proofs.row.rows_in.Statement.{statement}

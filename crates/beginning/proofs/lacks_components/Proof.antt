@@ -1,8 +1,8 @@
--- `lacks_rows` meets its contract. Assumes nothing.
+-- `lacks_components` meets its contract. Assumes nothing.
 use borrow.Author.Needs.{needs}
 use Rattle.beginning.specs.Parts.{leftOut}
-use Rattle.beginning.proofs.lacks_rows.Statement.{statement}
-use Rattle.beginning.proofs.lacks_rows.Tie as tie
+use Rattle.beginning.proofs.lacks_components.Statement.{statement}
+use Rattle.beginning.proofs.lacks_components.Tie as tie
 
 end-at-requires : tie.Need-end-at-requires
 end-at-requires c κs = search needs
@@ -28,7 +28,7 @@ returns-3 : tie.Need-returns-3
 unfolding leftOut
 returns-3 c = rw (← (c .before .before .end-at .ensures), c .enum-told3 .given .1)
 
-pub lacks-rows-spec : {M : Type 1} → statement M
-lacks-rows-spec =
+pub lacks-components-spec : {M : Type 1} → statement M
+lacks-components-spec =
     tie.close
     (tie.spec end-at-requires enum-told enum-told-2 enum-told-3 returns returns-2 returns-3)
