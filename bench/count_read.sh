@@ -29,7 +29,7 @@ instructions() {
     (cd "$tmp" && sh "$tools" count "$tmp/icount.so" "$@" 2>&1 >/dev/null) | sed -n 's/^instructions //p'
 }
 
-# more PROGRAM LESS MORE...: what the second arguments cost over the first
+# over PROGRAM LESS MORE: what the arguments MORE cost over LESS
 over() {
     echo $(($(instructions "$1" $3) - $(instructions "$1" $2)))
 }

@@ -2,9 +2,10 @@
 # What calls of the library cost: run.sh ARCHIVE READINGS
 #
 # Instructions of a call beside plain C, by the size of the message (count_calls.sh);
-# those of reader::read (count_read.sh, with the program READINGS); the costliest messages to read that a search finds (worst.py); the deepest stack
-# of each call (tests/c/stack.c). SEED (1) and GENERATIONS (60) of the search may
-# be set, and what count_calls.sh takes.
+# those of reader::read (count_read.sh, with the program READINGS); the costliest
+# messages to read that a search finds (worst.py); the deepest stack of each call
+# (tests/c/stack.c). SEED (1) and GENERATIONS (60) of the search may be set, and
+# what count_calls.sh takes.
 set -eu
 if [ $# -ne 2 ]; then
     echo "usage: run.sh ARCHIVE READINGS" >&2

@@ -16,6 +16,7 @@ use Rattle.beginning.specs.Parts.{refusedBy, kindOf, bareFor, closedWith
 abbrev pub counted : Frame → Frame
 counted f = record { start = 0; end = f .end; definite = f .definite; len = f .len }
 
+-- 6C holds components, at least one and at most 16
 abbrev pub rowsBody : Body (List (Component Text))
 rowsBody = seriesBody (componentAt deepestLevel) FaultKind.UnknownComponent (componentItem deepestLevel) none mostComponents 0
 
