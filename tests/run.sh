@@ -20,13 +20,15 @@ one() {
     fi
 }
 
-# a command whose last line is 'N passed, M failed'
+# a command whose last line is 'N passed, M failed'; what it says is shown as it comes
 many() {
     name=$1
     shift
-    "$@" >"$log/out" 2>&1
-    status=$?
-    cat "$log/out"
+    {
+        "$@" 2>&1
+        echo $? >"$log/status"
+    } | tee "$log/out"
+    status=$(cat "$log/status")
     last=$(tail -n 1 "$log/out")
     p=$(echo "$last" | sed -n 's/^\([0-9]*\) passed, \([0-9]*\) failed$/\1/p')
     f=$(echo "$last" | sed -n 's/^\([0-9]*\) passed, \([0-9]*\) failed$/\2/p')
@@ -58,10 +60,15 @@ command -v rt >/dev/null || {
     echo "0 passed, 1 failed"
     exit 1
 }
-rt version
+version=$(rt version)
+if grep -qF "\`$version\`" docs/TOOLCHAIN.md; then
+    echo "$version"
+else
+    echo "note: this is $version, and docs/TOOLCHAIN.md names $(sed -n 's/^.*toolchain `\([^`]*\)`.*$/\1/p' docs/TOOLCHAIN.md)"
+fi
 one "layout (rt fmt --check)" rt fmt --check
 one "every crate is listed" listed
-many "rt ci" rt ci
+many "rt ci" sh tools/prove.sh ci
 
 # The library for C, built anew from what was just proved, and its tests. None is left out: without a
 # compiler, an emulator or the archive they fail.
