@@ -83,6 +83,6 @@ listAnswer m out = listedBits (listedOf (listingOf m (reading m)) out)
 unfoldable pub listRoom : List ℕ → List ℕ → List ℕ
 listRoom m out = bufferAfter (listingOf m (reading m)) out
 
--- version 1, and the sizes of a rule and a record
+-- version 2, and the sizes of a rule and a record
 abbrev pub layoutBits : ℕ
-layoutBits = 1 * 2 ^ 24 + ruleSize * 2 ^ 16 + recordSize
+layoutBits = 2 * 2 ^ 24 + ruleSize * 2 ^ 16 + recordSize

@@ -15,7 +15,7 @@ use Rattle.base.proofs.Numbers.{signed-bits, bits-within, top-odd, holds-small,
 use Rattle.tcap.specs.declared.{Span.Span, OptionalSpan.OptionalSpan, OptionalOrig.OptionalOrig, OptionalDest.OptionalDest, InvokeId.InvokeId, LinkedId.LinkedId, Code.Code, Problem.Problem, Returned.Returned, ComponentKind.ComponentKind, Row.Row, Diagnostic.Diagnostic, Dialogue.Dialogue, MessageKind.MessageKind, Record.Record}
 use Rattle.tcap.specs.Record.{blankRow, messageTag}
 use Rattle.layout.specs.Fits.{SpanFits, OptionalFits, IdFits, LinkedFits, CodeFits, ReturnedFits, KindFits, RowFits, OrigFits, DestFits, DialogueFits, RecordFits}
-use Rattle.layout.specs.Layout.{headSize, rowSize, mostRows, recordSize, octet, numberAt, spanAt, spanOctets, noSpan, isFlag, optionalIn, optionalFlag, optionalSpan, isMessageTag, messageKindIn, origIn, origFlag, origSpan, destIn, destFlag, destSpan, isSourceTag, diagnosticIn, sourceTag, diagnosticNumber, isDialogue, pduIn, outsideIn, dialogueIn, dialogueNumber, portionOctets, dialogueOctets, idIn, idFlag, idOctet, linkedIn, linkedFlag, linkedOctet, isCodeTag, codeIn, codeTag, codeSpan, isProblemTag, problemIn, problemTag, problemNumber, isCoded, isReturned, returnedIn, isKind, kindIn, idsOctets, partsOctets, codedOctets, returnedOctets, problemOctets, kindOctets, isRow, rowIn, rowOctets, areRows, rowsIn, rowsOctets, isHead, isRecord, recordIn, headOctets, recordOctets}
+use Rattle.layout.specs.Layout.{headSize, rowSize, mostRows, recordSize, octet, numberAt, spanAt, spanOctets, noSpan, isFlag, optionalIn, optionalFlag, optionalSpan, isMessageTag, messageKindIn, origIn, origFlag, origSpan, destIn, destFlag, destSpan, isSourceTag, diagnosticIn, sourceTag, diagnosticNumber, isDialogue, pduIn, outsideIn, dialogueIn, dialogueNumber, portionOctets, dialogueOctets, idIn, idFlag, idOctet, linkedIn, linkedFlag, linkedOctet, isCodeTag, codeIn, codeTag, codeSpan, isProblemTag, problemIn, problemTag, problemNumber, isCoded, isReturned, returnedIn, isUnlinked, isKind, kindIn, idsOctets, partsOctets, codedOctets, returnedOctets, problemOctets, kindOctets, isRow, rowIn, rowOctets, areRows, rowsIn, rowsHeld, rowsOctets, isHead, isRecord, recordIn, headOctets, recordOctets}
 
 -- Each field
 
@@ -112,7 +112,7 @@ abbrev aRow : InvokeId → ComponentKind → Row
 aRow i k = record { id = i; kind = k }
 
 kind-is : (i : InvokeId) (k : ComponentKind) (rest : List ℕ) → isRow (kindOctets i k ++ rest) ≡ true
-unfolding isRow isKind kindOctets idsOctets problemOctets partsOctets
+unfolding isRow isKind isUnlinked kindOctets idsOctets problemOctets partsOctets linkedFlag isReturned
 kind-is i (ComponentKind.Invoke l c p) rest = rw (flag-id i, flag-linked l) (coded-is 0xA1 i l rest c p)
 kind-is i (ComponentKind.ResultLast r) rest = rw (flag-id i) (returned-is 0xA2 i LinkedId.Unlinked rest r)
 kind-is i (ComponentKind.ReturnError c p) rest = rw (flag-id i) (coded-is 0xA3 i LinkedId.Unlinked rest c p)
@@ -312,7 +312,7 @@ module _ (r : Record) (rest : List ℕ) where
   record-is f h = rw (le-leb recordSize _ h, append-assoc, head-is, head-count (f .count), head-cut, ← (looked (f .sixteen))) (rows-are (take (r .count) (r .rows)) rest)
 
   pub record-back : RecordFits r → recordIn (recordOctets r ++ rest) ≡ blanked r
-  unfolding recordIn recordOctets blanked
+  unfolding recordIn rowsHeld recordOctets blanked
   record-back f =
       let left : mostRows - min (r .count) mostRows ≡ mostRows - r .count = omega arith in
       rw (append-assoc, head-kind, head-orig (f .orig), head-dest (f .dest), head-dialogue (f .dialogue), head-count (f .count), head-cut, left, ← (looked (f .sixteen)), rows-back (take (r .count) (r .rows)) rest (f .rows))

@@ -107,12 +107,13 @@ unfoldable pub diagnosticNumber : Diagnostic → ℕ
 diagnosticNumber (Diagnostic.ByUser n) = n
 diagnosticNumber (Diagnostic.ByProvider n) = n
 
--- 3, 24..43: dialogue, by octet 3, which is x: name at 24, user information at 32 and 40, number at 41, diagnostic at 42
+-- 3, 24..43: dialogue, by octet 3, which is x: name at 24, user information at 32 and 40, number at 41, diagnostic at 42; only a PDU, 2 to 5, has user
+-- information, so elsewhere its flag is 0
 unfoldable pub isDialogue : ℕ → List ℕ → Bool
 isDialogue x l =
-    cond (leb x 1) true
+    cond (leb x 1) (eqb (octet l 40) 0)
     (cond (eqb x 3) (isFlag (octet l 40) && isSourceTag (octet l 42))
-    (cond (leb x 5) (isFlag (octet l 40)) (leb x 7)))
+    (cond (leb x 5) (isFlag (octet l 40)) (eqb (octet l 40) 0 && leb x 7)))
 
 abbrev pub infoIn : List ℕ → OptionalSpan
 infoIn l = optionalIn (octet l 40) (spanAt l 32)
@@ -232,14 +233,16 @@ parameterAt l = optionalIn (octet l 6) (spanAt l 16)
 unfoldable pub returnedIn : List ℕ → Returned
 returnedIn l = cond (eqb (octet l 5) 0) Returned.Bare (Returned.Both (codeAt l) (spanAt l 16))
 
--- 0: component kind, which is x
-unfoldable pub isKind : ℕ → List ℕ → Bool
-isKind x l =
-    cond (eqb x 0xA1) (isFlag (octet l 3) && isCoded l)
-    (cond (eqb x 0xA2) (isReturned l)
+-- 0: component kind, which is x; the flag of a part that the kind lacks is 0: 3 but in an Invoke, 6 in a Reject
+unfoldable pub isUnlinked : ℕ → List ℕ → Bool
+isUnlinked x l =
+    cond (eqb x 0xA2) (isReturned l)
     (cond (eqb x 0xA3) (isCoded l)
-    (cond (eqb x 0xA4) (isProblemTag (octet l 5))
-    (cond (eqb x 0xA7) (isReturned l) false))))
+    (cond (eqb x 0xA4) (eqb (octet l 6) 0 && isProblemTag (octet l 5))
+    (cond (eqb x 0xA7) (isReturned l) false)))
+
+unfoldable pub isKind : ℕ → List ℕ → Bool
+isKind x l = cond (eqb x 0xA1) (isFlag (octet l 3) && isCoded l) (cond (eqb (octet l 3) 0) (isUnlinked x l) false)
 
 unfoldable pub kindIn : ℕ → List ℕ → ComponentKind
 kindIn x l =
@@ -318,7 +321,7 @@ recordIn l =
       dest = destIn (octet l 2) (spanAt l 16);
       dialogue = dialogueIn (octet l 3) l;
       count = numberAt l 4;
-      rows = rowsIn (rowsLooked l) (drop headSize l) ++ replicate (mostRows - rowsLooked l) blankRow;
+      rows = rowsHeld (rowsLooked l) (drop headSize l);
     }
 
 unfoldable pub headOctets : MessageKind → OptionalOrig → OptionalDest → Dialogue → ℕ → List ℕ

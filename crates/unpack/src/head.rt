@@ -159,12 +159,13 @@ fn is_source_tag(tag: u8) -> bool
     tag == 0xA2
 }
 
+// Only a dialogue PDU has user information.
 fn is_dialogue(choice: u8, octets: &[u8]) -> bool
     requires { ⌜ 44 ≤ length (now octets) ⌝ }
     ensures { λ r. ⌜ r ≡ isDialogue choice (now (octets .entry)) ⌝ }
 {
     if choice <= 1 {
-        return true;
+        return octets[40] == 0;
     }
     if choice == 3 {
         if octets[40] > 1 {
@@ -174,6 +175,9 @@ fn is_dialogue(choice: u8, octets: &[u8]) -> bool
     }
     if choice <= 5 {
         return octets[40] <= 1;
+    }
+    if octets[40] != 0 {
+        return false;
     }
     choice <= 7
 }

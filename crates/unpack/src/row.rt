@@ -3,8 +3,9 @@ ghost use mathlib.Core.Path.{_≡_};
 ghost use mathlib.Core.Bool.{_&&_};
 ghost use Prim.Native.Nat.{_≤_};
 ghost use lib.ListN.{length, getD};
+ghost use lib.Dec.{eqb};
 ghost use Rattle.tcap.specs.declared.ComponentKind.{ComponentKind as ComponentKinds};
-ghost use Rattle.layout.specs.Layout.{isFlag, idIn, linkedIn, isCodeTag, codeAt, parameterAt, isProblemTag, problemIn, isCoded, isReturned, returnedIn, isKind, kindIn, isRow, rowIn, rowsHeld};
+ghost use Rattle.layout.specs.Layout.{isFlag, idIn, linkedIn, isCodeTag, codeAt, parameterAt, isProblemTag, problemIn, isCoded, isReturned, returnedIn, isUnlinked, isKind, kindIn, isRow, rowIn, rowsHeld};
 use crate::number::number_at;
 use crate::number::optional_at;
 use crate::number::span_at;
@@ -205,13 +206,22 @@ fn is_problem_tag(tag: u8) -> bool
     tag <= 0x83
 }
 
-fn is_kind(tag: u8, part: &[u8]) -> bool
+// A Reject has no parameter.
+fn is_reject(part: &[u8]) -> bool
     requires { ⌜ 24 ≤ length (now part) ⌝ }
-    ensures { λ r. ⌜ r ≡ isKind tag (now (part .entry)) ⌝ }
+    ensures { λ r. ⌜ r ≡ (eqb (getD (now (part .entry)) 6 0) 0 && isProblemTag (getD (now (part .entry)) 5 0)) ⌝ }
 {
-    if tag == 0xA1 {
-        return is_invoke(part);
+    if part[6] != 0 {
+        return false;
     }
+    is_problem_tag(part[5])
+}
+
+// All but an Invoke.
+fn is_unlinked(tag: u8, part: &[u8]) -> bool
+    requires { ⌜ 24 ≤ length (now part) ⌝ }
+    ensures { λ r. ⌜ r ≡ isUnlinked tag (now (part .entry)) ⌝ }
+{
     if tag == 0xA2 {
         return is_returned(part);
     }
@@ -219,12 +229,26 @@ fn is_kind(tag: u8, part: &[u8]) -> bool
         return is_coded(part);
     }
     if tag == 0xA4 {
-        return is_problem_tag(part[5]);
+        return is_reject(part);
     }
     if tag == 0xA7 {
         return is_returned(part);
     }
     false
+}
+
+// Only an Invoke has a linked ID.
+fn is_kind(tag: u8, part: &[u8]) -> bool
+    requires { ⌜ 24 ≤ length (now part) ⌝ }
+    ensures { λ r. ⌜ r ≡ isKind tag (now (part .entry)) ⌝ }
+{
+    if tag == 0xA1 {
+        return is_invoke(part);
+    }
+    if part[3] != 0 {
+        return false;
+    }
+    is_unlinked(tag, part)
 }
 
 // Whether every octet that chooses has a listed value.

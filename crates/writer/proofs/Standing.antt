@@ -25,7 +25,7 @@ use Rattle.verdict.proofs.Messages.{portion-law, record-law}
 use Rattle.rows.specs.Sizes.{rowsSize}
 use Rattle.rows.proofs.Sizes.{rows-size}
 use Rattle.putting.proofs.Sizes.{rows-lie}
-use Rattle.layout.specs.Layout.{headSize, rowSize, mostRows, recordSize, octet, numberAt, spanAt, idIn, linkedIn, codeIn, returnedIn, kindIn, rowIn, rowsIn, rowsLooked, isRecord, recordIn}
+use Rattle.layout.specs.Layout.{headSize, rowSize, mostRows, recordSize, octet, numberAt, spanAt, idIn, linkedIn, codeIn, returnedIn, kindIn, rowIn, rowsIn, rowsHeld, rowsLooked, isRecord, recordIn}
 use Rattle.unpack.proofs.Rows.{rows-length}
 use Rattle.writer.specs.declared.{WriteFault.WriteFault, Written.Written}
 use Rattle.layout.specs.Fits.{IdFits, LinkedFits}
@@ -108,7 +108,7 @@ rows-fit zero (suc k) l = (blank-fits, rows-fit zero k l)
 rows-fit (suc n) k l = (row-fits l, rows-fit n k (drop rowSize l))
 
 pub octets-fit : (o : List ℕ) → RecordTyped (recordIn o)
-unfolding recordIn
+unfolding recordIn rowsHeld
 octets-fit o =
     let k = rowsLooked o in
     record {
@@ -119,7 +119,7 @@ octets-fit o =
 -- The rows that count
 
 counted-by : (o : List ℕ) (b : Bool) → leb (numberAt o 4) mostRows ≡ b → counted (recordIn o) ≡ rowsIn (rowsLooked o) (drop headSize o)
-unfolding recordIn
+unfolding recordIn rowsHeld
 counted-by o true e =
     let l = leb-true (numberAt o 4) mostRows e in
     take-at (rowsIn (rowsLooked o) (drop headSize o)) (replicate (mostRows - rowsLooked o) blankRow) (numberAt o 4) (rows-length (rowsLooked o) (drop headSize o) ∙ omega arith)

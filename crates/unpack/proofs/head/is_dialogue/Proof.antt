@@ -7,27 +7,15 @@ use Rattle.unpack.proofs.head.is_dialogue.Tie as tie
 
 returns : tie.Need-returns
 unfolding isDialogue
-returns c = rw (le-leb _ _ (c .if1 .taken))
-
-shared-slice-read-if3 : tie.Need-shared-slice-read-if3
-shared-slice-read-if3 c = search needs
+returns c = rw (le-leb _ _ (c .before .if1 .taken))
 
 returns-2 : tie.Need-returns-2
 unfolding isDialogue
 returns-2 c = rw (lt-leb _ _ (c .before .before .before .if1 .left), eq-eqb _ _ (c .before .before .if2 .taken), lt-leb _ _ (c .if3 .taken))
 
-shared-slice-read-is-source-tag : tie.Need-shared-slice-read-is-source-tag
-shared-slice-read-is-source-tag c = search needs
-
-is-source-tag-requires : tie.Need-is-source-tag-requires
-is-source-tag-requires c κs = search needs
-
 returns-3 : tie.Need-returns-3
 unfolding isDialogue
 returns-3 c = rw (lt-leb _ _ (c .before .before .before .before .before .if1 .left), eq-eqb _ _ (c .before .before .before .before .if2 .taken), le-leb _ _ (c .before .before .if3 .left)) (c .is-source-tag .ensures)
-
-shared-slice-read-result : tie.Need-shared-slice-read-result
-shared-slice-read-result c = search needs
 
 returns-4 : tie.Need-returns-4
 unfolding isDialogue
@@ -35,18 +23,25 @@ returns-4 c = rw (lt-leb _ _ (c .before .before .before .if1 .left), ne-eqb _ _ 
 
 returns-5 : tie.Need-returns-5
 unfolding isDialogue
-returns-5 c = rw (lt-leb _ _ (c .before .before .if1 .left), ne-eqb _ _ (c .before .if2 .left), lt-leb _ _ (c .if4 .left))
+returns-5 c = rw (lt-leb _ _ (c .before .before .before .before .if1 .left), ne-eqb _ _ (c .before .before .before .if2 .left), lt-leb _ _ (c .before .before .if4 .left), ne-eqb _ _ (c .if5 .taken))
+
+returns-6 : tie.Need-returns-6
+unfolding isDialogue
+returns-6 c = rw (lt-leb _ _ (c .before .before .before .before .if1 .left), ne-eqb _ _ (c .before .before .before .if2 .left), lt-leb _ _ (c .before .before .if4 .left), eq-eqb _ _ (c .if5 .left))
 
 pub is-dialogue-spec : {M : Type 1} → statement M
 is-dialogue-spec =
     tie.close
     (tie.spec
+    (λ c. search needs)
     returns
-    shared-slice-read-if3
+    (λ c. search needs)
     returns-2
-    shared-slice-read-is-source-tag
-    is-source-tag-requires
+    (λ c. search needs)
+    (λ c κs. search needs)
     returns-3
-    shared-slice-read-result
+    (λ c. search needs)
     returns-4
-    returns-5)
+    (λ c. search needs)
+    returns-5
+    returns-6)
