@@ -6,7 +6,7 @@
 #include "plain.h"
 
 enum {
-    LAYOUT_VERSION = 1,
+    LAYOUT_VERSION = 2,
     RECORD_SIZE = 428,
     RULE_SIZE = 12,
     HEAD_SIZE = 44,

@@ -100,9 +100,10 @@ static unsigned measure_dialogue(struct writer *w, bool *wrong)
 
     switch (r[3]) {
     case LAYOUT_NONE:
+        *wrong = r[40] != 0;
         return 0;
     case LAYOUT_CAUSE:
-        *wrong = r[0] != PLAIN_ABORT;
+        *wrong = r[40] != 0 || r[0] != PLAIN_ABORT;
         number_in_range(w, r[41], 4);
         return 3;
     case LAYOUT_REQUEST:
@@ -121,6 +122,7 @@ static unsigned measure_dialogue(struct writer *w, bool *wrong)
         break;
     case LAYOUT_ELEMENT:
     case LAYOUT_OCTETS:
+        *wrong = r[40] != 0;
         w->external = 2 + place_short(w, r + 24, 16) + element(capped(place_span(w, r + 32).len));
         w->dialogue = element(w->external);
         return element(w->dialogue);
@@ -161,15 +163,16 @@ static inline bool measure_row(struct writer *w, unsigned k, const uint8_t *row)
 
     if (row[1] != 1 && (row[1] != 0 || row[0] != PLAIN_REJECT))
         return false;
+    /* A linked ID is there in an Invoke only, a parameter not in a Reject. */
+    if (row[3] > (row[0] == PLAIN_INVOKE) || row[6] > (row[0] != PLAIN_REJECT))
+        return false;
     switch (row[0]) {
     case PLAIN_INVOKE:
-        if (row[3] > 1)
-            return false;
         if (row[3] == 1)
             size += 3;
         /* fall through */
     case PLAIN_ERROR:
-        if (!is_code || row[6] > 1)
+        if (!is_code)
             return false;
         size += measure_code(w, row) + measure_parameter(w, row);
         break;
@@ -483,7 +486,7 @@ static inline uint8_t *put_row(const struct writer *w, uint8_t *o, unsigned k, c
     }
     if (row[0] == PLAIN_REJECT)
         return put_octet(o, row[5], row[7]);
-    if (row[0] == PLAIN_INVOKE && row[3] == 1)
+    if (row[3] == 1)
         o = put_octet(o, 0x80, row[4]);
     if (row[0] == PLAIN_LAST || row[0] == PLAIN_NOT_LAST) {
         if (row[5] == 0)

@@ -158,14 +158,13 @@ for name in specimens elements; do
     one $name run "$tmp/$name"
 done
 
-left_out=
+vectors=no
 if [ $# -eq 0 ]; then
     builds "a case file by the model" python3 "$root/tests/model/cases.py" "${SEED:-1}" "${COUNT:-2000}" "$tmp/model.cases"
     [ -f "$tmp/model.cases" ] && set -- "$tmp/model.cases"
     if [ -n "${VECTORS:-}" ]; then
         builds "a case file by the vectors" python3 "$root/tests/model/vector_cases.py" "$VECTORS" "$tmp/vector.cases"
-        left_out=$(sed -n 's/^.* cases; \([0-9]*\) records of write.jsonl .*$/\1/p' "$tmp/out")
-        left_out=${left_out:-unknown}
+        vectors=yes
         [ -f "$tmp/vector.cases" ] && set -- "$@" "$tmp/vector.cases"
     fi
 fi
@@ -190,21 +189,16 @@ for cases in "$@"; do
         count "every case of the model was compared" $?
     fi
 done
-# Did all of the vectors come through? A record of write.jsonl with a part that no
-# octet of the layout stands for (a linked ID outside an Invoke, a parameter of a
-# Reject) cannot be handed over: 25 are so.
-if [ -n "$left_out" ]; then
+# Did all of the vectors come through?
+if [ $vectors = yes ]; then
     one "the model gives what the vectors give" python3 "$root/tests/model/selfcheck.py" "$VECTORS"
     read=$(grep -c '^>' "$VECTORS/read.txt")
     write=$(grep -c . "$VECTORS/write.jsonl")
     steer=$(grep -c . "$VECTORS/steer.jsonl")
     echo "vectors: $read to read, $write to write, $steer to steer"
-    echo "$left_out left out" >"$tmp/out"
-    [ "$left_out" = 25 ]
-    count "records to be written that have no layout are 25" $?
     cp "$tmp/compared" "$tmp/out"
-    [ "$(cat "$tmp/out")" = "cases of read $read, write $((write - 25)), steer $steer, list $read" ]
-    count "every other vector was compared" $?
+    [ "$(cat "$tmp/out")" = "cases of read $read, write $write, steer $steer, list $read" ]
+    count "every vector was compared" $?
 fi
 one "calls on a small stack" run "$tmp/stack" "$@"
 sed '$d' "$tmp/out"

@@ -541,7 +541,7 @@ def wound_parts(random, noted):
     """24, in the notation."""
     rows = noted["components"]
     row = random.choice(rows) if rows else None
-    wound = random.below(9)
+    wound = random.below(12)
     if wound == 0:
         noted["otid"] = None if noted["otid"] is not None else random.octets(2)
     elif wound == 1:
@@ -558,8 +558,12 @@ def wound_parts(random, noted):
         row["id"] = None
     elif wound == 6 and row["kind"] != "reject":
         row["code"] = None
-    elif wound == 7 and row["kind"] != "reject":
+    elif wound in (7, 8):
         row["param"] = element(random, 1) if row["param"] is None else None
+    elif wound == 9:
+        row["linked"] = invoke_id(random)
+    elif wound == 10 and noted["dialogue"] is not None:
+        noted["dialogue"]["ui"] = user_information(random)
     else:
         row["kind"] = "none"
 
@@ -683,7 +687,7 @@ def wound_record(random, record):
     wound = random.below(5)
     if wound == 0:
         record[random.choice((0, 1, 2, 3, 40, 42))] = \
-            random.choice((2, 8, 0x80, 0xA1, 0x63, random.below(256)))
+            random.choice((1, 2, 8, 0x80, 0xA1, 0x63, random.below(256)))
     elif wound == 1:
         record[row + random.choice((0, 1, 3, 5, 6))] = \
             random.choice((0, 1, 2, 6, 0x84, 0xA5, random.below(256)))

@@ -714,8 +714,9 @@ def number_at(octets, place):
     return int.from_bytes(octets[place:place + 4], "big")
 
 
-def flag(octet):
-    if octet > 1:
+def flag(octet, allowed=True):
+    """Is the part there? It is not where it is not allowed."""
+    if octet > (1 if allowed else 0):
         raise NoRecord
     return octet == 1
 
@@ -752,7 +753,7 @@ def record_from_octets(octets):
     name = info = number = source = diagnostic = None
     if case in WITH_CONTEXT_NAME + (OTHER_ELEMENT, OTHER_OCTETS):
         name = span_at(octets, 24)
-    if case in (OTHER_ELEMENT, OTHER_OCTETS) or case in WITH_USER_INFORMATION and flag(octets[40]):
+    if flag(octets[40], case in WITH_USER_INFORMATION) or case in (OTHER_ELEMENT, OTHER_OCTETS):
         info = span_at(octets, 32)
     if case in (P_ABORT_CAUSE, RESPONSE, DIALOGUE_ABORT):
         number = octets[41]
@@ -770,8 +771,8 @@ def record_from_octets(octets):
 def row_from_octets(octets):
     kind, choice = octets[0], octets[5]
     invoke = signed(octets[2:3]) if flag(octets[1]) else None
-    linked = signed(octets[4:5]) if kind == INVOKE and flag(octets[3]) else None
-    parameter = span_at(octets, 16) if kind != REJECT and flag(octets[6]) else None
+    linked = signed(octets[4:5]) if flag(octets[3], kind == INVOKE) else None
+    parameter = span_at(octets, 16) if flag(octets[6], kind != REJECT) else None
     code = choice, None
     if kind == REJECT:
         code = choice, octets[7]

@@ -43,24 +43,21 @@ def laid_record(noted, spans, unused, strange=None):
     head += bytes([noted["otid"] is not None, noted["dtid"] is not None, case])
     head += len(noted["components"]).to_bytes(4, "big")
     head += span("otid") + span("dtid") + span("name") + span("info")
-    head += octet(dialogue["ui"] is not None) if "ui" in dialogue else unused(1)
+    head += bytes([dialogue.get("ui") is not None])
     head += octet(dialogue[number] if number else None) + octet(source) + octet(dialogue.get("diag"))
 
     rows = b""
     for k, row in enumerate(noted["components"][:ROWS]):
-        kind, code = row["kind"], row["code"]
-        rows += choice(kind, COMPONENTS) + bytes([row["id"] is not None]) + octet(row["id"])
-        if kind in ("invoke", "none"):
-            rows += bytes([row["linked"] is not None]) + octet(row["linked"])
-        else:
-            rows += unused(2)
+        code = row["code"]
+        rows += choice(row["kind"], COMPONENTS) + bytes([row["id"] is not None]) + octet(row["id"])
+        rows += bytes([row["linked"] is not None]) + octet(row["linked"])
         if code is None:
             rows += b"\x00"
         elif code[0] == "problem":
             rows += octet(0x80 + code[1])
         else:
             rows += bytes([CODES[code[0]]])
-        rows += unused(1) if kind == "reject" else bytes([row["param"] is not None])
+        rows += bytes([row["param"] is not None])
         rows += octet(code[2] if code is not None and code[0] == "problem" else None)
         if code is not None and code[0] == "local":
             rows += code[1].to_bytes(4, "big", signed=True) + unused(4)
@@ -68,13 +65,6 @@ def laid_record(noted, spans, unused, strange=None):
             rows += span(("code", k))
         rows += span(("param", k))
     return head + rows
-
-
-def has_no_layout(noted):
-    """A part that no octet of the layout stands for: a linked ID or parameter of another kind."""
-    return any(row["linked"] is not None and row["kind"] not in ("invoke", "none")
-               or row["param"] is not None and row["kind"] == "reject"
-               for row in noted["components"][:ROWS])
 
 
 def noted_strings(noted):
@@ -255,8 +245,6 @@ def write_cases_of_vectors(directory):
     random = Random(3)
     for vector in json_lines(directory, "write.jsonl"):
         noted, expect = vector["record"], vector["expect"]
-        if has_no_layout(noted):
-            continue
         material, spans = laid_material(noted_strings(noted), random)
         laid = laid_record(noted, spans, random.octets, strange_octet(random))
         out = random.nonzero(vector["room"])
@@ -301,10 +289,7 @@ def all_cases(directory):
 
 
 def main(directory, path):
-    count = write_cases(path, all_cases(directory))
-    skipped = sum(has_no_layout(vector["record"]) for vector in json_lines(directory, "write.jsonl"))
-    print("%d cases; %d records of write.jsonl have a part that the layout cannot state"
-          % (count, skipped))
+    print("%d cases" % write_cases(path, all_cases(directory)))
 
 
 if __name__ == "__main__":
