@@ -76,10 +76,10 @@ int main(int argc, char **argv)
     call = argv[3][0];
     class = argc == 5 ? atol(argv[4]) : 0;
     while (next_case(&file, &the)) {
-        unsigned status = goldenskep_answer_status(the.answer);
+        int status = goldenskep_answer_status(the.answer);
         size_t len = the.call == 'w' ? goldenskep_answer_length(the.answer) : the.a.len;
 
-        if (the.call != call || (status != GOLDENSKEP_DONE && status != GOLDENSKEP_NO_RULE) ||
+        if (the.call != call || (status != GOLDENSKEP_STATUS_DONE && status != GOLDENSKEP_STATUS_NO_RULE) ||
             (class != 0 && class != nearest_class(len)) || the.c.len > ROOM || count == MAX_CASES)
             continue;
         cases[count++] = the;

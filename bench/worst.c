@@ -45,7 +45,7 @@ int main(int argc, char **argv)
             answer = calls[i](message, len, record, sizeof record);
             getppid();
         }
-        printf("%u\n", goldenskep_answer_status(answer));
+        printf("%d\n", goldenskep_answer_status(answer));
     }
     return 0;
 }

@@ -68,12 +68,12 @@ static void build_answer(uint8_t *record, uint64_t answer)
     if (goldenskep_answer_is_reject(answer)) {
         int k;
 
-        goldenskep_record_init(record, GOLDENSKEP_END);
-        k = goldenskep_add_reject(record, GOLDENSKEP_PROBLEM_GENERAL, goldenskep_answer_problem(answer));
+        goldenskep_record_init(record, GOLDENSKEP_MESSAGE_END);
+        k = goldenskep_add_reject(record, GOLDENSKEP_PROBLEM_TYPE_GENERAL, goldenskep_answer_problem(answer));
         if (goldenskep_answer_has_invoke_id(answer))
-            goldenskep_row_set_invoke_id(record, (unsigned)k, (int8_t)goldenskep_answer_invoke_id(answer));
+            goldenskep_component_set_invoke_id(record, (unsigned)k, (int8_t)goldenskep_answer_invoke_id(answer));
     } else {
-        goldenskep_record_init(record, GOLDENSKEP_ABORT);
+        goldenskep_record_init(record, GOLDENSKEP_MESSAGE_ABORT);
         goldenskep_record_set_cause(record, goldenskep_answer_cause(answer));
     }
     goldenskep_record_set_dest(record, goldenskep_answer_orig(answer));
@@ -94,7 +94,7 @@ static void answer_message(const uint8_t *message, size_t n)
         return;
     }
     if (goldenskep_answer_is_reject(answer) &&
-        component_tag(message, goldenskep_answer_component(answer)) == GOLDENSKEP_REJECT) {
+        component_tag(message, goldenskep_answer_component(answer)) == GOLDENSKEP_COMPONENT_REJECT) {
         printf("discard: a faulty Reject is not rejected\n");
         return;
     }

@@ -22,11 +22,11 @@ static void change_message(uint8_t *material, size_t n, unsigned k, const uint8_
         return;
     }
     /* A Reject's row has no parameter, so setting one would have no effect. */
-    if (k >= goldenskep_record_count(record) || goldenskep_row_kind(record, k) == GOLDENSKEP_REJECT) {
+    if (k >= goldenskep_record_count(record) || goldenskep_component_kind(record, k) == GOLDENSKEP_COMPONENT_REJECT) {
         printf("no component %u that can have a parameter\n", k);
         return;
     }
-    goldenskep_row_set_parameter(record, k,
+    goldenskep_component_set_parameter(record, k,
                                  goldenskep_append(material, MESSAGE_ROOM + ELEMENT_ROOM, &used, element, element_len));
     answer = goldenskep_write(record, sizeof record, material, used, out, sizeof out);
     if (!goldenskep_answer_is_done(answer)) {

@@ -21,9 +21,9 @@ static int kind_called(const char *name)
         const char *name;
         int kind;
     } kinds[] = {
-        { "any", GOLDENSKEP_ANY },           { "unidirectional", GOLDENSKEP_UNIDIRECTIONAL },
-        { "begin", GOLDENSKEP_BEGIN },       { "end", GOLDENSKEP_END },
-        { "continue", GOLDENSKEP_CONTINUE }, { "abort", GOLDENSKEP_ABORT },
+        { "any", GOLDENSKEP_MESSAGE_ANY },           { "unidirectional", GOLDENSKEP_MESSAGE_UNIDIRECTIONAL },
+        { "begin", GOLDENSKEP_MESSAGE_BEGIN },       { "end", GOLDENSKEP_MESSAGE_END },
+        { "continue", GOLDENSKEP_MESSAGE_CONTINUE }, { "abort", GOLDENSKEP_MESSAGE_ABORT },
     };
 
     for (size_t i = 0; i < sizeof kinds / sizeof kinds[0]; i++)
@@ -73,7 +73,7 @@ static size_t read_rules(const char *name)
 
 static void print_refusal(const uint8_t *message, uint64_t answer)
 {
-    struct goldenskep_span orig = goldenskep_answer_orig(answer);
+    goldenskep_span orig = goldenskep_answer_orig(answer);
     unsigned status = goldenskep_answer_status(answer);
 
     printf("refused at octet %lu: %s (%u)\n", (unsigned long)goldenskep_answer_place(answer),
@@ -121,7 +121,7 @@ int main(int argc, char **argv)
         printf("%lu ", ++index);
         if (goldenskep_answer_is_done(answer))
             printf("link %lu\n", (unsigned long)goldenskep_answer_link(answer));
-        else if (goldenskep_answer_status(answer) == GOLDENSKEP_NO_RULE)
+        else if (goldenskep_answer_status(answer) == GOLDENSKEP_STATUS_NO_RULE)
             printf("no rule\n");
         else
             print_refusal(message, answer);

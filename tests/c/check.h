@@ -27,13 +27,14 @@ static inline int checks_end(void)
     return checks_failed != 0 || checks_passed == 0;
 }
 
-static inline int hex_digit(char c)
+static inline uint8_t hex_digit(char c)
 {
-    if (c >= '0' && c <= '9')
-        return c - '0';
-    if (c >= 'A' && c <= 'F')
-        return c - 'A' + 10;
-    return -1;
+    static const char digits[] = "0123456789ABCDEF";
+    uint8_t digit = 0;
+
+    while (digit < 15 && digits[digit] != c)
+        digit++;
+    return digit;
 }
 
 /* Octets written in hex, perhaps with spaces: how many. */
@@ -44,7 +45,8 @@ static inline size_t octets_of(const char *hex, uint8_t *to, size_t room)
     for (; *hex != '\0' && n < room; hex++) {
         if (*hex == ' ')
             continue;
-        to[n++] = (uint8_t)(hex_digit(hex[0]) * 16 + hex_digit(hex[1]));
+        /* masked, not cast: a cast has another form in C++ */
+        to[n++] = (hex_digit(hex[0]) * 16u + hex_digit(hex[1])) & 0xFF;
         hex++;
     }
     return n;

@@ -5,7 +5,7 @@
 
 struct string_and_fault {
     const char *element;
-    unsigned fault;               /* of reading; 0: it is one element */
+    int fault;                    /* of reading; 0: it is one element */
 };
 
 /* In the message the parameter is followed by nothing: "cut off" is by the end of
@@ -78,11 +78,12 @@ static const struct string_and_fault strings[] = {
 
 enum { INVOKE_HEAD = 15, RESULT_HEAD = 17 };
 
-static uint8_t element[256], message[300], out[300], record[GOLDENSKEP_RECORD_SIZE];
+static uint8_t element[256], message[300], out[300];
+static goldenskep_record record;
 
 /* Reads and writes a message around the n octets of the element, as the parameter
  * of an Invoke (level 4) or of a result (level 5). */
-static void check_element(size_t n, unsigned fault, int in_result)
+static void check_element(size_t n, int fault, int in_result)
 {
     static const uint8_t invoke[INVOKE_HEAD] = { 0x62, 0, 0x48, 1, 5, 0x6C, 0, 0xA1, 0, 2, 1, 1, 2, 1, 45 };
     static const uint8_t result[RESULT_HEAD] = { 0x62, 0, 0x48, 1, 5, 0x6C, 0, 0xA2, 0, 2, 1, 1, 0x30, 0, 2, 1, 45 };
@@ -98,25 +99,25 @@ static void check_element(size_t n, unsigned fault, int in_result)
     if (in_result)
         message[13] = (uint8_t)(head - 14 + n);
     memcpy(message + head, element, n);
-    answer = goldenskep_read(message, head + n, record, sizeof record);
+    answer = goldenskep_read_record(message, head + n, &record);
     CHECK(goldenskep_answer_status(answer) == fault);
     if (fault == 0) {
-        CHECK(goldenskep_row_parameter(record, 0).place == head);
-        CHECK(goldenskep_row_parameter(record, 0).length == n);
+        CHECK(goldenskep_component_parameter(&record, 0).place == head);
+        CHECK(goldenskep_component_parameter(&record, 0).length == n);
     } else {
         CHECK(goldenskep_answer_is_reject(answer) && goldenskep_answer_invoke_id(answer) == 1);
-        CHECK(goldenskep_answer_problem(answer) == (fault == 10 ? 1u : 2u));
+        CHECK(goldenskep_answer_problem(answer) == (fault == 10 ? 1 : 2));
     }
 
     /* The material is the ID, then the element, and no octet more. */
-    goldenskep_record_init(record, GOLDENSKEP_BEGIN);
-    goldenskep_record_set_orig(record, goldenskep_span(0, 1));
-    k = in_result ? goldenskep_add_result_last(record, 1) : goldenskep_add_invoke(record, 1, 45);
-    goldenskep_row_set_local_code(record, (unsigned)k, 45);
+    goldenskep_record_init(&record, GOLDENSKEP_MESSAGE_BEGIN);
+    goldenskep_record_set_orig(&record, goldenskep_span_at(0, 1));
+    k = in_result ? goldenskep_add_return_result_last(&record, 1) : goldenskep_add_invoke(&record, 1, 45);
+    goldenskep_component_set_local_code(&record, k, 45);
     message[0] = 5;
-    goldenskep_row_set_parameter(record, (unsigned)k, goldenskep_append(message, sizeof message, &used, element, n));
-    answer = goldenskep_write(record, sizeof record, message, used, out, sizeof out);
-    CHECK(goldenskep_answer_status(answer) == (fault == 0 ? 0u : (unsigned)GOLDENSKEP_REFUSED_MALFORMED));
+    goldenskep_component_set_parameter(&record, k, goldenskep_append(message, sizeof message, &used, element, n));
+    answer = goldenskep_write_record(&record, message, used, out, sizeof out);
+    CHECK(goldenskep_answer_status(answer) == (fault == 0 ? GOLDENSKEP_STATUS_DONE : GOLDENSKEP_STATUS_MALFORMED));
     if (fault == 0) {
         CHECK(goldenskep_answer_length(answer) == head + n);
         CHECK(memcmp(out + head, element, n) == 0);

@@ -43,7 +43,7 @@ uint64_t __wrap_goldenskep_read(const uint8_t *message, size_t message_len, uint
         answer ^= 1 << 8;
     if (is("refusal-writes") && goldenskep_answer_is_unreadable(answer))
         record[0] ^= 1;
-    if (is("rest-of-room") && answer == 0 && goldenskep_record_count(record) < GOLDENSKEP_MAX_COMPONENTS)
+    if (is("rest-of-room") && answer == 0 && record[7] < GOLDENSKEP_MAX_COMPONENTS)
         record[GOLDENSKEP_RECORD_SIZE - 1] ^= 1;
     if (is("reads-behind"))
         look(message + message_len);

@@ -45,12 +45,12 @@ static const struct specimen specimens[] = {
     { "62 0E 48 01 05 6C 09 A1 07 02 01 01 02 02 00 7F", "refused 11 12 problem 1 component 0\n", NULL, NONE },
 };
 
-static uint8_t rules[2 * GOLDENSKEP_RULE_SIZE];
+static goldenskep_rule rules[2];
 
 static void check_specimen(const struct specimen *the)
 {
     uint8_t message[64], wanted[64], out[64], listing[GOLDENSKEP_LISTING_SIZE];
-    uint8_t record[GOLDENSKEP_RECORD_SIZE];
+    goldenskep_record record;
     size_t n = octets_of(the->message, message, sizeof message), size, text = strlen(the->listing);
     uint64_t answer, read;
 
@@ -58,29 +58,29 @@ static void check_specimen(const struct specimen *the)
     CHECK(goldenskep_answer_is_done(answer) && goldenskep_answer_length(answer) == text);
     CHECK(memcmp(listing, the->listing, text) == 0);
     CHECK(goldenskep_list(message, n, listing, text) == answer);
-    CHECK(goldenskep_list(message, n, listing, text - 1) == GOLDENSKEP_REFUSED_ROOM);
+    CHECK(goldenskep_list(message, n, listing, text - 1) == GOLDENSKEP_STATUS_ROOM);
 
-    read = goldenskep_read(message, n, record, sizeof record);
-    answer = goldenskep_steer(message, n, rules, sizeof rules);
+    read = goldenskep_read_record(message, n, &record);
+    answer = goldenskep_steer_rules(message, n, rules, 2);
     if (the->written == NULL) {
         CHECK(goldenskep_answer_is_unreadable(read));
         CHECK(answer == read);
         return;
     }
-    CHECK(read == GOLDENSKEP_DONE);
+    CHECK(read == GOLDENSKEP_STATUS_DONE);
     CHECK(goldenskep_answer_is_done(answer) && goldenskep_answer_link(answer) == (uint32_t)the->link);
 
     size = octets_of(the->written, wanted, sizeof wanted);
-    answer = goldenskep_write(record, sizeof record, message, n, out, size);
+    answer = goldenskep_write_record(&record, message, n, out, size);
     CHECK(goldenskep_answer_is_done(answer) && goldenskep_answer_length(answer) == size);
     CHECK(memcmp(out, wanted, size) == 0);
-    CHECK(goldenskep_write(record, sizeof record, message, n, out, size - 1) == GOLDENSKEP_REFUSED_ROOM);
+    CHECK(goldenskep_write_record(&record, message, n, out, size - 1) == GOLDENSKEP_STATUS_ROOM);
 }
 
 int main(void)
 {
-    goldenskep_rule_set_code(rules, 0, GOLDENSKEP_BEGIN, 45, 3);
-    goldenskep_rule_set(rules, 1, GOLDENSKEP_ANY, 9);
+    goldenskep_rule_set_code(&rules[0], GOLDENSKEP_MESSAGE_BEGIN, 45, 3);
+    goldenskep_rule_set(&rules[1], GOLDENSKEP_MESSAGE_ANY, 9);
     for (size_t i = 0; i < sizeof specimens / sizeof specimens[0]; i++) {
         unsigned long failed = checks_failed;
 
