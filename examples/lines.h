@@ -1,7 +1,8 @@
 /* What the examples share: messages as lines of hex.
  *
- * One message to a line, spaces between octets as one likes. Empty lines and
- * what follows a # are left out; a line with just - is a message of no octets. */
+ * One message to a line, spaces between octets as one likes; a line with just -
+ * is a message of no octets. Empty lines and what follows a # are left out, but
+ * a line that is a comment is shown with the message on the next line. */
 #ifndef LINES_H
 #define LINES_H
 
@@ -41,38 +42,51 @@ static inline int hex_octets(const char *text, uint8_t *to, size_t room)
     }
 }
 
-/* The next line that is not empty, its comment and the spaces around it gone:
- * where it begins in `line`, or NULL at the end of the file. */
-static inline char *next_line(FILE *file, char *line, unsigned long *number)
+/* The text of a line from `from` on, without the spaces around it. */
+static inline char *stripped(char *from)
 {
+    char *end = from + strlen(from);
+
+    while (end > from && isspace((unsigned char)end[-1]))
+        end--;
+    *end = '\0';
+    while (isspace((unsigned char)*from))
+        from++;
+    return from;
+}
+
+/* The next line that is not empty, its comment and the spaces around it gone:
+ * where it begins in `line`, or NULL at the end of the file. If the line before
+ * it is a comment, that is put into `comment`, else nothing. */
+static inline char *next_line(FILE *file, char *line, char *comment, unsigned long *number)
+{
+    *comment = '\0';
     while (fgets(line, LINE_SIZE, file) != NULL) {
-        char *from = line, *end;
+        char *mark, *text;
 
         ++*number;
-        end = line + strlen(line);
-        if (end == line + LINE_SIZE - 1 && end[-1] != '\n') {
+        if (strlen(line) == LINE_SIZE - 1 && line[LINE_SIZE - 2] != '\n') {
             fprintf(stderr, "line %lu is too long\n", *number);
             exit(2);
         }
-        if (strchr(line, '#') != NULL)
-            end = strchr(line, '#');
-        while (end > from && isspace((unsigned char)end[-1]))
-            end--;
-        *end = '\0';
-        while (isspace((unsigned char)*from))
-            from++;
-        if (*from != '\0')
-            return from;
+        mark = strchr(line, '#');
+        if (mark != NULL)
+            *mark++ = '\0';
+        text = stripped(line);
+        if (*text != '\0')
+            return text;
+        strcpy(comment, mark == NULL ? "" : stripped(mark));
     }
     return NULL;
 }
 
-/* The next message: its length, or -1 at the end of the file. */
+/* The next message: its length, or -1 at the end of the file. Prints its comment
+ * line, if it has one, and its number. */
 static inline int next_message(FILE *file, uint8_t *to, size_t room)
 {
-    static char line[LINE_SIZE];
-    static unsigned long number;
-    const char *text = next_line(file, line, &number);
+    static char line[LINE_SIZE], comment[LINE_SIZE];
+    static unsigned long number, messages;
+    const char *text = next_line(file, line, comment, &number);
     int n;
 
     if (text == NULL)
@@ -82,6 +96,9 @@ static inline int next_message(FILE *file, uint8_t *to, size_t room)
         fprintf(stderr, "line %lu is not a message in hex, or too long\n", number);
         exit(2);
     }
+    if (*comment != '\0')
+        printf("# %s\n", comment);
+    printf("%lu ", ++messages);
     return n;
 }
 

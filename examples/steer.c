@@ -6,13 +6,13 @@
  * end, continue, abort) or any, a local operation code or any, the number of a
  * link. The first rule that fits a message gives its link. Prints for each
  * message its link, or that no rule fits, or why and where it is unreadable and
- * what the standard has one answer. */
+ * what is sent back (answer.c makes the octets of it). */
 #include "goldenskep.h"
 #include "lines.h"
 
 enum { MAX_RULES = 1000, MESSAGE_ROOM = 1024 };
 
-static uint8_t rules[MAX_RULES * GOLDENSKEP_RULE_SIZE];
+static goldenskep_rule rules[MAX_RULES];
 
 /* The kind that is called so, or -1. */
 static int kind_called(const char *name)
@@ -44,13 +44,13 @@ static int number_in(const char *text, long long least, long long most, long lon
 /* Reads the rule file: how many rules. */
 static size_t read_rules(const char *name)
 {
-    static char line[LINE_SIZE];
+    static char line[LINE_SIZE], comment[LINE_SIZE];
     FILE *file = open_or_stdin(name);
     unsigned long number = 0;
     size_t count = 0;
     char *text;
 
-    while ((text = next_line(file, line, &number)) != NULL) {
+    while ((text = next_line(file, line, comment, &number)) != NULL) {
         char kind_name[16], code_name[16], link_name[16], more;
         int fields = sscanf(text, "%15s %15s %15s %c", kind_name, code_name, link_name, &more);
         long long code = 0, link = 0;
@@ -63,9 +63,9 @@ static size_t read_rules(const char *name)
             exit(2);
         }
         if (any_code)
-            goldenskep_rule_set(rules, count++, kind, (uint32_t)link);
+            goldenskep_rule_set(&rules[count++], kind, (uint32_t)link);
         else
-            goldenskep_rule_set_code(rules, count++, kind, (int32_t)code, (uint32_t)link);
+            goldenskep_rule_set_code(&rules[count++], kind, (long)code, (uint32_t)link);
     }
     fclose(file);
     return count;
@@ -74,33 +74,33 @@ static size_t read_rules(const char *name)
 static void print_refusal(const uint8_t *message, uint64_t answer)
 {
     goldenskep_span orig = goldenskep_answer_orig(answer);
-    unsigned status = goldenskep_answer_status(answer);
+    int status = goldenskep_answer_status(answer);
 
-    printf("refused at octet %lu: %s (%u)\n", (unsigned long)goldenskep_answer_place(answer),
+    printf("refused at octet %lu: %s (%d)\n", (unsigned long)goldenskep_answer_place(answer),
            goldenskep_status_words(status), status);
+    if (!goldenskep_answer_has_orig(answer)) {
+        printf("    answer to nobody: nothing is sent, as no originating ID was read\n");
+        return;
+    }
     printf("    answer to ");
-    if (goldenskep_answer_has_orig(answer))
-        print_octets(message + orig.place, orig.length);
-    else
-        printf("nobody, no originating ID was read");
+    print_octets(message + orig.place, orig.length);
     if (!goldenskep_answer_is_reject(answer)) {
-        printf(": Abort, cause %u, %s\n", goldenskep_answer_cause(answer),
+        printf(": Abort, cause %d, %s\n", goldenskep_answer_cause(answer),
                goldenskep_cause_words(goldenskep_answer_cause(answer)));
         return;
     }
-    printf(": Reject of component %u, invoke ID ", goldenskep_answer_component(answer));
+    printf(": Reject of component %d, invoke ID ", goldenskep_answer_component(answer));
     if (goldenskep_answer_has_invoke_id(answer))
         printf("%d", goldenskep_answer_invoke_id(answer));
     else
         printf("null");
-    printf(", general problem %u, %s\n", goldenskep_answer_problem(answer),
-           goldenskep_problem_words(goldenskep_answer_problem(answer)));
+    printf(", general problem %d, %s\n", goldenskep_answer_problem(answer),
+           goldenskep_general_problem_words(goldenskep_answer_problem(answer)));
 }
 
 int main(int argc, char **argv)
 {
     static uint8_t message[MESSAGE_ROOM];
-    unsigned long index = 0;
     size_t count;
     FILE *file;
     int n;
@@ -116,9 +116,8 @@ int main(int argc, char **argv)
     count = read_rules(argv[1]);
     file = open_or_stdin(argv[2]);
     while ((n = next_message(file, message, sizeof message)) >= 0) {
-        uint64_t answer = goldenskep_steer(message, (size_t)n, rules, count * GOLDENSKEP_RULE_SIZE);
+        uint64_t answer = goldenskep_steer_rules(message, (size_t)n, rules, count);
 
-        printf("%lu ", ++index);
         if (goldenskep_answer_is_done(answer))
             printf("link %lu\n", (unsigned long)goldenskep_answer_link(answer));
         else if (goldenskep_answer_status(answer) == GOLDENSKEP_STATUS_NO_RULE)
