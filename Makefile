@@ -18,7 +18,7 @@
 
 PREFIX = /usr/local
 DESTDIR =
-VERSION = 0.1.0
+VERSION := $(shell sed -n 's/^\#define GOLDENSKEP_VERSION "\(.*\)"$$/\1/p' include/goldenskep.h)
 ARCHIVE = target/lib/libgoldenskep.a
 CFLAGS = -std=c99 -Wall -Wextra -Wpedantic -O2
 SOURCES := crates.txt $(shell find crates -name '*.rt' -o -name '*.antt')

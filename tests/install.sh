@@ -42,6 +42,11 @@ three() {
         cmp include/goldenskep.h "$1/include/goldenskep.h" && cmp "$archive" "$1/lib/libgoldenskep.a"
 }
 
+# make uninstall leaves no file
+gone() {
+    make --no-print-directory uninstall PREFIX=/opt/goldenskep DESTDIR="$tmp/there" && [ -z "$(find "$tmp/there" -type f)" ]
+}
+
 # flags CFLAGS|LIBS of the installed .pc, by pkg-config where it is there
 flags() {
     pc=$tmp/here/lib/pkgconfig/goldenskep.pc
@@ -78,6 +83,7 @@ one "make install PREFIX=.. DESTDIR=.." installed PREFIX=/opt/goldenskep DESTDIR
 one "all is under DESTDIR" three "$tmp/there/opt/goldenskep"
 one "the pkg-config file names PREFIX without DESTDIR" \
     grep -q -x 'prefix=/opt/goldenskep' "$tmp/there/opt/goldenskep/lib/pkgconfig/goldenskep.pc"
+one "make uninstall DESTDIR=.." gone
 one "nothing is left to fill in" sh -c '! grep @ "$1"' sh "$tmp/here/lib/pkgconfig/goldenskep.pc"
 if command -v pkg-config >/dev/null; then
     echo "flags by pkg-config"
