@@ -6,9 +6,9 @@
  * that nothing is sent.
  *
  * The refusal of a reading says what to send: an Abort with a P-Abort cause, or a
- * Reject of the component at fault. It goes to the sender's own
- * transaction, so the originating ID of the refused message becomes the
- * destination ID of the answer:
+ * Reject of the component at fault. It goes to the sender's own transaction, so
+ * the originating ID of the refused message becomes the destination ID of the
+ * answer:
  *
  *   - Without an originating ID there is no one to answer, and the message is
  *     just discarded. That holds for End, Abort and Unidirectional, which have

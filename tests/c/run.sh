@@ -64,8 +64,11 @@ builds() {
     "$@" >"$tmp/out" 2>&1 || count "$name is built" 1
 }
 
-strict="-std=c99 -Wall -Wextra -Wpedantic -Werror -O2"
-plus="-std=c++11 -Wall -Wextra -Werror -O2 -fno-exceptions -fno-rtti"
+warnings="-Wall -Wextra -Wpedantic -Wconversion -Werror"
+strict="-std=c99 $warnings -O2"
+plus="-std=c++11 $warnings -Wold-style-cast -O2 -fno-exceptions -fno-rtti"
+# unsafe-buffer-usage is of later clangs, and is about every C that takes pointers; clang 14 does not know it
+everything="-Weverything -Wno-unknown-warning-option -Wno-unsafe-buffer-usage -Werror"
 wrap="-Wl,--wrap=goldenskep_read,--wrap=goldenskep_write,--wrap=goldenskep_steer,--wrap=goldenskep_list"
 
 cc() {
@@ -109,17 +112,27 @@ quiet "it links into a shared library, without relocations in code" \
 
 quiet "the header is C99" cc $strict -c -o "$tmp/c.o" "$here/header.c"
 quiet "the header is C++11" sh "$tools" c++ $plus -I"$root/include" -c -o "$tmp/cpp.o" "$here/header.cpp"
-for other in clang gcc; do
-    if command -v $other >/dev/null; then
-        quiet "the header is C99 for this machine's $other" \
-            $other $strict -I"$root/include" -fsyntax-only "$here/header.c"
+quiet "the host is C99" cc $strict -c -o "$tmp/host.o" "$here/host.c"
+quiet "the host is C++11" sh "$tools" c++ $plus -I"$root/include" -x c++ -fsyntax-only "$here/host.c"
+
+# machine COMPILER FLAGS...: header and host by this machine's compiler, if it is there
+machine() {
+    compiler=$1
+    shift
+    if command -v "$compiler" >/dev/null; then
+        for source in header host; do
+            quiet "$source by this machine's $compiler $1" \
+                "$compiler" "$@" -I"$root/include" -fsyntax-only "$here/$source.c"
+        done
     fi
+}
+
+for standard in c99 c11; do
+    machine gcc -std=$standard $warnings
+    machine clang -std=$standard $everything
 done
-for other in clang++ g++; do
-    if command -v $other >/dev/null; then
-        quiet "the header is C++11 for this machine's $other" \
-            $other $plus -I"$root/include" -fsyntax-only "$here/header.cpp"
-    fi
+for compiler in g++ clang++; do
+    machine $compiler $plus -x c++
 done
 for kind in c cpp; do
     builds "the header's test ($kind)" cc -o "$tmp/header_$kind" "$tmp/$kind.o" "$archive"
@@ -150,6 +163,22 @@ echo "begin 45 3" >"$tmp/rules"
 echo "64 0A 49 01 05 6C 05 A2 03 02 01 01" >"$tmp/message"
 [ "$(run "$tmp/steer" "$tmp/rules" <"$tmp/message" 2>"$tmp/out")" = "1 no rule" ]
 count "example steer says that no rule fits" $?
+# which of the unreadable messages are answered, by the one and by the other
+awk '$2 == "refused" { n = $1 } /^    answer to / { print n, $3 == "nobody:" ? "nothing" : "send" }' \
+    "$root/examples/steer.expected" >"$tmp/steered"
+awk '$2 == "nothing" || $2 == "send" { print $1, $2 }' "$root/examples/answer.expected" >"$tmp/answered"
+[ -s "$tmp/steered" ] && diff "$tmp/steered" "$tmp/answered" >"$tmp/out"
+count "examples steer and answer agree" $?
+
+# ---- a host between guard pages ----
+
+calls="-std=gnu99 -Wall -Wextra -Werror -O2"
+builds "the host" cc $calls -I"$root/examples" -o "$tmp/host" "$here/host_guarded.c" "$tmp/host.o" "$archive"
+for side in end start; do
+    run "$tmp/host" $side "$here/host.hex" >"$tmp/written" 2>"$tmp/out" &&
+        diff "$here/host.expected" "$tmp/written" >>"$tmp/out"
+    count "the host, all that it is lent at the $side of a page" $?
+done
 
 # ---- calls ----
 
@@ -157,6 +186,8 @@ for name in specimens elements; do
     builds $name cc $strict -o "$tmp/$name" "$here/$name.c" "$archive"
     one $name run "$tmp/$name"
 done
+builds indices cc $calls -o "$tmp/indices" "$here/indices.c" "$archive"
+one "components that are none" run "$tmp/indices"
 
 vectors=no
 if [ $# -eq 0 ]; then
@@ -174,7 +205,6 @@ if [ $# -eq 0 ]; then
     finish
 fi
 
-calls="-std=gnu99 -Wall -Wextra -Werror -O2"
 builds harness cc $calls -o "$tmp/harness" "$here/harness.c" "$archive"
 # -z now: looking up a name at its first call needs stack too
 builds stack cc $calls -Wl,-z,now -o "$tmp/stack" "$here/stack.c" "$archive"
@@ -230,6 +260,12 @@ for fault in place refusal-writes rest-of-room reads-behind reads-before writes-
     notices harness $fault "$@"
 done
 notices stack deep "$@"
+builds "host with faults" cc $calls $wrap -I"$root/examples" -o "$tmp/faulty_host" "$here/host_guarded.c" "$tmp/host.o" \
+    "$here/faulty.c" "$archive"
+notices host reads-behind end "$here/host.hex"
+notices host reads-before start "$here/host.hex"
+notices host writes-message end "$here/host.hex"
+notices host writes-behind start "$here/host.hex"
 builds "fuzz with faults" cc $calls $wrap -o "$tmp/faulty_fuzz" "$here/fuzz.c" "$here/faulty.c" $plain "$archive"
 for fault in place rest-of-room past-length link listing; do
     notices fuzz $fault 1 2000 "$@"
