@@ -552,18 +552,18 @@ def wound_parts(random, noted):
         noted["kind"] = random.choice(list(KINDS) + ["none"])
     elif wound == 4:
         noted["components"] = []
+    elif wound == 5 and noted["dialogue"] is not None:
+        noted["dialogue"]["ui"] = user_information(random)
     elif row is None:
         rows.append(component(random))
-    elif wound == 5:
+    elif wound == 6:
         row["id"] = None
-    elif wound == 6 and row["kind"] != "reject":
+    elif wound == 7 and row["kind"] != "reject":
         row["code"] = None
-    elif wound in (7, 8):
+    elif wound in (8, 9):
         row["param"] = element(random, 1) if row["param"] is None else None
-    elif wound == 9:
+    elif wound == 10:
         row["linked"] = invoke_id(random)
-    elif wound == 10 and noted["dialogue"] is not None:
-        noted["dialogue"]["ui"] = user_information(random)
     else:
         row["kind"] = "none"
 
