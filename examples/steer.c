@@ -63,9 +63,9 @@ static size_t read_rules(const char *name)
             exit(2);
         }
         if (any_code)
-            goldenskep_rule_set(&rules[count++], kind, (uint32_t)link);
+            goldenskep_rule_set(&rules[count++], kind, (long)link);
         else
-            goldenskep_rule_set_code(&rules[count++], kind, (long)code, (uint32_t)link);
+            goldenskep_rule_set_code(&rules[count++], kind, (long)code, (long)link);
     }
     fclose(file);
     return count;

@@ -11,10 +11,10 @@
  *   - picks a link for a message by rules   goldenskep_steer_rules
  *   - lists a message as text               goldenskep_list
  *
- * Each call answers one number of 64 bits: done, or the refusal with all that
- * belongs to it. The accessors below take answers and records apart, the
- * builders put records and rules together. Operation 45 of a message is found
- * so:
+ * Each call answers one number of 64 bits: done, that no rule fits, or a refusal
+ * with all that belongs to it. The accessors below take answers and records
+ * apart, the builders put records and rules together. Operation 45 of a message
+ * is found so:
  *
  *     goldenskep_record record;
  *     uint64_t answer = goldenskep_read_record(message, length, &record);
@@ -32,10 +32,10 @@
  * octets that the caller lends. A message that was read is good material for
  * its own record.
  *
- * The library has five functions, which take octets and lengths. They are
- * proved: for every input each of them gives the answer that the rules give, and
- * writes just what they say. All else in this header is inline C around them,
- * which is not proved, but tested.
+ * The library itself is five functions on octets and lengths. They are proved:
+ * for every input each of them gives the answer that the rules give, and writes
+ * just what they say. All else in this header is inline C around them, which is
+ * not proved, but tested.
  *
  * What the proofs assume of a C caller:
  *
@@ -186,7 +186,7 @@ static inline uint64_t goldenskep_steer_rules(const uint8_t *message, size_t len
 
 /* ---- values ----
  *
- * Those of Q.773, which are tags where it has one. This library's own are the
+ * Values are those of Q.773, the tag where it has one. This library's own are the
  * statuses, the kinds of dialogue, and 0 for any or none. The accessors give
  * values as int: the octets of a record may hold others than these. */
 
@@ -599,7 +599,7 @@ static inline uint32_t goldenskep_answer_link(uint64_t answer)
 }
 
 /* Unreadable: the place in the message of the element at fault, or where the
- * missing thing should begin. */
+ * missing thing should begin; of the first octet that is too many. */
 static inline size_t goldenskep_answer_place(uint64_t answer)
 {
     return goldenskep_bits_(answer, 8, 16);
@@ -791,8 +791,8 @@ static inline int goldenskep_record_diagnostic(const goldenskep_record *record)
 
 /* ---- a record: its components ----
  *
- * Component k is from 0 on and below the count. Of an index that is no component
- * of the record all is 0. */
+ * They are counted from 0. Of an index that is no component of the record, below
+ * 0 or not below the count, all reads as 0. */
 
 /* Of no use to a host: is k a component? And its octets, or octets 0. */
 static inline int goldenskep_is_component_(const goldenskep_record *record, long k)
@@ -877,13 +877,15 @@ static inline int goldenskep_component_problem(const goldenskep_record *record, 
  *
  * A record is begun by goldenskep_record_init() and then given what its kind
  * needs. A record that was read may be changed by the same functions. They judge
- * nothing: what is missing, too much or out of range is refused by writing. A
- * number that the layout has no room for is set as one that writing refuses:
+ * nothing: what is missing, too much or out of range is refused by writing. So a
+ * number that does not fit its octets is set as one that writing refuses:
  *
- *   - 255 for a kind, type or number below 0 or above 255: 23, or 24 where it
- *     chooses between cases
- *   - no ID for an ID outside -128 to 127: 24
- *   - no code for a local code outside 32 bits: 24 */
+ *   - outside 0 to 255, as 255: with 24 if it is a kind, a type or the source of
+ *     a diagnostic, with 23 if it is a cause, result, abort source, diagnostic or
+ *     problem
+ *   - an ID outside -128 to 127, as one that is neither there nor absent: with 24
+ *   - a local code outside 32 bits, as a code of no kind: with 24
+ *   - a place or a length above 32 bits, as a span that no message has room for */
 
 /* Of no use to a host: what is set, in the layout. */
 static inline void goldenskep_put_number_(uint8_t *at, uint32_t n)
@@ -928,12 +930,13 @@ static inline int goldenskep_is_local_code_(long code)
 }
 
 /* The span of `length` octets at `place`. */
-static inline goldenskep_span goldenskep_span_at(uint32_t place, uint32_t length)
+static inline goldenskep_span goldenskep_span_at(size_t place, size_t length)
 {
     goldenskep_span span;
+    int fits = place <= 0xFFFFFFFFu && length <= 0xFFFFFFFFu;
 
-    span.place = place;
-    span.length = length;
+    span.place = fits ? GOLDENSKEP_AS_(uint32_t, place) : 0xFFFFFFFFu;
+    span.length = fits ? GOLDENSKEP_AS_(uint32_t, length) : 0xFFFFFFFFu;
     return span;
 }
 
@@ -945,13 +948,12 @@ static inline goldenskep_span goldenskep_append(uint8_t *material, size_t room, 
     goldenskep_span span = goldenskep_span_at(0xFFFFFFFFu, 0xFFFFFFFFu);
     size_t i;
 
-    if (*used > room || length > room - *used || *used + length > 0xFFFFFFFFu)
-        return span;
-    for (i = 0; i < length; i++)
-        material[*used + i] = octets[i];
-    span.place = GOLDENSKEP_AS_(uint32_t, *used);
-    span.length = GOLDENSKEP_AS_(uint32_t, length);
-    *used += length;
+    if (*used <= room && length <= room - *used && *used + length <= 0xFFFFFFFFu) {
+        span = goldenskep_span_at(*used, length);
+        for (i = 0; i < length; i++)
+            material[*used + i] = octets[i];
+        *used += length;
+    }
     return span;
 }
 
@@ -1079,7 +1081,8 @@ static inline void goldenskep_record_clear_user_info(goldenskep_record *record)
 
 /* ---- building a record: its components ----
  *
- * For an index that is no component of the record nothing is set. */
+ * For an index that is no component of the record nothing is set: what is set of
+ * a component is set after it was added. */
 
 /* Of no use to a host: the octets of a component. */
 static inline uint8_t *goldenskep_row_to_(goldenskep_record *record, long k)
@@ -1250,19 +1253,22 @@ static inline int goldenskep_add_reject(goldenskep_record *record, long problem_
  *
  * Rules are asked from the first on. One fits if its kind is the message's or
  * GOLDENSKEP_MESSAGE_ANY, and if it names no code or the first component is an
- * Invoke with that local code. A kind that is none, or a code outside 32 bits,
- * makes a rule that fits nothing. */
+ * Invoke with that local code. With a kind that is none, a code outside 32 bits
+ * or a link outside 0 to 4294967295 it fits nothing. */
 
 /* Messages of this kind, whatever their code, go to the link. */
-static inline void goldenskep_rule_set(goldenskep_rule *rule, long kind, uint32_t link)
+static inline void goldenskep_rule_set(goldenskep_rule *rule, long kind, long link)
 {
     goldenskep_zero_(rule->octets, GOLDENSKEP_RULE_SIZE);
-    rule->octets[0] = goldenskep_octet_(kind);
-    goldenskep_put_number_(rule->octets + 8, link);
+    rule->octets[0] = 255;
+    if (link >= 0 && link <= 0xFFFFFFFF) {
+        rule->octets[0] = goldenskep_octet_(kind);
+        goldenskep_put_number_(rule->octets + 8, GOLDENSKEP_AS_(uint32_t, link));
+    }
 }
 
 /* Messages of this kind with this local operation code go to the link. */
-static inline void goldenskep_rule_set_code(goldenskep_rule *rule, long kind, long local_code, uint32_t link)
+static inline void goldenskep_rule_set_code(goldenskep_rule *rule, long kind, long local_code, long link)
 {
     goldenskep_rule_set(rule, kind, link);
     rule->octets[1] = 255;

@@ -457,6 +457,7 @@ enum { NO_OCTETS = sizeof no_octets / sizeof no_octets[0] };
 static void check_out_of_range(void)
 {
     static const long no_ids[] = { -129, 128, 129, 255, 256, 257, -256, INT_MIN, INT_MAX, LONG_MIN, LONG_MAX };
+    static const long no_links[] = { -1, 4294967296L, 4294967299L, LONG_MIN, LONG_MAX };
     static const long no_codes[] = { -2147483647L - 2, 2147483648L, 4294967341L, LONG_MIN, LONG_MAX };
     static const uint8_t begin[] = { 0x62, 0x0D, 0x48, 1, 5, 0x6C, 8, 0xA1, 6, 2, 1, 1, 2, 1, 45 };
     goldenskep_rule rule;
@@ -544,8 +545,32 @@ static void check_out_of_range(void)
         CHECK(!goldenskep_rule_has_code(&rule));
         CHECK(goldenskep_steer_rules(begin, sizeof begin, &rule, 1) == GOLDENSKEP_STATUS_NO_RULE);
     }
+    for (size_t i = 0; i < sizeof no_links / sizeof no_links[0]; i++) {
+        goldenskep_rule_set(&rule, GOLDENSKEP_MESSAGE_BEGIN, no_links[i]);
+        CHECK(goldenskep_steer_rules(begin, sizeof begin, &rule, 1) == GOLDENSKEP_STATUS_NO_RULE);
+        goldenskep_rule_set_code(&rule, GOLDENSKEP_MESSAGE_BEGIN, 45, no_links[i]);
+        CHECK(goldenskep_steer_rules(begin, sizeof begin, &rule, 1) == GOLDENSKEP_STATUS_NO_RULE);
+    }
     goldenskep_rule_set_code(&rule, GOLDENSKEP_MESSAGE_BEGIN, 45, 3);
     CHECK(goldenskep_answer_link(goldenskep_steer_rules(begin, sizeof begin, &rule, 1)) == 3);
+    goldenskep_rule_set(&rule, GOLDENSKEP_MESSAGE_BEGIN, 0);
+    CHECK(goldenskep_steer_rules(begin, sizeof begin, &rule, 1) == 0);
+
+    /* Each would be the one octet at 0 if its upper bits got lost. */
+    for (int i = 0; i < 3; i++) {
+        const size_t more = UINT64_C(1) << (i < 2 ? 32 : 63);
+        const goldenskep_span span = goldenskep_span_at(i == 0 ? 0 : more, i == 1 ? 1 : more + 1);
+
+        CHECK(span.place == 0xFFFFFFFFu && span.length == 0xFFFFFFFFu);
+        begin_record(GOLDENSKEP_MESSAGE_BEGIN);
+        goldenskep_record_set_orig(&record, lay("05"));
+        CHECK(write_record() == GOLDENSKEP_STATUS_DONE);
+        goldenskep_record_set_orig(&record, span);
+        CHECK(write_record() == GOLDENSKEP_STATUS_RANGE);
+        goldenskep_record_set_orig(&record, goldenskep_span_at(0, 1));
+        goldenskep_record_set_octets(&record, goldenskep_span_at(0, 1), span);
+        CHECK(write_record() == GOLDENSKEP_STATUS_PAST_MATERIAL);
+    }
 }
 
 /* A part that the kind may not have is refused, not left out. */
