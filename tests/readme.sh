@@ -38,7 +38,7 @@ block c >"$tmp/host.c"
 block text >"$tmp/must"
 block console >"$tmp/console"
 
-sh "$tools" cc -std=c99 -Wall -Wextra -Wpedantic -Werror -I"$root/include" -o "$tmp/host" "$tmp/host.c" "$archive" >"$tmp/out" 2>&1
+sh "$tools" cc -std=c99 -Wall -Wextra -Wpedantic -Wconversion -Werror -I"$root/include" -o "$tmp/host" "$tmp/host.c" "$archive" >"$tmp/out" 2>&1
 count "the C of README.md is built" $?
 [ -s "$tmp/must" ] && sh "$tools" run "$tmp/host" 2>&1 | diff "$tmp/must" - >"$tmp/out"
 count "it writes what README.md says" $?

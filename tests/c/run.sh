@@ -134,6 +134,20 @@ done
 for compiler in g++ clang++; do
     machine $compiler $plus -x c++
 done
+
+# taken TYPE: are octets of this type taken for a record?
+taken() {
+    echo "#include <goldenskep.h>
+        int kind_of(const $1 *it);
+        int kind_of(const $1 *it) { return goldenskep_record_kind(it); }" >"$tmp/taken.c"
+    cc $strict -fsyntax-only "$tmp/taken.c"
+}
+
+one "a record is taken for a record" taken goldenskep_record
+for type in uint8_t goldenskep_rule; do
+    ! taken $type 2>/dev/null
+    count "$type is not" $?
+done
 for kind in c cpp; do
     builds "the header's test ($kind)" cc -o "$tmp/header_$kind" "$tmp/$kind.o" "$archive"
     one "the header's test ($kind)" run "$tmp/header_$kind"
