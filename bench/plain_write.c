@@ -164,20 +164,23 @@ static inline bool measure_row(struct writer *w, unsigned k, const uint8_t *row)
     if (row[1] != 1 && (row[1] != 0 || row[0] != PLAIN_REJECT))
         return false;
     /* A linked ID is there in an Invoke only, a parameter not in a Reject. */
-    if (row[3] > (row[0] == PLAIN_INVOKE) || row[6] > (row[0] != PLAIN_REJECT))
-        return false;
     switch (row[0]) {
     case PLAIN_INVOKE:
+        if (row[3] > 1 || !is_code || row[6] > 1)
+            return false;
         if (row[3] == 1)
             size += 3;
-        /* fall through */
+        size += measure_code(w, row) + measure_parameter(w, row);
+        break;
     case PLAIN_ERROR:
-        if (!is_code)
+        if (row[3] != 0 || !is_code || row[6] > 1)
             return false;
         size += measure_code(w, row) + measure_parameter(w, row);
         break;
     case PLAIN_LAST:
     case PLAIN_NOT_LAST:
+        if (row[3] != 0)
+            return false;
         if (row[5] == 0 && row[6] == 0)
             break;
         if (!is_code || row[6] != 1)
@@ -186,7 +189,7 @@ static inline bool measure_row(struct writer *w, unsigned k, const uint8_t *row)
         size += element(w->inner[k]);
         break;
     case PLAIN_REJECT:
-        if (row[5] < 0x80 || row[5] > 0x83)
+        if (row[3] != 0 || row[6] != 0 || row[5] < 0x80 || row[5] > 0x83)
             return false;
         number_in_range(w, row[7], most_problem[row[5] - 0x80]);
         size = (row[1] ? 3 : 2) + 3;
