@@ -1,3 +1,4 @@
 pub mod RoundTrip
+pub mod Chosen
 pub mod Readings
 pub mod Typed

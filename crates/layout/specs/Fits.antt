@@ -1,5 +1,5 @@
--- Which records the octets of docs/LAYOUT.md can hold: numbers of four octets, IDs of one, local codes of four. By their types all of the code's do.
--- Assumes nothing: these are definitions.
+-- Which records the octets of docs/LAYOUT.md can hold: numbers of four octets, IDs of one, local codes of four. By their types all of the code's do, but for
+-- the count, which may be larger there; of what was read it is at most 16. Assumes nothing: these are definitions.
 use Prim.Native.Nat.{ℕ, _≤_}
 use mathlib.Core.{Path._≡_, Bool.true}
 use lib.{ListN.length, ListN.take}
