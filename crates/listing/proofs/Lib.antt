@@ -1,3 +1,4 @@
 pub mod Rows
+pub mod Longest
 pub mod Room
 pub mod Specimens
