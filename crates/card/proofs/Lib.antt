@@ -2,6 +2,7 @@ pub mod Bits
 pub mod Few
 pub mod Fields
 pub mod Kept
+pub mod Listed
 pub mod Sent
 pub mod Steered
 pub mod Tags

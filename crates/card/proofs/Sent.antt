@@ -24,7 +24,7 @@ use Rattle.layout.specs.Fits.{RecordFits}
 use Rattle.layout.proofs.RoundTrip as layout
 use Rattle.card.specs.Answer.{lengthBits, writtenBits, writeAnswer}
 
-length-told : (n : ℕ) → n < 2 ^ 16 → n ≡ lengthBits n / 2 ^ 8
+pub length-told : (n : ℕ) → n < 2 ^ 16 → n ≡ lengthBits n / 2 ^ 8
 unfolding lengthBits
 length-told n h = let whole : n % 2 ^ 16 ≡ n = omega arith in rw whole (omega arith)
 
