@@ -31,7 +31,7 @@ every-both f g (w ∷ rs) = rw (every-both f g rs) (swap (f w) (g w) (every f rs
     swap true false c d = sym (and-false c)
     swap false b c d = refl
 
-every-take : (n : ℕ) (rs : List Row) → Every RowTyped rs → Every RowTyped (take n rs)
+pub every-take : (n : ℕ) (rs : List Row) → Every RowTyped rs → Every RowTyped (take n rs)
 unfolding Every
 every-take zero rs f = tt
 every-take (suc n) [] f = tt

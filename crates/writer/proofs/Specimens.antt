@@ -1,10 +1,11 @@
 -- The writing specimens of document 01 as one table under one statement: the record of each message, written into room, is answered so and leaves just
--- those octets. Assumes nothing.
+-- those octets; and records with two faults each, as another. Answers are the page's numbers. Assumes nothing.
 use Prim.Native.Nat.{ℕ, _-_}
 use mathlib.Core.Path.{_≡_, refl}
 use mathlib.Core.List.{List, [], _∷_, _++_, map}
 use mathlib.Core.Option.{bind}
 use lib.ListN.{length, take, replicate}
+use lib.IntN.{pos}
 use Rattle.base.specs.Number.{numberFrom, octetsIn as octetsOf, topOf, signedAt, bitsAt, holds}
 use Rattle.base.specs.Value.{same}
 use Rattle.element.specs.Form.{seriesForm, shortest, fewestOf, digits, lengthOctets}
@@ -15,26 +16,28 @@ use Rattle.element.specs.Ask.{next, check, blamed, askLength, askTag, atEnd, as
 use Rattle.element.specs.Parts.{leafContents, inside, onward, seriesBody}
 use Rattle.element.specs.Walk.{walkPick, walkContents}
 use Rattle.element.specs.Answers.{wantedItem, walkOf, elementWalk, seriesWalk}
-use Rattle.tcap.specs.declared.{OptionalOrig.OptionalOrig, Dialogue.Dialogue, MessageKind.MessageKind, Record.Record}
+use Rattle.tcap.specs.declared.{Span.Span, OptionalSpan.OptionalSpan, OptionalOrig.OptionalOrig, OptionalDest.OptionalDest, InvokeId.InvokeId, LinkedId.LinkedId, Code.Code, ComponentKind.ComponentKind, Row.Row, Dialogue.Dialogue, MessageKind.MessageKind, Record.Record}
 use Rattle.tcap.specs.Meaning.{componentForm, componentsForm, dialogueForm, endingForm, messageForm, written}
 use Rattle.tcap.specs.Record.{rowsMean, meaningOf}
 use Rattle.tcap.proofs.Computing.{outcomeOf}
-use Rattle.tcap.proofs.Specimens.{destAt, accepts}
+use Rattle.tcap.proofs.Specimens.{spanAt, origAt, destAt, accepts}
 use Rattle.judging.specs.Verdict.{every, origThere, destThere, causeThere, partsFit, idThere, rowPartsFit, allParts, ranges, origRanges, destRanges, codeRanges, problemRanges, returnedRanges, rowRanges, sourceRanges, dialogueRanges, allRanges, lies, optionLies, origLies, destLies, codeLies, returnedLies, rowLies, dialogueLies, allLie, tookAll, isElement, isSeries, octetsIn, parameterShaped, infoShaped, codeShaped, returnedShaped, rowShaped, dialogueShaped, allShaped}
-use Rattle.writer.specs.declared.{WriteFault.WriteFault, Written.Written}
-use Rattle.writer.specs.Writing.{messageOf, writing, behind, leaves}
+use Rattle.writer.specs.declared.{Written.Written}
+use Rattle.writer.specs.Writing.{writeNumber, messageOf, writing, behind, leaves}
+use Rattle.writer.proofs.Order.{numberIn}
 
 -- with every definition open
 unfoldable pub called : Record → List ℕ → List ℕ → Written × List ℕ
 unfolding numberFrom octetsOf topOf signedAt bitsAt holds same seriesForm shortest fewestOf digits lengthOctets constructorOf extendedOf codeZero widthFrom integerOctets numbers identifierOk endOf third second first tagOf within longOf lengthOf next check blamed askLength askTag atEnd askEnd ask leafContents inside onward seriesBody walkPick walkContents wantedItem walkOf elementWalk seriesWalk componentForm componentsForm dialogueForm endingForm messageForm written rowsMean meaningOf bind every origThere destThere causeThere partsFit idThere rowPartsFit allParts ranges origRanges destRanges codeRanges problemRanges returnedRanges rowRanges sourceRanges dialogueRanges allRanges lies optionLies origLies destLies codeLies returnedLies rowLies dialogueLies allLie tookAll isElement isSeries octetsIn parameterShaped infoShaped codeShaped returnedShaped rowShaped dialogueShaped allShaped messageOf writing behind leaves
 called r m out = (writing r m (length out), leaves r m out)
 
--- the record and the octets beside it, the buffer before, the answer, the buffer after
+-- the record and the octets beside it, the buffer before; the number (0: written), the length, the buffer after
 pub record Specimen : Type 0 where
   pub kept : Record
   pub lent : List ℕ
   pub out : List ℕ
-  pub answer : Written
+  pub number : ℕ
+  pub size : ℕ
   pub new : List ℕ
 
 abbrev pub fresh : ℕ → List ℕ
@@ -42,10 +45,10 @@ fresh n = replicate n 0xFF
 
 -- written: the record of a message over that message
 abbrev pub rewrites : List ℕ → ℕ → List ℕ → Specimen
-rewrites m room s = record { kept = outcomeOf m .message; lent = m; out = fresh room; answer = Written.Length (length s); new = s ++ fresh (room - length s) }
+rewrites m room s = record { kept = outcomeOf m .message; lent = m; out = fresh room; number = 0; size = length s; new = s ++ fresh (room - length s) }
 
-abbrev pub refuses : Record → List ℕ → ℕ → WriteFault → Specimen
-refuses r m room f = record { kept = r; lent = m; out = fresh room; answer = Written.Refused f; new = fresh room }
+abbrev pub refuses : Record → List ℕ → ℕ → ℕ → Specimen
+refuses r m room n = record { kept = r; lent = m; out = fresh room; number = n; size = 0; new = fresh room }
 
 abbrev pub b : List ℕ
 b = 0x64 ∷ 0x0A ∷ 0x49 ∷ 0x01 ∷ 0x05 ∷ 0x6C ∷ 0x05 ∷ 0xA2 ∷ 0x03 ∷ 0x02 ∷ 0x01 ∷ 0x01 ∷ []
@@ -67,26 +70,84 @@ abbrev pub specimens : List Specimen
 specimens =
     -- B into 12 octets fits, into 11 is 25
     rewrites b 12 b
-    ∷ refuses (outcomeOf b .message) b 11 WriteFault.NoRoom
+    ∷ refuses (outcomeOf b .message) b 11 25
     -- C: written as B; octets past it stay
     ∷ rewrites c 14 b
     -- P: in 33 octets, version left out
     ∷ rewrites p 33 p33
-    ∷ refuses (outcomeOf p .message) p 32 WriteFault.NoRoom
+    ∷ refuses (outcomeOf p .message) p 32 25
     -- 24: a Unidirectional with no component, which a refused reading hands back
-    ∷ refuses (outcomeOf [] .message) [] 12 WriteFault.WrongParts
+    ∷ refuses (outcomeOf [] .message) [] 12 24
     -- 23: an ID of 5 octets
-    ∷ refuses (accepts MessageKind.End OptionalOrig.NoOrig (destAt 4 5) Dialogue.NoDialogue [] .message) b 12 WriteFault.OutOfRange
+    ∷ refuses (accepts MessageKind.End OptionalOrig.NoOrig (destAt 4 5) Dialogue.NoDialogue [] .message) b 12 23
     -- 21: an ID past the end of 4 octets
-    ∷ refuses (outcomeOf b .message) (take 4 b) 12 WriteFault.OutOfMaterial
+    ∷ refuses (outcomeOf b .message) (take 4 b) 12 21
     -- 22: a parameter that is not one element
-    ∷ refuses (outcomeOf (d 1) .message) (d 2) 18 WriteFault.Unshaped
+    ∷ refuses (outcomeOf (d 1) .message) (d 2) 18 22
     ∷ []
 
--- the last two columns from the others
+abbrev pub sizeIn : Written → ℕ
+sizeIn (Written.Length n) = n
+sizeIn (Written.Refused f) = 0
+
+-- the last three columns from the others
 abbrev pub found : Specimen → Specimen
-found s = record { kept = s .kept; lent = s .lent; out = s .out; answer = called (s .kept) (s .lent) (s .out) .0; new = called (s .kept) (s .lent) (s .out) .1 }
+found s = let (w, new) = called (s .kept) (s .lent) (s .out) in record { kept = s .kept; lent = s .lent; out = s .out; number = numberIn w; size = sizeIn w; new = new }
 
 pub table : map found specimens ≡ specimens
-unfolding outcomeOf called
+unfolding outcomeOf called writeNumber numberIn
 table = refl
+
+-- Two faults: one in the head of a record, one in its row, and too little room besides
+
+-- over these octets: an ID (05) at 0, a name (2A) at 1, one that is none (AA) at 2, a parameter (04 01 07) at 3
+abbrev pub lent : List ℕ
+lent = 0x05 ∷ 0x2A ∷ 0xAA ∷ 0x04 ∷ 0x01 ∷ 0x07 ∷ []
+
+-- a Begin with a request and an Invoke
+abbrev pub begins : OptionalOrig → OptionalDest → Dialogue → Row → Record
+begins o e d w = accepts MessageKind.Begin o e d (w ∷ []) .message
+
+abbrev pub asks : Span → Dialogue
+asks n = Dialogue.Request n OptionalSpan.Absent
+
+abbrev pub calls : InvokeId → Code → Span → Row
+calls i c p = record { id = i; kind = ComponentKind.Invoke LinkedId.Unlinked c (OptionalSpan.Present p) }
+
+-- fine; 24: a destination ID; 23: an ID of 5 octets; 21: an ID past the end; 22: a name that is none
+abbrev pub heads : List (Row → Record)
+heads =
+    begins (origAt 0 1) OptionalDest.NoDest (asks (spanAt 1 1))
+    ∷ begins (origAt 0 1) (destAt 0 1) (asks (spanAt 1 1))
+    ∷ begins (origAt 0 5) OptionalDest.NoDest (asks (spanAt 1 1))
+    ∷ begins (origAt 6 1) OptionalDest.NoDest (asks (spanAt 1 1))
+    ∷ begins (origAt 0 1) OptionalDest.NoDest (asks (spanAt 2 1))
+    ∷ []
+
+-- fine; 24: a null invoke ID; 23: a name of 17 octets, past the end too; 21: a parameter past the end; 22: a parameter cut off
+abbrev pub tails : List Row
+tails =
+    calls (InvokeId.Id (pos 1)) (Code.Local (pos 45)) (spanAt 3 3)
+    ∷ calls InvokeId.Null (Code.Local (pos 45)) (spanAt 3 3)
+    ∷ calls (InvokeId.Id (pos 1)) (Code.Global (spanAt 0 17)) (spanAt 3 3)
+    ∷ calls (InvokeId.Id (pos 1)) (Code.Local (pos 45)) (spanAt 3 4)
+    ∷ calls (InvokeId.Id (pos 1)) (Code.Local (pos 45)) (spanAt 3 2)
+    ∷ []
+
+-- a line for each head, a column for each row
+abbrev pub answers : ℕ → List (List ℕ)
+answers room = map (λ h. map (λ w. numberIn (called (h w) lent (fresh room) .0)) tails) heads
+
+abbrev pub ordered : ℕ → List (List ℕ)
+ordered n =
+    (n ∷ 24 ∷ 23 ∷ 21 ∷ 22 ∷ [])
+    ∷ (24 ∷ 24 ∷ 24 ∷ 24 ∷ 24 ∷ [])
+    ∷ (23 ∷ 24 ∷ 23 ∷ 23 ∷ 23 ∷ [])
+    ∷ (21 ∷ 24 ∷ 23 ∷ 21 ∷ 21 ∷ [])
+    ∷ (22 ∷ 24 ∷ 23 ∷ 21 ∷ 22 ∷ [])
+    ∷ []
+
+-- into room enough, and into one octet less
+pub two-faults : (answers 40 ≡ ordered 0) × (answers 39 ≡ ordered 25)
+unfolding called writeNumber numberIn
+two-faults = (refl, refl)

@@ -56,11 +56,11 @@ unfolding tookAll
 took-is (Walk.Whole n) k = (λ e. ap Walk.Whole (eqb-true n k e), λ e. eq-eqb n k (cc))
 took-is (Walk.Fault f p) k = (λ e. absurd (false≢true e), λ e. let z : _≡_ {A = ℕ} 0 1 = cc in absurd (omega arith))
 
-element-is : (l : ℕ) (c : List ℕ) → Element l c ↔ (isElement l c ≡ true)
+pub element-is : (l : ℕ) (c : List ℕ) → Element l c ↔ (isElement l c ≡ true)
 unfolding isElement
 element-is l c = let e = Iff·trans (took-is _ (length c)) (element-walk-is l 0 c) in (e .1, e .0)
 
-series-is : (l : ℕ) (c : List ℕ) → SeriesOf 0x28 l c ↔ (isSeries l c ≡ true)
+pub series-is : (l : ℕ) (c : List ℕ) → SeriesOf 0x28 l c ↔ (isSeries l c ≡ true)
 unfolding isSeries
 series-is l c = let e = Iff·trans (took-is _ (length c)) (series-walk-is 0x28 (λ h. omega arith) l 0 c) in (e .1, e .0)
 
