@@ -4,6 +4,7 @@ pub mod Fields
 pub mod Kept
 pub mod Listed
 pub mod Sent
+pub mod Shortest
 pub mod Steered
 pub mod Tags
 pub mod Told

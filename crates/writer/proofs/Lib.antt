@@ -5,6 +5,7 @@ pub mod Meant
 pub mod Formed
 pub mod Promises
 pub mod Order
+pub mod Shortest
 pub mod Fitting
 pub mod Answers
 pub mod Specimens

@@ -1,3 +1,4 @@
 pub mod Writing
 pub mod Octets
 pub mod Reasons
+pub mod Shortest
