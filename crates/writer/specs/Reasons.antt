@@ -79,7 +79,7 @@ unfoldable pub codePart : Code → Part
 codePart (Code.Local z) = signed mostIntegerOctets z
 codePart (Code.Global s) = string identifier s
 
--- code and parameter, both or none
+-- code and parameter, both or none: one alone, like a choice that does not exist, is in no record, and octets that hold it are no record (24)
 unfoldable pub returnedParts : Returned → List Part
 returnedParts Returned.Bare = []
 returnedParts (Returned.Both c p) = codePart c ∷ string (element 5) p ∷ []
