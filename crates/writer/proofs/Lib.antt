@@ -4,6 +4,7 @@ pub mod Testing
 pub mod Meant
 pub mod Formed
 pub mod Promises
+pub mod Reasons
 pub mod Order
 pub mod Shortest
 pub mod Fitting
