@@ -11,7 +11,7 @@ use lib.Seq.{drop-append-seam, take-append-seam, take-append-add, drop-append-ad
 use lib.Dec.{ltb, leb, eqb}
 use borrow.Author.Tests.{eqb-true, eqb-false, eq-eqb, ne-eqb}
 use Rattle.element.specs.Form.{StandsFor}
-use Rattle.element.specs.Element.{IsTag, constructorOf, codeZero, extendedOf}
+use Rattle.element.specs.Element.{IsTag, constructorOf, codeZero, extendedOf, Definitely, Endlessly}
 use Rattle.element.specs.declared.FaultKind.{FaultKind}
 use Rattle.element.specs.Fault.{Fault, at}
 use Rattle.element.specs.declared.FaultKind.the-variants.{CutOff, Missing, CodeZero, TooDeep, Seventeenth}
@@ -80,7 +80,7 @@ more-first true a r e = refl
 more-first false a [] e = rw e
 more-first false a (y ∷ r) e = rw e
 
-more-at : (d : Bool) (part : List ℕ) (a s : ℕ) → tagOf part ≡ tag a s → codeZero a ≡ false → endOf d part ≡ more
+pub more-at : (d : Bool) (part : List ℕ) (a s : ℕ) → tagOf part ≡ tag a s → codeZero a ≡ false → endOf d part ≡ more
 unfolding TagIs
 more-at d part a s e z =
     let (x, r, q, i, l) : TagIs part (tag a s) = rw e at (tag-sound part) in
@@ -169,25 +169,6 @@ module _ {A : Type 0} (P : A → ℕ → Type 0) (b : Body A) (d : Bool) (p : �
   ask-sound = end-asked (endOf d part) refl
 
 -- what a head says of the octets
-
--- tag octets (a and ext), length octets, and then the contents
-pub record Definitely (part : List ℕ) (a u n : ℕ) : Type 0 where
-  pub ext : List ℕ
-  pub len : List ℕ
-  pub isTag : IsTag a ext
-  pub plain : codeZero a ≡ false
-  pub stands : StandsFor len n
-  pub front : part ≡ ((a ∷ ext) ++ len) ++ drop u part
-  pub used : u ≡ length ((a ∷ ext) ++ len)
-  pub room : n ≤ length (drop u part)
-
-pub record Endlessly (part : List ℕ) (a u : ℕ) : Type 0 where
-  pub ext : List ℕ
-  pub isTag : IsTag a ext
-  pub plain : codeZero a ≡ false
-  pub constructor : constructorOf a ≡ true
-  pub front : part ≡ ((a ∷ ext) ++ (0x80 ∷ [])) ++ drop u part
-  pub used : u ≡ length ((a ∷ ext) ++ (0x80 ∷ []))
 
 unfoldable pub Says : List ℕ → Head → Type 0
 Says part (head a u (definite n)) = Definitely part a u n

@@ -11,7 +11,7 @@ use lib.Seq.{drop-append-seam, take-append-seam, take-append-add, drop-append-ad
 use lib.Dec.{ltb, leb, eqb}
 use borrow.Author.Tests.{eqb-true, eqb-false, eq-eqb, ne-eqb}
 use Rattle.element.specs.Form.{Form, exactly, leafOf, then, aroundOf, perhaps, leaf, around, Matches, Definite, Unending, StandsFor, document01}
-use Rattle.element.specs.Element.{IsTag, constructorOf, codeZero, extendedOf}
+use Rattle.element.specs.Element.{IsTag, constructorOf, codeZero, extendedOf, Definitely, Endlessly}
 use Rattle.element.specs.Fault.{Fault, at, Text}
 use Rattle.element.specs.declared.FaultKind.the-variants.{BadContents}
 use Rattle.element.specs.declared.EndRead.{EndRead}
@@ -19,7 +19,7 @@ use Rattle.element.specs.declared.EndRead.the-variants.{Ended as ended, 
 use Rattle.element.specs.Head.{endOf}
 use Rattle.element.specs.Ask.{Got, got, bad, next, check, blamed, Size, definite, indefinite, Head, head, Body, ask}
 use Rattle.element.specs.Parts.{Item, firstOf, leafContents, leafItem, inside, aroundItem, keptItem}
-use Rattle.element.proofs.Asking.{Then, fact, void, then-next, then-check, then-weaken, next-of, HeadOf, ask-head, ask-ends, ask-sound, Definitely, Endlessly, Says, head-says, head-definite, head-endless}
+use Rattle.element.proofs.Asking.{Then, fact, void, then-next, then-check, then-weaken, next-of, HeadOf, ask-head, ask-ends, ask-sound, Says, head-says, head-definite, head-endless}
 
 -- n octets of a part were taken, and are of the form
 pub record Took (f : Form) (ok : Type 0) (part : List ℕ) (n : ℕ) : Type 0 where

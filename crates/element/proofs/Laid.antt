@@ -13,7 +13,7 @@ use lib.Seq.{drop-append-seam, take-append-seam, length-take-le, drop-drop}
 use borrow.Author.Tests.{eqb-true}
 use Rattle.base.specs.Value.{Every}
 use Rattle.element.specs.Form.{StandsFor}
-use Rattle.element.specs.Element.{IsTag, constructorOf, extendedOf}
+use Rattle.element.specs.Element.{IsTag, constructorOf, extendedOf, Definitely, Endlessly}
 use Rattle.element.specs.Fault.{numberOf, Text, Fault, at}
 use Rattle.element.specs.declared.FaultKind.{FaultKind}
 use Rattle.element.specs.declared.FaultKind.the-variants.{BadLength, BadContents, Another, TooDeep}
@@ -22,7 +22,7 @@ use Rattle.element.specs.Head.{endOf}
 use Rattle.element.specs.Ask.{Got, definite, indefinite, Head, head, Body, ask}
 use Rattle.element.specs.Parts.{Item, Where, level, firstOf, leafContents, leafItem, inside, aroundItem, keptItem, mapItem, orItem, place, done, onward, silently, bindBody, onlyBody, lastBody, optPick, optBody, mapBody, seriesBody}
 use Rattle.element.specs.Walk.{walkPick, elementOf, anyTag, walkContents}
-use Rattle.element.proofs.Asking.{HeadOf, Definitely, Endlessly, Says, head-says}
+use Rattle.element.proofs.Asking.{HeadOf, Says, head-says}
 use Rattle.element.proofs.Ends.{Ends, held, failed, ends-next, ends-weaken, ends-check, ends-blamed, ends-cond, Plain, ends-ask}
 use Rattle.element.proofs.Insides.{no-extension, end-indefinite}
 

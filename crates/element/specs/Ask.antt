@@ -68,7 +68,8 @@ module _ {A : Type 0} (b : Body A) (d : Bool) (p : ℕ) (part : List ℕ) where
   atEnd none = bad (at FaultKind.Missing p)
   atEnd (some a) = got a 0
 
-  -- the end of the contents (a missing end pair is 1), a 17th component (12)
+  -- the end of the contents (a missing end pair is 1), a 17th component (12): no owner, for these belong to the constructor left open, and whoever asks
+  -- for its contents says whose it is
   unfoldable pub askEnd : EndRead → Got A
   askEnd EndRead.Ended = atEnd (b .ends)
   askEnd EndRead.Unfinished = bad (at FaultKind.CutOff p)

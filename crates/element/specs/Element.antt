@@ -1,10 +1,10 @@
 -- One element, to its bottom, in octets of any number: document 01, "Elements".
 -- Assumes nothing: these are definitions.
 use Prim.Native.Nat.{ℕ, zero, suc, _/_, _%_, _≤_, _<_}
-use mathlib.Core.{Path._≡_, Logic._⊎_, Bool.Bool, Bool.true, Bool.false, Bool._||_, List.List, List.[], List._∷_}
-use lib.{Dec.eqb}
+use mathlib.Core.{Path._≡_, Logic._⊎_, Bool.Bool, Bool.true, Bool.false, Bool._||_, List.List, List.[], List._∷_, List._++_}
+use lib.{ListN.length, ListN.drop, Dec.eqb}
 use Rattle.base.specs.{Value.Every}
-use Rattle.element.specs.{Form.exactly, Form.leafOf, Form.aroundOf, Form.seriesForm, Form.Matches, Form.document01}
+use Rattle.element.specs.{Form.exactly, Form.leafOf, Form.aroundOf, Form.seriesForm, Form.Matches, Form.document01, Form.StandsFor}
 
 -- bit F
 unfoldable pub constructorOf : ℕ → Bool
@@ -40,3 +40,23 @@ Element l m = (a : ℕ) × IsElement l a m
 -- a series of elements of one tag
 unfoldable pub SeriesOf : ℕ → ℕ → List ℕ → Type 0
 SeriesOf a l m = (ws : List (List ℕ)) × Every (IsElement l a) ws × Matches document01 (seriesForm exactly ws) m
+
+-- The head of an element, at the front of a part (the octets from a place to the end of the enclosing contents): tag octets (a and ext), length
+-- octets, u in all, and then n contents octets; or 80, and contents up to the end pair
+pub record Definitely (part : List ℕ) (a u n : ℕ) : Type 0 where
+  pub ext : List ℕ
+  pub len : List ℕ
+  pub isTag : IsTag a ext
+  pub plain : codeZero a ≡ false
+  pub stands : StandsFor len n
+  pub front : part ≡ ((a ∷ ext) ++ len) ++ drop u part
+  pub used : u ≡ length ((a ∷ ext) ++ len)
+  pub room : n ≤ length (drop u part)
+
+pub record Endlessly (part : List ℕ) (a u : ℕ) : Type 0 where
+  pub ext : List ℕ
+  pub isTag : IsTag a ext
+  pub plain : codeZero a ≡ false
+  pub constructor : constructorOf a ≡ true
+  pub front : part ≡ ((a ∷ ext) ++ (0x80 ∷ [])) ++ drop u part
+  pub used : u ≡ length ((a ∷ ext) ++ (0x80 ∷ []))

@@ -13,7 +13,8 @@ use Rattle.element.specs.Head.{endOf}
 use Rattle.element.specs.Ask.{Got, got, check, definite, indefinite, Head, head, Body, ask}
 use Rattle.element.specs.Parts.{Item, Where, leafContents, leafItem, inside, aroundItem, mapItem, orItem, firstOf, done, onward, bindBody, onlyBody, lastBody, optPick, optBody, mapBody, silently}
 use Rattle.element.specs.Walk.{walkItem}
-use Rattle.element.proofs.Asking.{Then, fact, void, then-next, then-check, then-weaken, then-blamed, HeadOf, ask-sound, Definitely, Says, head-says}
+use Rattle.element.specs.Element.{Definitely}
+use Rattle.element.proofs.Asking.{Then, fact, void, then-next, then-check, then-weaken, then-blamed, HeadOf, ask-sound, Says, head-says}
 use Rattle.element.proofs.Insides.{end-indefinite}
 use Rattle.element.proofs.Walker.{walk-laws}
 use Rattle.asking.specs.Asked.{front}

@@ -3,3 +3,5 @@ pub mod WellFormed
 pub mod Productions
 pub mod Record
 pub mod Reading
+pub mod Due
+pub mod Refused

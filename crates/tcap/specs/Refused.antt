@@ -1,0 +1,153 @@
+-- Where a place of a message is, by its octets alone, and what is wrong there, number by number: document 01, "Record and refusal of a reading".
+-- A page to check a refusal against: no reader is named here. Assumes nothing: these are definitions.
+use Prim.Native.Nat.{ℕ, suc, _+_, _-_, _≤_, _<_}
+use mathlib.Core.{Path._≡_, Logic._⊎_, Bool.Bool, Bool.true, Bool.false, Bool._||_, List.List, List.[], List._∷_, List._++_, Option.Option, Option.none, Option.some, Option.Option·map, Option.Option·getD}
+use lib.{ListN.length, ListN.take, ListN.drop, ListN.getD, Dec.eqb, IntN.ℤ}
+use Rattle.base.specs.{Number.numberFrom}
+use Rattle.primitive.specs.{Primitive.signedOf}
+use Rattle.element.specs.{Form.fewestOf, Element.IsTag, Element.constructorOf, Element.codeZero, Element.extendedOf, Element.Definitely, Element.Endlessly, Fault.Text, Fault.Owner, Fault.portion, Fault.dialogue as theDialogue, Fault.component as theComponent, Fault.Fault, Fault.fault, Head.endOf, declared.FaultKind.FaultKind, declared.EndRead.EndRead}
+use Rattle.tcap.specs.{declared.InvokeId.InvokeId, declared.Answer.Answer, declared.OptionalOrig.OptionalOrig, declared.Refusal.Refusal, Meaning.orig, Record.origField, Record.idField, Due.Parts, Due.end, Due.must, Due.may, Due.name, Due.many, Due.components, Due.Holds, Due.octets, Due.origId, Due.invokeId, Due.parts, Due.dialogue, Due.message, Due.find, Due.due, Due.behind, Due.mayEnd, Due.someMay, Due.position, Due.passes, Due.contentsOf, Due.there}
+
+-- Octets that are right
+
+mutual
+  -- n octets at the front of a part, which begins at place p, are an element at level l, with first octet a, that holds h, to its bottom;
+  -- of a primitive: its contents and their place
+  pub data Right (limit : ℕ) : ℕ → ℕ → Holds → ℕ → List ℕ → ℕ → Text → Type 0 where
+    primitive : {l a p u n : ℕ} {h : Holds} {part : List ℕ} → l ≤ limit → Definitely part a u n → contentsOf h ≡ none → passes h (take n (drop u part)) ≡ true → Right limit l a h p part (u + n) (p + u, take n (drop u part))
+    definite : {l a p u n k : ℕ} {h : Holds} {r : Parts} {part : List ℕ} → l ≤ limit → Definitely part a u n → contentsOf h ≡ some r → Fits limit (suc l) r true (p + u) (take n (drop u part)) k → Right limit l a h p part (u + n) (p, [])
+    indefinite : {l a p u k : ℕ} {h : Holds} {r : Parts} {part : List ℕ} → l ≤ limit → Endlessly part a u → contentsOf h ≡ some r → Fits limit (suc l) r false (p + u) (drop u part) k → Right limit l a h p part (u + (k + 2)) (p, [])
+
+  -- k octets at the front of a part are what is due in contents at level l, up to their end; d: the contents are definite
+  pub data Fits (limit : ℕ) : ℕ → Parts → Bool → ℕ → List ℕ → ℕ → Type 0 where
+    nothing : {l p : ℕ} {r : Parts} {d : Bool} {part : List ℕ} → endOf d part ≡ EndRead.Ended → mayEnd r ≡ true → Fits limit l r d p part 0
+    also : {l a p n k : ℕ} {r : Parts} {h : Holds} {d : Bool} {part : List ℕ} {x : Text} → (position r ≡ some 16 → ⊥) → due r a ≡ some h → Right limit l a h p part n x → Fits limit l (behind r a (x .1)) d (p + n) (drop n part) k → Fits limit l r d p part (n + k)
+
+-- Where a place is
+
+-- what is known at a place: whom the constructor belongs to whose contents it is in, whom these contents belong to, the invoke ID and the
+-- originating ID that stand before it
+pub data Known : Type 0 where
+  known : Owner → Owner → Option ℤ → Option Text → Known
+
+-- whom an element here belongs to: at a component's position that component
+abbrev pub whose : Option ℕ → Owner → Owner
+whose none o = o
+whose (some k) o = theComponent k
+
+-- whom the contents of an element belong to
+abbrev pub inside : Holds → Owner → Owner
+inside (octets fits) o = o
+inside origId o = o
+inside invokeId o = o
+inside (parts r) o = o
+inside (dialogue r) o = theDialogue
+
+-- what an element tells that was read whole
+abbrev pub told : Holds → Text → Known → Known
+told (octets fits) x s = s
+told origId x (known c o i t) = known c o i (some x)
+told invokeId x (known c o i t) = known c o (some (signedOf (x .1))) t
+told (parts r) x s = s
+told (dialogue r) x s = s
+
+-- the place p of m: its level, whether the contents it is in are definite, what is still to come in them, what is known, and the octets from there
+-- to the end of these contents
+pub data Trail (limit : ℕ) (m : List ℕ) : ℕ → Bool → Parts → Known → ℕ → List ℕ → Type 0 where
+  top : Trail limit m 1 true (must message end) (known portion portion none none) 0 m
+  -- into the contents of an element that may stand here
+  into : {l a u n p : ℕ} {d : Bool} {r q : Parts} {h : Holds} {c o : Owner} {i : Option ℤ} {t : Option Text} {part : List ℕ} → Trail limit m l d r (known c o i t) p part → l ≤ limit → (position r ≡ some 16 → ⊥) → due r a ≡ some h → contentsOf h ≡ some q → Definitely part a u n
+      → Trail limit m (suc l) true q (known (whose (position r) o) (inside h (whose (position r) o)) i t) (p + u) (take n (drop u part))
+  intoEndless : {l a u p : ℕ} {d : Bool} {r q : Parts} {h : Holds} {c o : Owner} {i : Option ℤ} {t : Option Text} {part : List ℕ} → Trail limit m l d r (known c o i t) p part → l ≤ limit → (position r ≡ some 16 → ⊥) → due r a ≡ some h → contentsOf h ≡ some q → Endlessly part a u
+      → Trail limit m (suc l) false q (known (whose (position r) o) (inside h (whose (position r) o)) i t) (p + u) (drop u part)
+  -- past an element that may stand here and is right; past the message is no place
+  past : {l a p n : ℕ} {d : Bool} {r : Parts} {h : Holds} {s : Known} {part : List ℕ} {x : Text} → Trail limit m l d r s p part → 2 ≤ l → (position r ≡ some 16 → ⊥) → due r a ≡ some h → Right limit l a h p part n x
+      → Trail limit m l d (behind r a (x .1)) (told h x s) (p + n) (drop n part)
+
+-- What is wrong with the octets at a place
+
+-- they end in the tag
+pub data TagCut : List ℕ → Type 0 where
+  empty : TagCut []
+  one : {a : ℕ} → extendedOf a ≡ true → TagCut (a ∷ [])
+  two : {a x : ℕ} → extendedOf a ≡ true → 129 ≤ x → TagCut (a ∷ x ∷ [])
+  three : {a x y : ℕ} → extendedOf a ≡ true → 129 ≤ x → 128 ≤ y → TagCut (a ∷ x ∷ y ∷ [])
+
+-- the first extension octet is 80, or the code is below 31; a third one with bit H
+pub data TagBad : List ℕ → Type 0 where
+  small : {a x : ℕ} {r : List ℕ} → extendedOf a ≡ true → (x ≡ 128) ⊎ (x < 31) → TagBad (a ∷ x ∷ r)
+  long : {a x y z : ℕ} {r : List ℕ} → extendedOf a ≡ true → 129 ≤ x → 128 ≤ y → 128 ≤ z → TagBad (a ∷ x ∷ y ∷ z ∷ r)
+
+-- of the octets behind a tag; the Bool: it is a constructor's
+pub data LengthWrong (c : Bool) : List ℕ → FaultKind → Type 0 where
+  gone : LengthWrong c [] FaultKind.CutOff
+  cut : {b : ℕ} {r : List ℕ} → 129 ≤ b → b ≤ 254 → length r < b - 128 → LengthWrong c (b ∷ r) FaultKind.CutOff
+  reserved : {b : ℕ} {r : List ℕ} → 255 ≤ b → LengthWrong c (b ∷ r) FaultKind.BadLength
+  endless : {r : List ℕ} → c ≡ false → LengthWrong c (0x80 ∷ r) FaultKind.BadLength
+  wasteful : {b : ℕ} {r : List ℕ} → 129 ≤ b → b ≤ 254 → b - 128 ≤ length r → fewestOf (getD r 0 0) (b - 128) ≡ false → LengthWrong c (b ∷ r) FaultKind.BadLength
+  passing : {b : ℕ} {r : List ℕ} → b < 128 → length r < b → LengthWrong c (b ∷ r) FaultKind.PassesEnd
+  passingLong : {b : ℕ} {r : List ℕ} → 129 ≤ b → b ≤ 254 → b - 128 ≤ length r → fewestOf (getD r 0 0) (b - 128) ≡ true → length r - (b - 128) < numberFrom 0 (take (b - 128) r) → LengthWrong c (b ∷ r) FaultKind.PassesEnd
+
+-- a sound tag, not of code 0, stands at the front of the part, and behind it r
+pub record Tagged (part : List ℕ) (a : ℕ) (r : List ℕ) : Type 0 where
+  pub ext : List ℕ
+  pub octets : part ≡ a ∷ (ext ++ r)
+  pub isTag : IsTag a ext
+  pub plain : codeZero a ≡ false
+
+-- an element that may not stand where r is to come: at a component's position; some other may; none may
+pub data Unfit (r : Parts) : FaultKind → Type 0 where
+  unknown : {k : ℕ} → position r ≡ some k → Unfit r FaultKind.UnknownComponent
+  another : position r ≡ none → someMay r ≡ true → Unfit r FaultKind.Another
+  tooMany : someMay r ≡ false → Unfit r FaultKind.TooMany
+
+-- an element that stands at level l where r is to come, in the order of document 01
+pub data Faulty (limit l : ℕ) (r : Parts) (part : List ℕ) : FaultKind → Type 0 where
+  -- the tag (1, 2)
+  tagCut : TagCut part → Faulty limit l r part FaultKind.CutOff
+  tagBad : TagBad part → Faulty limit l r part FaultKind.BadTag
+  -- code 0 (6)
+  zeroCode : {a : ℕ} {q : List ℕ} → part ≡ a ∷ q → codeZero a ≡ true → Faulty limit l r part FaultKind.CodeZero
+  -- the level (5)
+  tooDeep : {a : ℕ} {q : List ℕ} → Tagged part a q → limit < l → Faulty limit l r part FaultKind.TooDeep
+  -- the expected tag (13, 10)
+  unfit : {a : ℕ} {q : List ℕ} {k : FaultKind} → Tagged part a q → l ≤ limit → due r a ≡ none → Unfit r k → Faulty limit l r part k
+  -- the length (1, 3, 4)
+  lengthWrong : {a : ℕ} {q : List ℕ} {h : Holds} {k : FaultKind} → Tagged part a q → l ≤ limit → due r a ≡ some h → LengthWrong (constructorOf a) q k → Faulty limit l r part k
+  -- the contents (11)
+  badContents : {a u n : ℕ} {h : Holds} → l ≤ limit → due r a ≡ some h → Definitely part a u n → contentsOf h ≡ none → passes h (take n (drop u part)) ≡ false → Faulty limit l r part FaultKind.BadContents
+
+-- at a place in contents of c, where an element belongs to o: a fault's kind, and whom it belongs to
+pub data Wrong (limit l : ℕ) (d : Bool) (r : Parts) (part : List ℕ) (c o : Owner) : FaultKind → Owner → Type 0 where
+  -- the end of the contents: a missing end pair (1), something missing (10)
+  noPair : endOf d part ≡ EndRead.Unfinished → Wrong limit l d r part c o FaultKind.CutOff c
+  missing : endOf d part ≡ EndRead.Ended → mayEnd r ≡ false → Wrong limit l d r part c o FaultKind.Missing c
+  -- a 17th component (12)
+  seventeenth : endOf d part ≡ EndRead.More → position r ≡ some 16 → Wrong limit l d r part c o FaultKind.Seventeenth c
+  -- an element
+  element : {k : FaultKind} → endOf d part ≡ EndRead.More → (position r ≡ some 16 → ⊥) → Faulty limit l r part k → Wrong limit l d r part c o k o
+
+-- The message
+
+-- the originating ID of a message with these parts: none if 48 is not due in it, else what is known at a place behind it
+pub data OrigOf (limit : ℕ) (m : List ℕ) (r : Parts) : Option Text → Type 0 where
+  without : due r 0x48 ≡ none → OrigOf limit m r none
+  with : {p : ℕ} {d : Bool} {q : Parts} {part : List ℕ} {s : Text} → Trail limit m 2 d q (known portion portion none (some s)) p part → OrigOf limit m r (some s)
+
+-- a fault that is there: at a place, with what is known there; or octets stand behind the message (9)
+pub data Found (limit : ℕ) (m : List ℕ) : Fault → Type 0 where
+  found : {l p : ℕ} {d : Bool} {r : Parts} {c o w : Owner} {i : Option ℤ} {t : Option Text} {k : FaultKind} {part : List ℕ} → Trail limit m l d r (known c o i t) p part → Wrong limit l d r part c (whose (position r) o) k w → Found limit m (fault k p w i t)
+  after : {n a : ℕ} {h : Holds} {r : Parts} {x : Text} {t : Option Text} → find message a ≡ some h → contentsOf h ≡ some r → Right limit 1 a h 0 m n x → (n ≡ length m → ⊥) → OrigOf limit m r t → Found limit m (fault FaultKind.OctetsAfter n portion none t)
+
+-- the whole table: 7, 1 for no octets and 8 before all
+pub data Refuses (limit : ℕ) (m : List ℕ) : Fault → Type 0 where
+  overlong : 255 < length m → Refuses limit m (fault FaultKind.Overlong 255 portion none none)
+  noOctets : m ≡ [] → Refuses limit m (fault FaultKind.CutOff 0 portion none none)
+  noMessage : {a : ℕ} {q : List ℕ} → length m ≤ 255 → m ≡ a ∷ q → find message a ≡ none → Refuses limit m (fault FaultKind.NoMessage 0 portion none none)
+  within : {a : ℕ} {q : List ℕ} {h : Holds} {f : Fault} → length m ≤ 255 → m ≡ a ∷ q → find message a ≡ some h → Found limit m f → Refuses limit m f
+
+-- nothing to refuse: one message that is right, and the octets end behind it
+pub record Allowed (limit : ℕ) (m : List ℕ) : Type 0 where
+  pub short : length m ≤ 255
+  pub size : ℕ
+  pub fits : Fits limit 1 (must message end) true 0 m size
