@@ -237,9 +237,12 @@ module _ (limit : ℕ) (m : List ℕ) where
     leaf-from fits g z j say d p part (head a u indefinite) x i c = let s : Endlessly part a u = head-says part (head a u indefinite) i in absurd (false≢true (sym c ∙ s .constructor))
 
     pub leaf-finds : (a : ℕ) (fits : List ℕ → Bool) (g : Holds) → constructorOf a ≡ false → contentsOf g ≡ none → ((c : List ℕ) → passes g c ≡ fits c) → Said w i t W → ItemFinds (leafItem a fits) l (tagged-as a g) w i t W (λ v g′ y. (g ≡ g′) × (v ≡ y))
-    leaf-finds a fits g c z j say = record { mine = λ b. tag-mine b a g (eqb b a) refl; reads = λ d p part h g′ x e i.
-        let u = tag-held (firstOf h) a g g′ e in
-        rw (← (u .1)) (ends-weaken (leaf-from fits g z j say d p part h (rw (← (u .1)) at x) i (rw (u .0) c)) (λ v n k. (k .0, k .1, (refl, k .2))) (λ f k. k)) }
+    leaf-finds a fits g c z j say = record {
+      mine = λ b. tag-mine b a g (eqb b a) refl;
+      reads = λ d p part h g′ x e i.
+          let u = tag-held (firstOf h) a g g′ e in
+          rw (← (u .1)) (ends-weaken (leaf-from fits g z j say d p part h (rw (← (u .1)) at x) i (rw (u .0) c)) (λ v n k. (k .0, k .1, (refl, k .2))) (λ f k. k));
+    }
 
     pub inside-finds : {L : Type 0} {b : ℕ → Body L} {G : L → Type 0} {q : Parts} (g : Holds) → contentsOf g ≡ some q → ((n : ℕ) → BodyTells (b n) (suc l) n q w (inside g w) i t W G)
         → (d : Bool) (p : ℕ) (part : List ℕ) (h : Head) → Spot l w i t d p part (firstOf h) g → HeadOf part h
@@ -255,14 +258,20 @@ module _ (limit : ℕ) (m : List ℕ) where
         held {a = (v, (p + u, take k (drop u part)))} {n = u + (k + 2)} (endlessly (x .level) y z (f .0), f .1)
 
     pub around-tells : {L : Type 0} {b : Body L} {G : L → Type 0} {q : Parts} (a : ℕ) (g : Holds) → contentsOf g ≡ some q → ((n : ℕ) → BodyTells b (suc l) n q w (inside g w) i t W G) → ItemFinds (aroundItem a b) l (tagged-as a g) w i t W (λ v g′ y. (g ≡ g′) × G v)
-    around-tells a g z s = record { mine = λ b. tag-mine b a g (eqb b a) refl; reads = λ d p part h g′ x e i.
-        let u = tag-held (firstOf h) a g g′ e in
-        rw (← (u .1)) (ends-next (inside-finds g z s d p part h (rw (← (u .1)) at x) i) λ v n f. held {a = v .0} {n = n} ((p, []), f .0, (refl, f .1))) }
+    around-tells a g z s = record {
+      mine = λ b. tag-mine b a g (eqb b a) refl;
+      reads = λ d p part h g′ x e i.
+          let u = tag-held (firstOf h) a g g′ e in
+          rw (← (u .1)) (ends-next (inside-finds g z s d p part h (rw (← (u .1)) at x) i) λ v n f. held {a = v .0} {n = n} ((p, []), f .0, (refl, f .1)));
+    }
 
     pub kept-finds : {L : Type 0} {b : ℕ → Body L} {G : L → Type 0} {q : Parts} (a : ℕ) (g : Holds) → contentsOf g ≡ some q → ((n : ℕ) → BodyTells (b n) (suc l) n q w (inside g w) i t W G) → ItemFinds (keptItem a b) l (tagged-as a g) w i t W Silent
-    kept-finds a g z s = record { mine = λ b. tag-mine b a g (eqb b a) refl; reads = λ d p part h g′ x e i.
-        let u = tag-held (firstOf h) a g g′ e in
-        rw (← (u .1)) (ends-next (inside-finds g z s d p part h (rw (← (u .1)) at x) i) λ v n f. held {a = v .1} {n = n} ((p, []), f .0, tt)) }
+    kept-finds a g z s = record {
+      mine = λ b. tag-mine b a g (eqb b a) refl;
+      reads = λ d p part h g′ x e i.
+          let u = tag-held (firstOf h) a g g′ e in
+          rw (← (u .1)) (ends-next (inside-finds g z s d p part h (rw (← (u .1)) at x) i) λ v n f. held {a = v .1} {n = n} ((p, []), f .0, tt));
+    }
 
     pub map-finds : {L M : Type 0} {x : Item L} {ch : Choice} {S : L → Holds → Text → Type 0} {T : M → Holds → Text → Type 0} (f : L → M) → ((v : L) (g : Holds) (y : Text) → S v g y → T (f v) g y) → ItemFinds x l ch w i t W S → ItemFinds (mapItem f x) l ch w i t W T
     map-finds f k s = record { mine = s .mine; reads = λ d p part h g x e i. ends-next (s .reads d p part h g x e i) λ v n u. held {a = f v} {n = n} (u .0, u .1, k v g (u .0) (u .2)) }

@@ -237,7 +237,7 @@ module _ (limit : ℕ) (m : List ℕ) where
         let deep : left ≡ suc limit - suc l = omega arith in
         let next : ItemFinds limit m (elementOf anyTag (walkContents left)) (suc l) any w i t W (Silent limit m) = walk-finds left (suc l) deep (omega arith) in
         let series : (room k : ℕ) → BodyFinds limit m (seriesBody (λ k. level left) FaultKind.Another (elementOf anyTag (walkContents left)) (some []) room k) (suc l) room (many any) w w i t W =
-            series-finds (omega arith) left any refl (record { ends = say; owned = say; left = deep }) next in
+        series-finds (omega arith) left any refl (record { ends = say; owned = say; left = deep }) next in
         record {
           mine = λ a. any-mine a (codeZero a) refl;
           reads = λ d p part h g x f i. let k = any-holds (firstOf h) g (constructorOf (firstOf h)) refl f in rw (← k) (walk-up l left deep low series d p part h (constructorOf (firstOf h)) refl (rw (← k) at x) i);

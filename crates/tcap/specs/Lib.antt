@@ -3,5 +3,6 @@ pub mod WellFormed
 pub mod Productions
 pub mod Record
 pub mod Reading
+pub mod Standard
 pub mod Due
 pub mod Refused

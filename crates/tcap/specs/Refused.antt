@@ -5,8 +5,8 @@ use mathlib.Core.{Path._≡_, Logic._⊎_, Bool.Bool, Bool.true, Bool.false, Boo
 use lib.{ListN.length, ListN.take, ListN.drop, ListN.getD, Dec.eqb, IntN.ℤ}
 use Rattle.base.specs.{Number.numberFrom}
 use Rattle.primitive.specs.{Primitive.signedOf}
-use Rattle.element.specs.{Form.fewestOf, Element.IsTag, Element.constructorOf, Element.codeZero, Element.extendedOf, Element.Definitely, Element.Endlessly, Fault.Text, Fault.Owner, Fault.portion, Fault.dialogue as theDialogue, Fault.component as theComponent, Fault.Fault, Fault.fault, Head.endOf, declared.FaultKind.FaultKind, declared.EndRead.EndRead}
-use Rattle.tcap.specs.{declared.InvokeId.InvokeId, declared.Answer.Answer, declared.OptionalOrig.OptionalOrig, declared.Refusal.Refusal, Meaning.orig, Record.origField, Record.idField, Due.Parts, Due.end, Due.must, Due.may, Due.name, Due.many, Due.components, Due.Holds, Due.octets, Due.origId, Due.invokeId, Due.parts, Due.dialogue, Due.message, Due.find, Due.due, Due.behind, Due.mayEnd, Due.someMay, Due.position, Due.passes, Due.contentsOf, Due.there}
+use Rattle.element.specs.{Form.fewestOf, Element.IsTag, Element.constructorOf, Element.codeZero, Element.extendedOf, Element.Definitely, Element.Endlessly, Fault.Text, Fault.Owner, Fault.portion, Fault.dialogue as theDialogue, Fault.component as theComponent, Fault.Fault, Fault.fault, Fault.numberOf, Head.endOf, declared.FaultKind.FaultKind, declared.EndRead.EndRead}
+use Rattle.tcap.specs.{declared.OptionalOrig.OptionalOrig, declared.Refusal.Refusal, Meaning.orig, Record.origField, Standard.Standard, Due.Parts, Due.end, Due.must, Due.Holds, Due.octets, Due.origId, Due.invokeId, Due.parts, Due.dialogue, Due.message, Due.find, Due.due, Due.behind, Due.mayEnd, Due.someMay, Due.position, Due.passes, Due.contentsOf}
 
 -- Octets that are right
 
@@ -151,3 +151,16 @@ pub record Allowed (limit : ℕ) (m : List ℕ) : Type 0 where
   pub short : length m ≤ 255
   pub size : ℕ
   pub fits : Fits limit 1 (must message end) true 0 m size
+
+-- a refusal is that of a fault that is there: its number, its place, the originating ID, and the standard answer
+pub record Checked (m : List ℕ) (r : Refusal) : Type 0 where
+  pub kind : FaultKind
+  pub place : ℕ
+  pub owner : Owner
+  pub invokeId : Option ℤ
+  pub origId : Option Text
+  pub there : Refuses 16 m (fault kind place owner invokeId origId)
+  pub sameNumber : numberOf (r .kind) ≡ numberOf kind
+  pub samePlace : r .place ≡ place
+  pub sameOrig : r .orig ≡ Option·getD (Option·map (λ s. origField (orig s)) origId) OptionalOrig.NoOrig
+  pub answer : Standard kind owner invokeId (r .answer)
