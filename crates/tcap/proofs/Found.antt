@@ -127,9 +127,10 @@ module _ (limit : ℕ) (m : List ℕ) where
   pub like-same : (r : Parts) (a : ℕ) → Like r r a
   like-same r a = record { may = refl; rest = λ c. refl; count = refl }
 
-  -- contents where r is to come; W: what is known of a fault from outside; room: how many octets there are at most; G: what is told of a value
-  pub record BodyTells {L : Type 0} (b : Body L) (l room : ℕ) (r : Parts) (c o : Owner) (i : Option ℤ) (t : Option Text) (W : Fault → Fault) (G : L → Type 0) : Type 0 where
-    pub void : (v : L) → b .ends ≡ some v → (mayEnd r ≡ true) × G v
+  -- contents where r is to come; W: what is known of a fault from outside; room: how many octets there are at most; G: what is told of a value by
+  -- the place of these octets, and them
+  pub record BodyTells {L : Type 0} (b : Body L) (l room : ℕ) (r : Parts) (c o : Owner) (i : Option ℤ) (t : Option Text) (W : Fault → Fault) (G : L → Text → Type 0) : Type 0 where
+    pub void : (v : L) → b .ends ≡ some v → (mayEnd r ≡ true) × ((x : Text) → G v x)
     pub lacks : b .ends ≡ none → mayEnd r ≡ false
     pub ends : (k : FaultKind) (p : ℕ) → W (at k p) ≡ fault k p c i t
     pub full : b .full ≡ true → (position r ≡ some 16) ⊎ (room ≡ 0)
@@ -139,10 +140,10 @@ module _ (limit : ℕ) (m : List ℕ) where
     pub mine : b .full ≡ false → (a : ℕ) → b .mine a ≡ there (due r a)
     pub other : b .full ≡ false → (d : Bool) (p : ℕ) (part : List ℕ) (a : ℕ) (q : List ℕ) → Trail limit m l d r (known c o i t) p part → Tagged part a q → b .mine a ≡ false → Unfit r (b .other)
     pub goes : (d : Bool) (q : Parts) (p : ℕ) (part : List ℕ) (h : Head) → length part ≤ room → Trail limit m l d q (known c o i t) p part → Like q r (firstOf h) → l ≤ limit → HeadOf part h → b .full ≡ false → b .mine (firstOf h) ≡ true
-        → Ends (λ v n. Fits limit l q d p part n × G v) (λ f. Found limit m (W f)) (b .goes d h p part)
+        → Ends (λ v n. Fits limit l q d p part n × G v (p, part)) (λ f. Found limit m (W f)) (b .goes d h p part)
 
-  abbrev pub Untold : {L : Type 0} → L → Type 0
-  Untold v = Unit {0}
+  abbrev pub Untold : {L : Type 0} → L → Text → Type 0
+  Untold v x = Unit {0}
 
   abbrev pub BodyFinds : {L : Type 0} → Body L → ℕ → ℕ → Parts → Owner → Owner → Option ℤ → Option Text → (Fault → Fault) → Type 0
   BodyFinds b l room r c o i t W = BodyTells b l room r c o i t W Untold
@@ -166,9 +167,9 @@ module _ (limit : ℕ) (m : List ℕ) where
 
   -- The order of questions
 
-  module _ {L : Type 0} {b : Body L} {l room : ℕ} {r : Parts} {c o : Owner} {i : Option ℤ} {t : Option Text} {W : Fault → Fault} {G : L → Type 0} (s : BodyTells b l room r c o i t W G) (d : Bool) (p : ℕ) (part : List ℕ) (big : length part ≤ room) (way : Trail limit m l d r (known c o i t) p part) where
+  module _ {L : Type 0} {b : Body L} {l room : ℕ} {r : Parts} {c o : Owner} {i : Option ℤ} {t : Option Text} {W : Fault → Fault} {G : L → Text → Type 0} (s : BodyTells b l room r c o i t W G) (d : Bool) (p : ℕ) (part : List ℕ) (big : length part ≤ room) (way : Trail limit m l d r (known c o i t) p part) where
     abbrev Good : L → ℕ → Type 0
-    Good v n = Fits limit l r d p part n × G v
+    Good v n = Fits limit l r d p part n × G v (p, part)
 
     here : (f : b .full ≡ false) (k : FaultKind) → endOf d part ≡ more → Faulty limit l r part k → Found limit m (W (b .owner (at k p)))
     here f k e w = rw (s .owned f k p) (found way (element e (s .free f) w))
@@ -199,7 +200,7 @@ module _ (limit : ℕ) (m : List ℕ) where
     at-end-finds : (g : Option L) → b .ends ≡ g → endOf d part ≡ ended → Ends Good (λ f. Found limit m (W f)) (atEnd b d p part g)
     unfolding atEnd
     at-end-finds none f e = failed (around FaultKind.Missing (missing e (s .lacks f)))
-    at-end-finds (some v) f e = let u = s .void v f in held {a = v} {n = 0} (nothing e (u .0), u .1)
+    at-end-finds (some v) f e = let u = s .void v f in held {a = v} {n = 0} (nothing e (u .0), u .1 (p, part))
 
     full-wrong : (position r ≡ some 16) ⊎ (room ≡ 0) → endOf d part ≡ more → Wrong limit l d r part c (whose (position r) o) FaultKind.Seventeenth c
     full-wrong (inl x) e = seventeenth e x
@@ -244,33 +245,33 @@ module _ (limit : ℕ) (m : List ℕ) where
           rw (← (u .1)) (ends-weaken (leaf-from fits g z j say d p part h (rw (← (u .1)) at x) i (rw (u .0) c)) (λ v n k. (k .0, k .1, (refl, k .2))) (λ f k. k));
     }
 
-    pub inside-finds : {L : Type 0} {b : ℕ → Body L} {G : L → Type 0} {q : Parts} (g : Holds) → contentsOf g ≡ some q → ((n : ℕ) → BodyTells (b n) (suc l) n q w (inside g w) i t W G)
+    pub inside-finds : {L : Type 0} {b : ℕ → Body L} {G : L → Text → Type 0} {q : Parts} (g : Holds) → contentsOf g ≡ some q → ((n : ℕ) → BodyTells (b n) (suc l) n q w (inside g w) i t W G)
         → (d : Bool) (p : ℕ) (part : List ℕ) (h : Head) → Spot l w i t d p part (firstOf h) g → HeadOf part h
-        → Ends (λ v n. Right limit l (firstOf h) g p part n (p, []) × G (v .0)) (λ f. Found limit m (W f)) (within b h p part)
+        → Ends (λ v n. (y : Text) × Right limit l (firstOf h) g p part n y × G (v .0) y) (λ f. Found limit m (W f)) (within b h p part)
     unfolding within Says
     inside-finds g z s d p part (head a u (definite n)) x i =
         let y : Definitely part a u n = head-says part (head a u (definite n)) i in
         ends-next (ask-finds (s n) true (p + u) (take n (drop u part)) (omega (arith, length-take-le n (drop u part) (y .room))) (rw (x .whom) at (into (x .way) (x .level) (x .free) (x .may) z y))) λ v k f.
-        held {a = (v, (p + u, take n (drop u part)))} {n = u + n} (filled (x .level) y z (f .0), f .1)
+        held {a = (v, (p + u, take n (drop u part)))} {n = u + n} ((p + u, take n (drop u part)), filled (x .level) y z (f .0), f .1)
     inside-finds g z s d p part (head a u indefinite) x i =
         let y : Endlessly part a u = head-says part (head a u indefinite) i in
         ends-next (ask-finds (s (length (drop u part))) false (p + u) (drop u part) (omega arith) (rw (x .whom) at (intoEndless (x .way) (x .level) (x .free) (x .may) z y))) λ v k f.
-        held {a = (v, (p + u, take k (drop u part)))} {n = u + (k + 2)} (endlessly (x .level) y z (f .0), f .1)
+        held {a = (v, (p + u, take k (drop u part)))} {n = u + (k + 2)} ((p + u, drop u part), endlessly (x .level) y z (f .0), f .1)
 
-    pub around-tells : {L : Type 0} {b : Body L} {G : L → Type 0} {q : Parts} (a : ℕ) (g : Holds) → contentsOf g ≡ some q → ((n : ℕ) → BodyTells b (suc l) n q w (inside g w) i t W G) → ItemFinds (aroundItem a b) l (tagged-as a g) w i t W (λ v g′ y. (g ≡ g′) × G v)
+    pub around-tells : {L : Type 0} {b : Body L} {G : L → Text → Type 0} {q : Parts} (a : ℕ) (g : Holds) → contentsOf g ≡ some q → ((n : ℕ) → BodyTells b (suc l) n q w (inside g w) i t W G) → ItemFinds (aroundItem a b) l (tagged-as a g) w i t W (λ v g′ y. (g ≡ g′) × G v y)
     around-tells a g z s = record {
       mine = λ b. tag-mine b a g (eqb b a) refl;
       reads = λ d p part h g′ x e i.
           let u = tag-held (firstOf h) a g g′ e in
-          rw (← (u .1)) (ends-next (inside-finds g z s d p part h (rw (← (u .1)) at x) i) λ v n f. held {a = v .0} {n = n} ((p, []), f .0, (refl, f .1)));
+          rw (← (u .1)) (ends-next (inside-finds g z s d p part h (rw (← (u .1)) at x) i) λ v n f. held {a = v .0} {n = n} (f .0, f .1, (refl, f .2)));
     }
 
-    pub kept-finds : {L : Type 0} {b : ℕ → Body L} {G : L → Type 0} {q : Parts} (a : ℕ) (g : Holds) → contentsOf g ≡ some q → ((n : ℕ) → BodyTells (b n) (suc l) n q w (inside g w) i t W G) → ItemFinds (keptItem a b) l (tagged-as a g) w i t W Silent
+    pub kept-finds : {L : Type 0} {b : ℕ → Body L} {G : L → Text → Type 0} {q : Parts} (a : ℕ) (g : Holds) → contentsOf g ≡ some q → ((n : ℕ) → BodyTells (b n) (suc l) n q w (inside g w) i t W G) → ItemFinds (keptItem a b) l (tagged-as a g) w i t W Silent
     kept-finds a g z s = record {
       mine = λ b. tag-mine b a g (eqb b a) refl;
       reads = λ d p part h g′ x e i.
           let u = tag-held (firstOf h) a g g′ e in
-          rw (← (u .1)) (ends-next (inside-finds g z s d p part h (rw (← (u .1)) at x) i) λ v n f. held {a = v .1} {n = n} ((p, []), f .0, tt));
+          rw (← (u .1)) (ends-next (inside-finds g z s d p part h (rw (← (u .1)) at x) i) λ v n f. held {a = v .1} {n = n} (f .0, f .1, tt));
     }
 
     pub map-finds : {L M : Type 0} {x : Item L} {ch : Choice} {S : L → Holds → Text → Type 0} {T : M → Holds → Text → Type 0} (f : L → M) → ((v : L) (g : Holds) (y : Text) → S v g y → T (f v) g y) → ItemFinds x l ch w i t W S → ItemFinds (mapItem f x) l ch w i t W T

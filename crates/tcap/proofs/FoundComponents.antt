@@ -118,7 +118,7 @@ module _ (limit : ℕ) (m : List ℕ) (t : Option Text) (W : Fault → Fault) (s
   rows-find zero n size e sum lacks void =
       let y : n ≡ 16 = omega arith in
       record {
-        void = λ v q. (void v q, tt);
+        void = λ v q. (void v q, λ x. tt);
         lacks = lacks;
         ends = λ k p. sets k p portion none;
         full = λ _. inl (ap some y);
@@ -131,7 +131,7 @@ module _ (limit : ℕ) (m : List ℕ) (t : Option Text) (W : Fault → Fault) (s
       }
   rows-find (suc room) n size e sum lacks void =
       place-tells limit m (omega arith) (componentAt limit n) e FaultKind.UnknownComponent aComponent (components aComponent n) silently (λ a. seriesBody (componentAt limit) FaultKind.UnknownComponent (componentItem limit) (some []) room (suc n)) (λ a ws. a ∷ ws) size size (omega arith)
-      (at3 n) (λ a. refl) (not-sixteen n (omega arith)) (unknown refl) lacks (λ v q. (void v q, tt)) (component-finds n)
+      (at3 n) (λ a. refl) (not-sixteen n (omega arith)) (unknown refl) lacks (λ v q. (void v q, λ x. tt)) (component-finds n)
       (λ a g v x f _. quiet-rest limit m aComponent a g x refl f (rows-find room (suc n) size (some []) (omega arith) (λ q. let z : _≡_ {A = ℕ} 0 1 = cc in absurd (omega arith)) (λ v q. lt-ltb 0 (suc n) (omega arith))))
       (λ v b d q a g p part n x way free is f u k. tt)
 

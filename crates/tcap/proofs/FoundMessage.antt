@@ -27,7 +27,7 @@ use Rattle.tcap.specs.Reading.{learnt, aloneBody, readFirst, locatedUpTo
 use Rattle.tcap.specs.Due.{Parts, end, must, may, Choice, tag, either, Holds, octets, origId, parts, componentPortion, dialoguePortion, destination, portions, unidirectional as Uni, begin as Begin, finish as Finish, continue as Continue, abort as Abort, message, find, due, behind, contentsOf, position, there}
 use Rattle.tcap.specs.Refused.{Right, Fits, nothing, also, Known, known, told, Trail, top, into, intoEndless, past, Tagged, Unfit, another, Found, OrigOf, without, with, after, Refuses, overlong, noOctets, noMessage, within, Allowed}
 use Rattle.tcap.proofs.Fronts.{ends-blame}
-use Rattle.tcap.proofs.Found.{there-some, there-none, Like, BodyTells, Untold, BodyFinds, ItemFinds, Said, Silent, ask-finds, leaf-finds, around-tells, map-finds, quietly, silence, or-finds}
+use Rattle.tcap.proofs.Found.{tag-held, there-some, there-none, Like, BodyTells, Untold, BodyFinds, ItemFinds, Said, Silent, ask-finds, leaf-finds, around-tells, map-finds, quietly, silence, or-finds}
 use Rattle.tcap.proofs.Onward.{At, Rest, bind-tells, then-finds, only-finds, last-finds, opt-finds, map-body-tells, map-body-finds}
 use Rattle.tcap.proofs.FoundDialogue.{Zone, octet-z}
 use Rattle.tcap.proofs.FoundComponents.{components-find, dialogue-finds}
@@ -71,65 +71,62 @@ module _ (limit : ℕ) (m : List ℕ) where
       → Rest limit m y 2 room r portion portion (told g x (known portion portion none none)) (carried v)
   orig-rest b v g x (h, e) = rw e (record { invokeId = none; origId = some x; knows = rw (← h) refl; body = b x })
 
-  -- what a message tells that holds g, for octets behind it
-  pub data Tells (g : Holds) (v : Message Text) : Type 0 where
-    lacks : {r : Parts} → contentsOf g ≡ some r → due r 0x48 ≡ none → ((k : FaultKind) (p : ℕ) → learnt v (at k p) ≡ at k p) → Tells g v
-    tells : {p : ℕ} {d : Bool} {q : Parts} {part : List ℕ} {r : Parts} {s : Text} → contentsOf g ≡ some r → Trail limit m 2 d q (known portion portion none (some s)) p part → ((k : FaultKind) (p : ℕ) → learnt v (at k p) ≡ fault k p portion none (some s)) → Tells g v
+  -- what a message tells that holds g, with these contents, for octets behind it
+  pub data Tells (g : Holds) (v : Message Text) (x : Text) : Type 0 where
+    told-by : {r : Parts} {t : Option Text} → contentsOf g ≡ some r → OrigOf limit r x t → ((k : FaultKind) (p : ℕ) → learnt v (at k p) ≡ fault k p portion none t) → Tells g v x
 
-  abbrev OrigOn : Originating Text → Type 0
-  OrigOn v = (s : Text) × (v ≡ orig s) × ((d : Bool) × (q : Parts) × (p : ℕ) × (part : List ℕ) × Trail limit m 2 d q (known portion portion none (some s)) p part)
+  abbrev OrigOn : Originating Text → Text → Type 0
+  OrigOn v x = (s : Text) × (v ≡ orig s) × ((n : ℕ) × Right limit 2 0x48 origId (x .0) (x .1) n s)
 
-  orig-on : (v : Originating Text) (d : Bool) (q : Parts) (a : ℕ) (g : Holds) (p : ℕ) (part : List ℕ) (n : ℕ) (x : Text) → Trail limit m 2 d q (known portion portion none none) p part → (position q ≡ some 16 → ⊥) → due q a ≡ some g → Right limit 2 a g p part n x → OrigAt v g x → OrigOn v
-  orig-on v d q a g p part n x way free is u (h, e) =
-      let w : Trail limit m 2 d (behind q a (x .1)) (told g x (known portion portion none none)) (p + n) (drop n part) = past way (omega arith) free is u in
-      (x, e, (d, behind q a (x .1), p + n, drop n part, rw (← h) at w))
+  orig-on : (v : Originating Text) (a : ℕ) (g : Holds) (p : ℕ) (part : List ℕ) (n : ℕ) (x : Text) → find (tag 0x48 origId) a ≡ some g → Right limit 2 a g p part n x → OrigAt v g x → OrigOn v (p, part)
+  orig-on v a g p part n x f u (h, e) = let k = tag-held a 0x48 origId g f in (x, e, (n, rw (k .0, ← (k .1)) at u))
 
   with-orig-id : {M : Type 0} (y : Body M) (r : Parts) (room : ℕ) → ((s : Text) → BodyFinds limit m y 2 room r portion portion none (some s) (withOrigId s))
       → BodyTells limit m (bindBody (levelAt limit 2) carried origItem (λ o. y)) 2 room (must (tag 0x48 origId) r) portion portion none none (λ f. f) (λ v. OrigOn (v .0))
   with-orig-id y r room b =
       bind-tells limit m (omega arith) (levelAt limit 2) carried (tag 0x48 origId) (must (tag 0x48 origId) r) room refl refl (another refl refl) (λ a. refl) (at2 none (λ f. f) bare) origs (λ a g v x f e. orig-rest b v g x e)
-      (λ v b d q a g p part n x way free is f u k. orig-on v d q a g p part n x way free is u k)
+      (λ v b d q a g p part n x way free is f u k. orig-on v a g p part n x f u k)
 
-  on-tells : (g : Holds) {r : Parts} → contentsOf g ≡ some r → (v : Message Text) (o : Originating Text) → learnt v ≡ carried o → OrigOn o → Tells g v
+  on-tells : (g : Holds) {r : Parts} → contentsOf g ≡ some r → due r 0x48 ≡ some origId → (v : Message Text) (o : Originating Text) (x : Text) → learnt v ≡ carried o → OrigOn o x → Tells g v x
   unfolding withOrigId
-  on-tells g z v o e (s, is, (d, q, p, part, way)) = tells z way (λ k p. rw (e, is) refl)
+  on-tells g z f v o x e (s, is, (n, u)) = told-by z (with f u) (λ k p. rw (e, is) refl)
 
   -- Messages
 
-  abbrev Of : Parts → Message Text → Type 0
-  Of r v = Tells (parts r) v
+  abbrev Of : Parts → Message Text → Text → Type 0
+  Of r v x = Tells (parts r) v x
 
   uni-finds : (room : ℕ) → BodyTells limit m (uniBody limit) 2 room Uni portion portion none none (λ f. f) (Of Uni)
   uni-finds room =
-      map-body-tells limit m (omega arith) (λ v. unidirectional (v .0) (v .1)) (λ v _. lacks refl refl (λ k p. refl))
+      map-body-tells limit m (omega arith) (λ v. unidirectional (v .0) (v .1)) (λ v x _. told-by refl (without refl) (λ k p. refl))
       (opt-finds limit m (omega arith) room refl refl refl (dialogue-finds limit m none (λ f. f) bare) (only-finds limit m (omega arith) (levelAt limit 2) room refl (at2 none (λ f. f) bare) (components-find limit m none (λ f. f) bare)))
 
   begin-finds : (room : ℕ) → BodyTells limit m (beginBody limit) 2 room Begin portion portion none none (λ f. f) (Of Begin)
   begin-finds room =
-      map-body-tells limit m (omega arith) (λ v. begin (v .0) (v .1 .0) (v .1 .1)) (λ v w. on-tells (parts _) refl (begin (v .0) (v .1 .0) (v .1 .1)) (v .0) refl w) (with-orig-id (tailBody limit) portions room (λ s. tail-finds (some s) (withOrigId s) (with-orig s) room))
+      map-body-tells limit m (omega arith) (λ v. begin (v .0) (v .1 .0) (v .1 .1)) (λ v x w. on-tells (parts Begin) refl refl (begin (v .0) (v .1 .0) (v .1 .1)) (v .0) x refl w) (with-orig-id (tailBody limit) portions room (λ s. tail-finds (some s) (withOrigId s) (with-orig s) room))
 
   end-finds : (room : ℕ) → BodyTells limit m (endBody limit) 2 room Finish portion portion none none (λ f. f) (Of Finish)
-  end-finds room = map-body-tells limit m (omega arith) (λ v. finish (v .0) (v .1 .0) (v .1 .1)) (λ v _. lacks refl refl (λ k p. refl)) (dest-tail none (λ f. f) bare room)
+  end-finds room = map-body-tells limit m (omega arith) (λ v. finish (v .0) (v .1 .0) (v .1 .1)) (λ v x _. told-by refl (without refl) (λ k p. refl)) (dest-tail none (λ f. f) bare room)
 
   continue-finds : (room : ℕ) → BodyTells limit m (continueBody limit) 2 room Continue portion portion none none (λ f. f) (Of Continue)
   continue-finds room =
-      map-body-tells limit m (omega arith) (λ v. continue (v .0) (v .1 .0) (v .1 .1 .0) (v .1 .1 .1)) (λ v w. on-tells (parts _) refl (continue (v .0) (v .1 .0) (v .1 .1 .0) (v .1 .1 .1)) (v .0) refl w)
+      map-body-tells limit m (omega arith) (λ v. continue (v .0) (v .1 .0) (v .1 .1 .0) (v .1 .1 .1)) (λ v x w. on-tells (parts Continue) refl refl (continue (v .0) (v .1 .0) (v .1 .1 .0) (v .1 .1 .1)) (v .0) x refl w)
       (with-orig-id (thenBody (levelAt limit 2) destItem (tailBody limit)) (must destination portions) room (λ s. dest-tail (some s) (withOrigId s) (with-orig s) room))
 
   abort-finds : (room : ℕ) → BodyTells limit m (abortBody limit) 2 room Abort portion portion none none (λ f. f) (Of Abort)
   unfolding constructorOf
   abort-finds room =
-      map-body-tells limit m (omega arith) (λ v. abort (v .0) (Option·getD (v .1) silent)) (λ v _. lacks refl refl (λ k p. refl))
+      map-body-tells limit m (omega arith) (λ v. abort (v .0) (Option·getD (v .1) silent)) (λ v x _. told-by refl (without refl) (λ k p. refl))
       (then-finds limit m (omega arith) (levelAt limit 2) room refl (at2 none (λ f. f) bare) (dests none (λ f. f) bare)
       (last-finds limit m (omega arith) (levelAt limit 2) room refl (at2 none (λ f. f) bare)
       (or-finds limit m (quietly limit m cause (octet-z limit m (record { said = λ k p. refl }) 0x4A 4 refl)) (quietly limit m says (dialogue-finds limit m none (λ f. f) bare)))))
 
-  message-at : {b : Body (Message Text)} (a : ℕ) (r : Parts) → ((n : ℕ) → BodyTells limit m b 2 n r portion portion none none (λ f. f) (Of r)) → ItemFinds limit m (aroundItem a b) 1 (tag a (parts r)) portion none none (λ f. f) (λ v g x. Tells g v)
+  message-at : {b : Body (Message Text)} (a : ℕ) (r : Parts) → ((n : ℕ) → BodyTells limit m b 2 n r portion portion none none (λ f. f) (Of r)) → ItemFinds limit m (aroundItem a b) 1 (tag a (parts r)) portion none none (λ f. f) (λ v g x. Tells g v x)
   message-at a r s =
       let u = around-tells limit m a (parts r) refl s in
       record { mine = u .mine; reads = λ d p part h g x e i. ends-weaken (u .reads d p part h g x e i) (λ v n w. (w .0, w .1, rw (w .2 .0) at (w .2 .1))) (λ f w. w) }
 
-  message-finds : ItemFinds limit m (messageItem limit) 1 message portion none none (λ f. f) (λ v g x. Tells g v)
+  message-finds : ItemFinds limit m (messageItem limit) 1 message portion none none (λ f. f) (λ v g x. Tells g v x)
   message-finds =
       or-finds limit m (message-at 0x61 Uni uni-finds)
       (or-finds limit m (message-at 0x62 Begin begin-finds) (or-finds limit m (message-at 0x64 Finish end-finds) (or-finds limit m (message-at 0x65 Continue continue-finds) (message-at 0x67 Abort abort-finds))))
@@ -147,9 +144,8 @@ module _ (limit : ℕ) (m : List ℕ) where
   trail-top (intoEndless w j f is z y) e = absurd (omega (arith, trail-low w))
   trail-top (past w j f is u) e = absurd (omega arith)
 
-  after-learnt : (v : Message Text) (n a : ℕ) (g : Holds) (x : Text) → find message a ≡ some g → Tells g v → Right limit 1 a g 0 m n x → (n ≡ length m → ⊥) → Found limit m (learnt v (at FaultKind.OctetsAfter n))
-  after-learnt v n a g x is (lacks z e f) w k = rw (f FaultKind.OctetsAfter n) (after is z w k (without e))
-  after-learnt v n a g x is (tells z way f) w k = rw (f FaultKind.OctetsAfter n) (after is z w k (with way))
+  after-learnt : (v : Message Text) (n a : ℕ) (g : Holds) (x : Text) → find message a ≡ some g → Tells g v x → Right limit 1 a g 0 m n x → (n ≡ length m → ⊥) → Found limit m (learnt v (at FaultKind.OctetsAfter n))
+  after-learnt v n a g x is (told-by z e f) w k = rw (f FaultKind.OctetsAfter n) (after is z w k e)
 
   all-ended : (part : List ℕ) (n : ℕ) → n ≡ length part → endOf true (drop n part) ≡ ended
   unfolding endOf
@@ -162,7 +158,7 @@ module _ (limit : ℕ) (m : List ℕ) where
         let z : a ≡ b = cc in
         absurd (false≢true (sym e ∙ (rw z at mine)))
 
-    alone-goes : (v : Message Text) (n p : ℕ) (d : Bool) (part : List ℕ) (q : Parts) (b : ℕ) (g : Holds) (x : Text) → (p ≡ 0) × (part ≡ m) × (d ≡ true) → Like limit m q (must message end) b → find message b ≡ some g → Right limit 1 b g p part n x → Tells g v
+    alone-goes : (v : Message Text) (n p : ℕ) (d : Bool) (part : List ℕ) (q : Parts) (b : ℕ) (g : Holds) (x : Text) → (p ≡ 0) × (part ≡ m) × (d ≡ true) → Like limit m q (must message end) b → find message b ≡ some g → Right limit 1 b g p part n x → Tells g v x
         → Ends (λ v n. Fits limit 1 q d p part n × Unit {0}) (λ f. Found limit m f) (blamed (learnt v) (check (eqb n (length part)) (at FaultKind.OctetsAfter (p + n)) (got v n)))
     alone-goes v n p d part q b g x (y, e, z) like it w k =
         let same : p + n ≡ n = omega arith in

@@ -61,12 +61,12 @@ module _ (limit : ℕ) (m : List ℕ) where
   quiet-rest {i = i} {t = t} ch a g x q e s = record { invokeId = i; origId = t; knows = quiet-told ch a g x _ q e; body = s }
 
   module _ {l : ℕ} {c o : Owner} {i : Option ℤ} {t : Option Text} {W : Fault → Fault} (low : 2 ≤ l) where
-    onward-finds : {L M C : Type 0} (G : C → Type 0) (owner : Fault → Fault) {x : Got L} (note : L → Fault → Fault) (y : L → Body M) (f : L → M → C) (S : L → Text → Type 0) (d : Bool) (q r : Parts) (a : ℕ) (g : Holds) (p : ℕ) (part : List ℕ) (room room′ : ℕ)
+    onward-finds : {L M C : Type 0} (G : C → Text → Type 0) (owner : Fault → Fault) {x : Got L} (note : L → Fault → Fault) (y : L → Body M) (f : L → M → C) (S : L → Text → Type 0) (d : Bool) (q r : Parts) (a : ℕ) (g : Holds) (p : ℕ) (part : List ℕ) (room room′ : ℕ)
         → room ≤ suc room′ → length part ≤ room → Trail limit m l d q (known c o i t) p part → Like limit m q r a → (position q ≡ some 16 → ⊥) → due q a ≡ some g
         → Ends (λ v n. (z : Text) × Right limit l a g p part n z × S v z) (λ h. Found limit m (W (owner h))) x
         → ((v : L) (z : Text) → S v z → Rest (y v) l room′ (behind r a (z .1)) c o (told g z (known c o i t)) (λ h. W (note v h)))
-        → ((v : L) (b : M) (n : ℕ) (z : Text) → Right limit l a g p part n z → S v z → G (f v b))
-        → Ends (λ v n. Fits limit l q d p part n × G v) (λ h. Found limit m (W h)) (onward owner x note y f d p part)
+        → ((v : L) (b : M) (n : ℕ) (z : Text) → Right limit l a g p part n z → S v z → G (f v b) (p, part))
+        → Ends (λ v n. Fits limit l q d p part n × G v (p, part)) (λ h. Found limit m (W h)) (onward owner x note y f d p part)
     unfolding onward
     onward-finds G owner note y f S d q r a g p part room room′ j big way like free is s k give =
         ends-next (ends-blame owner s) λ v n u.
@@ -76,11 +76,11 @@ module _ (limit : ℕ) (m : List ℕ) where
         (ends-next (ask-finds limit m (w .body) d (p + n) (drop n part) (omega (arith, j, big, right-some (u .1) .1)) (rw (e, w .knows) at (past way low free is (u .1)))) λ b k h.
         held {a = f v b} {n = n + k} (also free is (u .1) (rw e (h .0)), give v b n (u .0) (u .1) (u .2)))
 
-    pub place-tells : {L M C : Type 0} {G : C → Type 0} (w : Where) (e : Option C) (other : FaultKind) {x : Item L} (ch : Choice) (r : Parts) (note : L → Fault → Fault) (y : L → Body M) (f : L → M → C) {S : L → Holds → Text → Type 0} (room room′ : ℕ) → room ≤ suc room′
-        → At l c (whose (position r) o) i t W w → ((a : ℕ) → due r a ≡ find ch a) → (position r ≡ some 16 → ⊥) → Unfit r other → (e ≡ none → mayEnd r ≡ false) → ((v : C) → e ≡ some v → (mayEnd r ≡ true) × G v)
+    pub place-tells : {L M C : Type 0} {G : C → Text → Type 0} (w : Where) (e : Option C) (other : FaultKind) {x : Item L} (ch : Choice) (r : Parts) (note : L → Fault → Fault) (y : L → Body M) (f : L → M → C) {S : L → Holds → Text → Type 0} (room room′ : ℕ) → room ≤ suc room′
+        → At l c (whose (position r) o) i t W w → ((a : ℕ) → due r a ≡ find ch a) → (position r ≡ some 16 → ⊥) → Unfit r other → (e ≡ none → mayEnd r ≡ false) → ((v : C) → e ≡ some v → (mayEnd r ≡ true) × ((x : Text) → G v x))
         → ItemFinds limit m x l ch (whose (position r) o) i t (λ h. W (w .owner h)) S
         → ((a : ℕ) (g : Holds) (v : L) (z : Text) → find ch a ≡ some g → S v g z → Rest (y v) l room′ (behind r a (z .1)) c o (told g z (known c o i t)) (λ h. W (note v h)))
-        → ((v : L) (b : M) (d : Bool) (q : Parts) (a : ℕ) (g : Holds) (p : ℕ) (part : List ℕ) (n : ℕ) (z : Text) → Trail limit m l d q (known c o i t) p part → (position q ≡ some 16 → ⊥) → due q a ≡ some g → find ch a ≡ some g → Right limit l a g p part n z → S v g z → G (f v b))
+        → ((v : L) (b : M) (d : Bool) (q : Parts) (a : ℕ) (g : Holds) (p : ℕ) (part : List ℕ) (n : ℕ) (z : Text) → Trail limit m l d q (known c o i t) p part → (position q ≡ some 16 → ⊥) → due q a ≡ some g → find ch a ≡ some g → Right limit l a g p part n z → S v g z → G (f v b) (p, part))
         → BodyTells limit m (place w e (x .mine) other (λ d h p part. onward (w .owner) (x .contents h p part) note y f d p part)) l room r c o i t W G
     place-tells {G = G} w e other {x = x} ch r note y f {S = S} room room′ j z is free others lacks void s k give =
         record {
@@ -97,7 +97,7 @@ module _ (limit : ℕ) (m : List ℕ) where
         }
       where
         go : (d : Bool) (q : Parts) (p : ℕ) (part : List ℕ) (h : Head) → length part ≤ room → Trail limit m l d q (known c o i t) p part → Like limit m q r (firstOf h) → l ≤ limit → HeadOf part h → (g : Holds) × (find ch (firstOf h) ≡ some g)
-            → Ends (λ v n. Fits limit l q d p part n × G v) (λ h. Found limit m (W h)) (onward (w .owner) (x .contents h p part) note y f d p part)
+            → Ends (λ v n. Fits limit l q d p part n × G v (p, part)) (λ h. Found limit m (W h)) (onward (w .owner) (x .contents h p part) note y f d p part)
         go d q p part h big way like deep i (g, found) =
             let here : due q (firstOf h) ≡ some g = like .may ∙ is (firstOf h) ∙ found in
             let room-here : position q ≡ some 16 → ⊥ = λ u. free (sym (like .count) ∙ u) in
@@ -108,7 +108,7 @@ module _ (limit : ℕ) (m : List ℕ) where
     pub done-finds : {L : Type 0} (w : Where) (v : L) (room : ℕ) → At l c o i t W w → BodyFinds limit m (done w v) l room end c o i t W
     done-finds w v room z =
         record {
-          void = λ v q. (refl, tt);
+          void = λ v q. (refl, λ x. tt);
           lacks = λ q. let z : _≡_ {A = ℕ} 0 1 = cc in absurd (omega arith);
           ends = z .ends;
           full = λ a. absurd (false≢true a);
@@ -121,10 +121,10 @@ module _ (limit : ℕ) (m : List ℕ) where
         }
 
     -- an element that must stand, and then the rest, which may depend on it
-    pub bind-tells : {L M : Type 0} {G : L × M → Type 0} (w : Where) (note : L → Fault → Fault) {x : Item L} (ch : Choice) {y : L → Body M} {S : L → Holds → Text → Type 0} (r : Parts) (room : ℕ) → position r ≡ none → mayEnd r ≡ false → Unfit r FaultKind.Another → ((a : ℕ) → due r a ≡ find ch a)
+    pub bind-tells : {L M : Type 0} {G : L × M → Text → Type 0} (w : Where) (note : L → Fault → Fault) {x : Item L} (ch : Choice) {y : L → Body M} {S : L → Holds → Text → Type 0} (r : Parts) (room : ℕ) → position r ≡ none → mayEnd r ≡ false → Unfit r FaultKind.Another → ((a : ℕ) → due r a ≡ find ch a)
         → At l c o i t W w → ItemFinds limit m x l ch o i t (λ h. W (w .owner h)) S
         → ((a : ℕ) (g : Holds) (v : L) (z : Text) → find ch a ≡ some g → S v g z → Rest (y v) l room (behind r a (z .1)) c o (told g z (known c o i t)) (λ h. W (note v h)))
-        → ((v : L) (b : M) (d : Bool) (q : Parts) (a : ℕ) (g : Holds) (p : ℕ) (part : List ℕ) (n : ℕ) (z : Text) → Trail limit m l d q (known c o i t) p part → (position q ≡ some 16 → ⊥) → due q a ≡ some g → find ch a ≡ some g → Right limit l a g p part n z → S v g z → G (v, b))
+        → ((v : L) (b : M) (d : Bool) (q : Parts) (a : ℕ) (g : Holds) (p : ℕ) (part : List ℕ) (n : ℕ) (z : Text) → Trail limit m l d q (known c o i t) p part → (position q ≡ some 16 → ⊥) → due q a ≡ some g → find ch a ≡ some g → Right limit l a g p part n z → S v g z → G (v, b) (p, part))
         → BodyTells limit m (bindBody w note x y) l room r c o i t W G
     bind-tells w note ch {y = y} r room e last others is z s k give =
         place-tells w none FaultKind.Another ch r note y (λ a b. (a, b)) room room (omega arith) (rw e z) is (λ u. nothing-ends (sym e ∙ u)) others (λ _. last) (λ v q. nothing-ends q) (rw e s) k give
@@ -140,7 +140,7 @@ module _ (limit : ℕ) (m : List ℕ) where
 
     pub last-finds : {L : Type 0} (w : Where) {x : Item L} {ch : Choice} {S : L → Holds → Text → Type 0} (room : ℕ) → quiet ch ≡ true → At l c o i t W w → ItemFinds limit m x l ch o i t (λ h. W (w .owner h)) S → BodyFinds limit m (lastBody w x) l room (may ch end) c o i t W
     last-finds w {ch = ch} room q z s =
-        place-tells w (some none) FaultKind.Another ch (may ch end) silently (λ a. done w a) (λ a b. some a) room room (omega arith) z (λ a. else-none (find ch a)) (λ u. nothing-ends u) (another refl refl) (λ e. let z : _≡_ {A = ℕ} 0 1 = cc in absurd (omega arith)) (λ v e. (refl, tt)) s
+        place-tells w (some none) FaultKind.Another ch (may ch end) silently (λ a. done w a) (λ a b. some a) room room (omega arith) z (λ a. else-none (find ch a)) (λ u. nothing-ends u) (another refl refl) (λ e. let z : _≡_ {A = ℕ} 0 1 = cc in absurd (omega arith)) (λ v e. (refl, λ x. tt)) s
         (λ a g v x f _. rw f (quiet-rest ch a g x q f (done-finds w v room z))) (λ v b d q a g p part n x way free is f u k. tt)
 
     pub opt-finds : {L M : Type 0} {x : Item L} {ch : Choice} {y : Body M} {r : Parts} {S : L → Holds → Text → Type 0} (room : ℕ) → quiet ch ≡ true → position r ≡ none → y .other ≡ FaultKind.Another → ItemFinds limit m x l ch o i t (λ h. W (y .owner h)) S → BodyFinds limit m y l room r c o i t W
@@ -148,7 +148,7 @@ module _ (limit : ℕ) (m : List ℕ) where
     unfolding optPick
     opt-finds {x = x} {ch = ch} {y = y} {r = r} {S = S} room q e others s b =
         record {
-          void = λ v f. let u = map-some _ (y .ends) v f in (b .void (u .0) (u .1) .0, tt);
+          void = λ v f. let u = map-some _ (y .ends) v f in (b .void (u .0) (u .1) .0, λ x. tt);
           lacks = λ f. b .lacks (map-none _ (y .ends) f);
           ends = b .ends;
           full = λ f. full-none (b .full f);
@@ -183,10 +183,10 @@ module _ (limit : ℕ) (m : List ℕ) where
             let same : Like limit m k r (firstOf h) = record { may = like .may ∙ rw found; rest = λ u. like .rest u ∙ rw found; count = like .count ∙ sym e } in
             ends-next (b .goes d k p part h big way same deep g f v) λ b n w. held {a = (none, b)} {n = n} (w .0, tt)
 
-    pub map-body-tells : {L M : Type 0} {b : Body L} {room : ℕ} {r : Parts} {G : L → Type 0} {H : M → Type 0} (f : L → M) → ((v : L) → G v → H (f v)) → BodyTells limit m b l room r c o i t W G → BodyTells limit m (mapBody f b) l room r c o i t W H
+    pub map-body-tells : {L M : Type 0} {b : Body L} {room : ℕ} {r : Parts} {G : L → Text → Type 0} {H : M → Text → Type 0} (f : L → M) → ((v : L) (x : Text) → G v x → H (f v) x) → BodyTells limit m b l room r c o i t W G → BodyTells limit m (mapBody f b) l room r c o i t W H
     map-body-tells {b = b} f give s =
         record {
-          void = λ v e. let u = map-some f (b .ends) v e in (s .void (u .0) (u .1) .0, rw (← (u .2)) (give (u .0) (s .void (u .0) (u .1) .1)));
+          void = λ v e. let u = map-some f (b .ends) v e in (s .void (u .0) (u .1) .0, λ x. rw (← (u .2)) (give (u .0) x (s .void (u .0) (u .1) .1 x)));
           lacks = λ e. s .lacks (map-none f (b .ends) e);
           ends = s .ends;
           full = s .full;
@@ -195,18 +195,18 @@ module _ (limit : ℕ) (m : List ℕ) where
           left = s .left;
           mine = s .mine;
           other = s .other;
-          goes = λ d q p part h big way like deep g z v. ends-next (s .goes d q p part h big way like deep g z v) λ u n w. held {a = f u} {n = n} (w .0, give u (w .1));
+          goes = λ d q p part h big way like deep g z v. ends-next (s .goes d q p part h big way like deep g z v) λ u n w. held {a = f u} {n = n} (w .0, give u (p, part) (w .1));
         }
 
     pub map-body-finds : {L M : Type 0} {b : Body L} {room : ℕ} {r : Parts} (f : L → M) → BodyFinds limit m b l room r c o i t W → BodyFinds limit m (mapBody f b) l room r c o i t W
-    map-body-finds f s = map-body-tells f (λ v u. tt) s
+    map-body-finds f s = map-body-tells f (λ v x u. tt) s
 
     -- a series of elements that tell nothing, with room for as many as there are octets
     pub series-finds : {L : Type 0} (left : ℕ) {x : Item L} (ch : Choice) {S : L → Holds → Text → Type 0} → quiet ch ≡ true → At l c o i t W (level left) → ItemFinds limit m x l ch o i t W S → (room k : ℕ) → BodyFinds limit m (seriesBody (λ k. level left) FaultKind.Another x (some []) room k) l room (many ch) c o i t W
     unfolding seriesBody
     series-finds left ch q z s zero k =
         record {
-          void = λ v e. (refl, tt);
+          void = λ v e. (refl, λ x. tt);
           lacks = λ e. let z : _≡_ {A = ℕ} 0 1 = cc in absurd (omega arith);
           ends = z .ends;
           full = λ _. inr refl;
@@ -219,7 +219,7 @@ module _ (limit : ℕ) (m : List ℕ) where
         }
     series-finds left {x = x} ch q z s (suc room) k =
         place-tells (level left) (some []) FaultKind.Another ch (many ch) silently (λ a. seriesBody (λ k. level left) FaultKind.Another x (some []) room (suc k)) (λ a ws. a ∷ ws) (suc room) room (omega arith) z (λ a. refl) (λ u. nothing-ends u) (another refl refl)
-        (λ e. let z : _≡_ {A = ℕ} 0 1 = cc in absurd (omega arith)) (λ v e. (refl, tt)) s (λ a g v x f _. quiet-rest ch a g x q f (series-finds left ch q z s room (suc k))) (λ v b d q a g p part n x way free is f u k. tt)
+        (λ e. let z : _≡_ {A = ℕ} 0 1 = cc in absurd (omega arith)) (λ v e. (refl, λ x. tt)) s (λ a g v x f _. quiet-rest ch a g x q f (series-finds left ch q z s room (suc k))) (λ v b d q a g p part n x way free is f u k. tt)
 
   -- any element, and an element of one tag, to the bottom
   module _ {w : Owner} {i : Option ℤ} {t : Option Text} {W : Fault → Fault} (say : Said limit m w i t W) where
@@ -227,7 +227,7 @@ module _ (limit : ℕ) (m : List ℕ) where
       walk-up : (d : Bool) (p : ℕ) (part : List ℕ) (h : Head) (q : Bool) → constructorOf (firstOf h) ≡ q → Spot limit m l w i t d p part (firstOf h) (cond q (parts (many any)) (octets (λ c. true))) → HeadOf part h
           → Ends (λ v n. (y : Text) × Right limit l (firstOf h) (cond q (parts (many any)) (octets (λ c. true))) p part n y × Unit {0}) (λ f. Found limit m (W f)) (walkPick q (λ n. seriesBody (λ k. level left) FaultKind.Another (elementOf anyTag (walkContents left)) (some []) n 0) h p part)
       unfolding walkPick
-      walk-up d p part h true c x g = ends-next (inside-finds limit m (parts (many any)) refl (λ n. series n 0) d p part h x g) λ v n u. held {a = (p, take n part)} {n = n} ((p, []), u .0, tt)
+      walk-up d p part h true c x g = ends-next (inside-finds limit m (parts (many any)) refl (λ n. series n 0) d p part h x g) λ v n u. held {a = (p, take n part)} {n = n} (u .0, u .1, tt)
       walk-up d p part h false c x g = ends-next (leaf-from limit m (λ c. true) (octets (λ c. true)) refl (λ c. refl) say d p part h x g c) λ v n u. held {a = (p, take n part)} {n = n} (u .0, u .1, tt)
 
     pub walk-finds : (left l : ℕ) → left ≡ suc limit - l → 1 ≤ l → ItemFinds limit m (elementOf anyTag (walkContents left)) l any w i t W (Silent limit m)

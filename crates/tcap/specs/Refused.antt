@@ -11,12 +11,12 @@ use Rattle.tcap.specs.{declared.OptionalOrig.OptionalOrig, declared.Refu
 -- Octets that are right
 
 mutual
-  -- n octets at the front of a part, which begins at place p, are an element at level l, with first octet a, that holds h, to its bottom;
-  -- of a primitive: its contents and their place
+  -- n octets at the front of a part, which begins at place p, are an element at level l, with first octet a, that holds h, to its bottom; then the
+  -- place of its contents, and these (of an indefinite one, from there to the end of the part)
   pub data Right (limit : ℕ) : ℕ → ℕ → Holds → ℕ → List ℕ → ℕ → Text → Type 0 where
     primitive : {l a p u n : ℕ} {h : Holds} {part : List ℕ} → l ≤ limit → Definitely part a u n → contentsOf h ≡ none → passes h (take n (drop u part)) ≡ true → Right limit l a h p part (u + n) (p + u, take n (drop u part))
-    definite : {l a p u n k : ℕ} {h : Holds} {r : Parts} {part : List ℕ} → l ≤ limit → Definitely part a u n → contentsOf h ≡ some r → Fits limit (suc l) r true (p + u) (take n (drop u part)) k → Right limit l a h p part (u + n) (p, [])
-    indefinite : {l a p u k : ℕ} {h : Holds} {r : Parts} {part : List ℕ} → l ≤ limit → Endlessly part a u → contentsOf h ≡ some r → Fits limit (suc l) r false (p + u) (drop u part) k → Right limit l a h p part (u + (k + 2)) (p, [])
+    definite : {l a p u n k : ℕ} {h : Holds} {r : Parts} {part : List ℕ} → l ≤ limit → Definitely part a u n → contentsOf h ≡ some r → Fits limit (suc l) r true (p + u) (take n (drop u part)) k → Right limit l a h p part (u + n) (p + u, take n (drop u part))
+    indefinite : {l a p u k : ℕ} {h : Holds} {r : Parts} {part : List ℕ} → l ≤ limit → Endlessly part a u → contentsOf h ≡ some r → Fits limit (suc l) r false (p + u) (drop u part) k → Right limit l a h p part (u + (k + 2)) (p + u, drop u part)
 
   -- k octets at the front of a part are what is due in contents at level l, up to their end; d: the contents are definite
   pub data Fits (limit : ℕ) : ℕ → Parts → Bool → ℕ → List ℕ → ℕ → Type 0 where
@@ -129,15 +129,15 @@ pub data Wrong (limit l : ℕ) (d : Bool) (r : Parts) (part : List ℕ) (c o : O
 
 -- The message
 
--- the originating ID of a message with these parts: none if 48 is not due in it, else what is known at a place behind it
-pub data OrigOf (limit : ℕ) (m : List ℕ) (r : Parts) : Option Text → Type 0 where
-  without : due r 0x48 ≡ none → OrigOf limit m r none
-  with : {p : ℕ} {d : Bool} {q : Parts} {part : List ℕ} {s : Text} → Trail limit m 2 d q (known portion portion none (some s)) p part → OrigOf limit m r (some s)
+-- the originating ID of a message with these parts and contents: none if 48 is not due there, else the contents of the 48 that stands first
+pub data OrigOf (limit : ℕ) (r : Parts) (x : Text) : Option Text → Type 0 where
+  without : due r 0x48 ≡ none → OrigOf limit r x none
+  with : {n : ℕ} {s : Text} → due r 0x48 ≡ some origId → Right limit 2 0x48 origId (x .0) (x .1) n s → OrigOf limit r x (some s)
 
 -- a fault that is there: at a place, with what is known there; or octets stand behind the message (9)
 pub data Found (limit : ℕ) (m : List ℕ) : Fault → Type 0 where
   found : {l p : ℕ} {d : Bool} {r : Parts} {c o w : Owner} {i : Option ℤ} {t : Option Text} {k : FaultKind} {part : List ℕ} → Trail limit m l d r (known c o i t) p part → Wrong limit l d r part c (whose (position r) o) k w → Found limit m (fault k p w i t)
-  after : {n a : ℕ} {h : Holds} {r : Parts} {x : Text} {t : Option Text} → find message a ≡ some h → contentsOf h ≡ some r → Right limit 1 a h 0 m n x → (n ≡ length m → ⊥) → OrigOf limit m r t → Found limit m (fault FaultKind.OctetsAfter n portion none t)
+  after : {n a : ℕ} {h : Holds} {r : Parts} {x : Text} {t : Option Text} → find message a ≡ some h → contentsOf h ≡ some r → Right limit 1 a h 0 m n x → (n ≡ length m → ⊥) → OrigOf limit r x t → Found limit m (fault FaultKind.OctetsAfter n portion none t)
 
 -- the whole table: 7, 1 for no octets and 8 before all
 pub data Refuses (limit : ℕ) (m : List ℕ) : Fault → Type 0 where
