@@ -41,7 +41,7 @@ trail-fails (intoEndless w j free is z y) x = trail-fails w (withinEndless j fre
 trail-fails (past w j free is u) x = trail-fails w (beyond j free is u x)
 
 -- an element that is right is not wrong
-right-wrong : {limit l a p n : ℕ} {d : Bool} {r : Parts} {h : Holds} {c o w : Owner} {k : FaultKind} {part : List ℕ} {x : Text} → Right limit l a h p part n x → (position r ≡ some 16 → ⊥) → due r a ≡ some h → Wrong limit l d r part c o k w → ⊥
+pub right-wrong : {limit l a p n : ℕ} {d : Bool} {r : Parts} {h : Holds} {c o w : Owner} {k : FaultKind} {part : List ℕ} {x : Text} → Right limit l a h p part n x → (position r ≡ some 16 → ⊥) → due r a ≡ some h → Wrong limit l d r part c o k w → ⊥
 right-wrong {limit} {l} {p = p} {d = d} {r = r} {c = c} {o = o} {part = part} (primitive {a = a} {u = u} {n = n} {h = h} j s z f) free is w =
     let (y, (u′, n′, e, g)) = wrong-head limit l d r p part c o (head a u (definite n)) h w (definite-head s) j free is in
     let q = same-head e in
