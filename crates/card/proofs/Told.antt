@@ -5,34 +5,40 @@ use mathlib.Core.Path.{_≡_, refl}
 use mathlib.Core.Logic.{inl, inr}
 use mathlib.Core.Bool.{Bool, true, false, and-eq-true-iff}
 use mathlib.Core.List.{List}
-use mathlib.Core.Option.{some}
+use mathlib.Core.Option.{Option, some}
 use lib.ListN.{length}
 use lib.Dec.{leb}
 use borrow.Author.Tests.{leb-true}
 use Rattle.base.specs.Number.{topOf}
 use Rattle.base.proofs.Numbers.{bits-within, holds-small}
+use lib.IntN.{ℤ}
+use Rattle.element.specs.declared.FaultKind.{FaultKind}
 use Rattle.element.specs.Fault.{Owner}
 use Rattle.element.specs.Ask.{check}
 use Rattle.element.proofs.Laid.{stands-here, here-within}
 use Rattle.tcap.specs.declared.{OptionalOrig.OptionalOrig, InvokeId.InvokeId, Answer.Answer, Refusal.Refusal, Outcome.Outcome}
 use Rattle.tcap.specs.WellFormed.{mostOctets, mostComponents, idOk}
 use Rattle.tcap.specs.Reading.{locatedUpTo, refusalOf, answered, readingUpTo, reading}
-use Rattle.tcap.proofs.Refusals.{Standard, unknownType, tooMany, inside6B, unknownComponent, mistypedComponent, badComponent, mistypedElsewhere, badElsewhere, OrigRead, SendOk, refused-carries}
+use Rattle.tcap.specs.Standard.{Standard, noMessage, seventeenth, inside6B, unknownComponent, mistypedComponent, badComponent, mistypedElsewhere, badElsewhere, overlong, octetsAfter}
+use Rattle.tcap.proofs.Pinned.{refused-checked}
+use Rattle.tcap.proofs.Refusals.{OrigRead, SendOk, refused-carries}
 use Rattle.layout.specs.Layout.{origSpan, idIn, idOctet}
 use Rattle.layout.specs.Fits.{IdFits}
 use Rattle.layout.proofs.RoundTrip.{id-back}
 use Rattle.card.specs.Answer.{refusalBits}
 use Rattle.card.proofs.Fields.{causeOf, componentOf, idOf, place-field, orig-place-field, orig-length-field, cause-field, component-field, id-flag-field, id-field}
 
-standard-small : {n : ℕ} {o : Owner} {a : Answer} → Standard n o a → (causeOf a ≤ 4) × (componentOf a < mostComponents)
-standard-small (unknownType e) = omega arith
-standard-small (tooMany e) = omega arith
-standard-small inside6B = omega arith
-standard-small (unknownComponent e k) = omega arith
-standard-small (mistypedComponent e k) = omega arith
-standard-small (badComponent l h k) = omega arith
-standard-small (mistypedElsewhere e) = omega arith
-standard-small (badElsewhere e f) = omega arith
+standard-small : {k : FaultKind} {o : Owner} {i : Option ℤ} {a : Answer} → Standard k o i a → (causeOf a ≤ 4) × (componentOf a < mostComponents)
+standard-small noMessage = omega arith
+standard-small seventeenth = omega arith
+standard-small (inside6B s) = omega arith
+standard-small (unknownComponent h) = omega arith
+standard-small (mistypedComponent s h) = omega arith
+standard-small (badComponent s h) = omega arith
+standard-small (mistypedElsewhere s) = omega arith
+standard-small (badElsewhere s) = omega arith
+standard-small overlong = omega arith
+standard-small octetsAfter = omega arith
 
 orig-small : (m : List ℕ) (o : OptionalOrig) → OrigRead m o → (origSpan o .place + origSpan o .len ≤ length m) × (origSpan o .len ≤ 4)
 unfolding origSpan idOk
@@ -72,10 +78,10 @@ module _ (m : List ℕ) (f : Refusal) (h : reading m .outcome ≡ Outcome.Refuse
   told-orig-length = omega (arith, orig-length-field f, orig-small m (f .orig) (refused-carries m f h .0 .origId) .1)
 
   pub told-cause : refusalBits f / 2 ^ 45 % 2 ^ 3 ≡ causeOf (f .answer)
-  told-cause = omega (arith, cause-field f, standard-small (refused-carries m f h .0 .answer) .0)
+  told-cause = omega (arith, cause-field f, standard-small (refused-checked m f h .answer) .0)
 
   pub told-component : refusalBits f / 2 ^ 48 % 2 ^ 7 ≡ componentOf (f .answer)
-  told-component = omega (arith, component-field f, standard-small (refused-carries m f h .0 .answer) .1)
+  told-component = omega (arith, component-field f, standard-small (refused-checked m f h .answer) .1)
 
   -- read back from its flag and its octet
   pub told-id : idIn (refusalBits f / 2 ^ 55 % 2) (refusalBits f / 2 ^ 56) ≡ idOf (f .answer)

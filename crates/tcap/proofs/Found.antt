@@ -1,17 +1,16 @@
 -- Each combinator finds its faults where they are, and what it reads is right: laws over `ask`, for all productions at once. Assumes nothing.
-use Prim.Native.Nat.{ℕ, zero, suc, _+_, _-_, _≤_, _<_}
-use mathlib.Core.Path.{_≡_, refl, sym, ap, _∙_}
+use Prim.Native.Nat.{ℕ, suc, _+_, _-_, _≤_}
+use mathlib.Core.Path.{_≡_, refl, sym, _∙_}
 use mathlib.Core.Logic.{_⊎_, inl, inr}
 use mathlib.Core.Bool.{Bool, true, false, cond, not, _||_, _&&_, false≢true}
-use mathlib.Core.List.{List, [], _∷_, _++_}
-use mathlib.Core.Option.{Option·map, Option, none, some}
+use mathlib.Core.List.{List}
+use mathlib.Core.Option.{Option, none, some}
 use native.Mathlib.Omega.{arith}
 use lib.ListN.{length, take, drop}
 use lib.Seq.{length-take-le}
-use lib.Dec.{ltb, leb, eqb}
+use lib.Dec.{ltb, eqb}
 use lib.IntN.{ℤ}
 use borrow.Author.Tests.{ltb-true, ltb-false, eqb-true}
-use Rattle.primitive.specs.Primitive.{signedOf}
 use Rattle.element.specs.Element.{constructorOf, codeZero, Definitely, Endlessly}
 use Rattle.element.specs.Fault.{Text, Owner, Fault, fault, at}
 use Rattle.element.specs.declared.FaultKind.{FaultKind}
@@ -22,13 +21,13 @@ use Rattle.element.specs.declared.LengthRead.the-variants.{Fault as lengthFault
 use Rattle.element.specs.declared.EndRead.{EndRead}
 use Rattle.element.specs.declared.EndRead.the-variants.{Ended as ended, Unfinished as unfinished, More as more}
 use Rattle.element.specs.Head.{tagOf, lengthOf, endOf}
-use Rattle.element.specs.Ask.{Got, got, definite, indefinite, Head, head, Body, askLength, askTag, atEnd, askEnd, ask}
+use Rattle.element.specs.Ask.{definite, indefinite, Head, head, Body, askLength, askTag, atEnd, askEnd, ask}
 use Rattle.element.specs.Parts.{Item, firstOf, leafContents, leafItem, inside as within, aroundItem, keptItem, mapItem, orItem}
 use Rattle.element.proofs.Heads.{TagIs, tag-sound}
 use Rattle.element.proofs.Asking.{HeadOf, finite, unended, Says, head-says, not-true}
 use Rattle.element.proofs.Ends.{Ends, held, failed, ends-next, ends-weaken, ends-check, ends-cond}
 use Rattle.tcap.specs.Due.{Parts, Choice, tag as tagged-as, either, any, Holds, octets, origId, invokeId, parts, dialogue, find, due, behind, mayEnd, position, passes, contentsOf, there, orElse}
-use Rattle.tcap.specs.Refused.{Right, primitive, definite as filled, indefinite as endlessly, Fits, nothing, also, Known, known, whose, inside, told, Trail, into, intoEndless, Tagged, Unfit, Faulty, tagCut, tagBad, zeroCode, tooDeep, unfit, lengthWrong, badContents, Wrong, noPair, missing, seventeenth, element, Found, found}
+use Rattle.tcap.specs.Refused.{Right, primitive, definite as filled, indefinite as endlessly, Fits, nothing, Known, known, whose, inside, told, Trail, into, intoEndless, Tagged, Unfit, Faulty, tagCut, tagBad, zeroCode, tooDeep, unfit, lengthWrong, badContents, Wrong, noPair, missing, seventeenth, element, Found, found}
 use Rattle.tcap.proofs.Fronts.{TagSays, cutOff, badly, tag-says, LengthSays, wrong, length-says, tagged, head-more, none-more, is-true}
 
 -- What may stand or not

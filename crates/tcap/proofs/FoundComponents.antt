@@ -1,28 +1,28 @@
 -- Components and the dialogue portion find their faults where they are, with index, invoke ID and owner. Assumes nothing.
-use Prim.Native.Nat.{ℕ, zero, suc, _+_, _-_, _≤_, _<_}
-use mathlib.Core.Path.{_≡_, refl, sym, ap, _∙_}
+use Prim.Native.Nat.{ℕ, zero, suc, _+_, _<_}
+use mathlib.Core.Path.{_≡_, refl, sym, ap}
 use mathlib.Core.Logic.{_⊎_, inl, inr}
-use mathlib.Core.Bool.{Bool, true, false, false≢true}
+use mathlib.Core.Bool.{true, false, false≢true}
 use mathlib.Core.List.{List, [], _∷_}
 use mathlib.Core.Option.{Option, none, some}
 use native.Mathlib.Omega.{arith}
-use lib.Dec.{eqb, ltb}
+use lib.Dec.{ltb}
 use lib.IntN.{ℤ}
 use borrow.Author.Tests.{lt-ltb}
 use Rattle.base.specs.Value.{same}
 use Rattle.primitive.specs.Primitive.{signedOf, integerOk}
 use Rattle.element.specs.Element.{constructorOf}
-use Rattle.element.specs.Fault.{Text, Owner, portion, dialogue, component, Fault, fault, at, inDialogue, inComponent, withInvokeId}
+use Rattle.element.specs.Fault.{Text, Owner, portion, dialogue, component, Fault, fault, inDialogue, inComponent, withInvokeId}
 use Rattle.element.specs.declared.FaultKind.{FaultKind}
 use Rattle.element.specs.Ask.{Body}
-use Rattle.element.specs.Parts.{Item, leafItem, integerItem, aroundItem, silently, bindBody, onlyBody, lastBody, optBody, seriesBody}
+use Rattle.element.specs.Parts.{integerItem, silently, bindBody, onlyBody, lastBody, optBody, seriesBody}
 use Rattle.element.proofs.Laid.{nothing-ends}
 use Rattle.tcap.specs.Meaning.{Code, Component, invoke, last, notLast, error, reject}
-use Rattle.tcap.specs.Productions.{idItem, problemItem, idOrNullItem, noted, levelAt, codeBody, invokeBody, bothItem, resultBody, errorBody, rejectBody, componentItem, componentAt, componentsItem, externalBody, inside6B, dialogueItem}
-use Rattle.tcap.specs.Due.{Parts, end, must, may, components, Choice, tag, either, any, Holds, octets, invokeId, parts, dialogue as dialogues, invoke as invokes, result as results, error as errors, reject as rejects, component as aComponent, code, problem, componentPortion, external, dialoguePortion, find, behind, position}
-use Rattle.tcap.specs.Refused.{Known, known, told, another, unknown}
-use Rattle.tcap.proofs.Found.{tag-held, else-first, else-second, there-some, quiet, BodyTells, Untold, BodyFinds, ItemFinds, Said, Silent, leaf-finds, around-tells, map-finds, quietly, silence, or-finds}
-use Rattle.tcap.proofs.Onward.{At, Rest, quiet-rest, bind-tells, place-tells, only-finds, last-finds, opt-finds, map-body-finds}
+use Rattle.tcap.specs.Productions.{idItem, problemItem, idOrNullItem, noted, levelAt, codeBody, invokeBody, bothItem, resultBody, errorBody, rejectBody, componentItem, componentAt, componentsItem, inside6B, dialogueItem}
+use Rattle.tcap.specs.Due.{Parts, end, must, may, components, tag, either, any, Holds, octets, invokeId, parts, dialogue as dialogues, invoke as invokes, result as results, error as errors, reject as rejects, component as aComponent, code, problem, componentPortion, external, dialoguePortion}
+use Rattle.tcap.specs.Refused.{known, told, another, unknown}
+use Rattle.tcap.proofs.Found.{BodyFinds, ItemFinds, Said, Silent, leaf-finds, around-tells, map-finds, quietly, silence, or-finds}
+use Rattle.tcap.proofs.Onward.{At, Rest, quiet-rest, bind-tells, place-tells, only-finds, opt-finds, map-body-finds}
 use Rattle.tcap.proofs.FoundDialogue.{Zone, linked-z, problem-z, code-body-z, both-z, last-z, external-z}
 
 -- W tells the originating ID t, if one was read

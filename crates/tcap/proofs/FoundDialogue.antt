@@ -1,8 +1,8 @@
 -- Where all belongs to one owner: fields, parameters, and the dialogue portion inside 28 find their faults where they are. Assumes nothing.
-use Prim.Native.Nat.{ℕ, suc, _-_, _≤_}
-use mathlib.Core.Path.{_≡_, refl, sym, ap, _∙_}
+use Prim.Native.Nat.{ℕ, suc, _≤_}
+use mathlib.Core.Path.{_≡_, refl}
 use mathlib.Core.Bool.{Bool, true, false}
-use mathlib.Core.List.{List, []}
+use mathlib.Core.List.{List}
 use mathlib.Core.Option.{Option, none, some}
 use native.Mathlib.Omega.{arith}
 use lib.ListN.{getD}
@@ -20,10 +20,10 @@ use Rattle.tcap.specs.declared.{Problem.Problem, Diagnostic.Diagnostic}
 use Rattle.tcap.specs.Meaning.{local, global, Dialogue, request, unidialogue, response, aborted, single, octets as kept, structured, unstructured, version}
 use Rattle.tcap.specs.WellFormed.{leftAt}
 use Rattle.tcap.specs.Productions.{single?, octetItem, nameItem, codeItem, problemItem, versionBody, levelAt, parameterItem, infoBody, contextItem, askedItem, numberItem, sourceItem, answeredItem, abortedItem, heldItem, externalBody}
-use Rattle.tcap.specs.Due.{Parts, end, must, may, name, many, Choice, tag, either, any, Holds, octets, parts, code, problem, information, version as versionOne, context, number, asked, answered, aborted as stopped, named, external, find, due, behind, position}
+use Rattle.tcap.specs.Due.{Parts, end, must, may, many, Choice, tag, either, any, Holds, octets, parts, code, problem, information, version as versionOne, context, number, asked, answered, aborted as stopped, named, external, find, position}
 use Rattle.tcap.specs.Refused.{another}
 use Rattle.tcap.proofs.Found.{tag-mine, tag-held, quiet, BodyFinds, ItemFinds, Said, Silent, leaf-finds, around-tells, kept-finds, quietly, silence, or-finds}
-use Rattle.tcap.proofs.Onward.{At, Rest, quiet-rest, bind-tells, then-finds, only-finds, last-finds, opt-finds, map-body-finds, series-finds, walk-finds}
+use Rattle.tcap.proofs.Onward.{At, quiet-rest, bind-tells, then-finds, only-finds, last-finds, opt-finds, map-body-finds, series-finds, walk-finds}
 
 -- all faults belong to w, and carry these IDs
 pub record Zone (limit : ℕ) (m : List ℕ) (w : Owner) (i : Option ℤ) (t : Option Text) (W : Fault → Fault) : Type 0 where

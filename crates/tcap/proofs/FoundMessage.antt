@@ -1,5 +1,5 @@
 -- Messages find their faults where they are, 7, 8 and 9 too; and what is read is allowed. Assumes nothing.
-use Prim.Native.Nat.{ℕ, zero, suc, _+_, _-_, _≤_, _<_}
+use Prim.Native.Nat.{ℕ, _+_, _≤_}
 use mathlib.Core.Path.{_≡_, refl, sym, ap, _∙_}
 use mathlib.Core.Bool.{Bool, true, false, false≢true}
 use mathlib.Core.List.{List, [], _∷_, _++_}
@@ -16,20 +16,20 @@ use Rattle.element.specs.declared.FaultKind.{FaultKind}
 use Rattle.element.specs.declared.EndRead.the-variants.{Ended as ended}
 use Rattle.element.specs.Head.{endOf}
 use Rattle.element.specs.Ask.{got, blamed, check, Head, Body}
-use Rattle.element.specs.Parts.{Item, aroundItem, firstOf, bindBody, thenBody, lastBody}
+use Rattle.element.specs.Parts.{aroundItem, firstOf, bindBody, thenBody}
 use Rattle.element.proofs.Asking.{HeadOf}
 use Rattle.element.proofs.Laid.{nothing-ends}
 use Rattle.element.proofs.Ends.{Ends, held, failed, ends-next, ends-weaken, ends-check}
 use Rattle.tcap.specs.Meaning.{silent, Originating, orig, dest, cause, says, Message, unidirectional, begin, finish, continue, abort}
 use Rattle.tcap.specs.WellFormed.{mostOctets, idOk}
-use Rattle.tcap.specs.Productions.{origItem, destItem, carried, levelAt, componentsItem, tailBody, uniBody, beginBody, endBody, continueBody, abortBody, messageItem}
+use Rattle.tcap.specs.Productions.{origItem, destItem, carried, levelAt, tailBody, uniBody, beginBody, endBody, continueBody, abortBody, messageItem}
 use Rattle.tcap.specs.Reading.{learnt, aloneBody, readFirst, locatedUpTo}
-use Rattle.tcap.specs.Due.{Parts, end, must, may, Choice, tag, either, Holds, octets, origId, parts, componentPortion, dialoguePortion, destination, portions, unidirectional as Uni, begin as Begin, finish as Finish, continue as Continue, abort as Abort, message, find, due, behind, contentsOf, position, there}
+use Rattle.tcap.specs.Due.{Parts, end, must, may, tag, Holds, octets, origId, parts, destination, portions, unidirectional as Uni, begin as Begin, finish as Finish, continue as Continue, abort as Abort, message, find, due, behind, contentsOf, there}
 use Rattle.tcap.specs.Refused.{Right, Fits, nothing, also, Known, known, told, Trail, top, into, intoEndless, past, Tagged, Unfit, another, Found, OrigOf, without, with, after, Refuses, overlong, noOctets, noMessage, within, Allowed}
 use Rattle.tcap.proofs.Fronts.{ends-blame}
-use Rattle.tcap.proofs.Found.{tag-held, there-some, there-none, Like, BodyTells, Untold, BodyFinds, ItemFinds, Said, Silent, ask-finds, leaf-finds, around-tells, map-finds, quietly, silence, or-finds}
+use Rattle.tcap.proofs.Found.{tag-held, there-some, there-none, Like, BodyTells, Untold, BodyFinds, ItemFinds, Silent, ask-finds, leaf-finds, around-tells, map-finds, quietly, or-finds}
 use Rattle.tcap.proofs.Onward.{At, Rest, bind-tells, then-finds, only-finds, last-finds, opt-finds, map-body-tells, map-body-finds}
-use Rattle.tcap.proofs.FoundDialogue.{Zone, octet-z}
+use Rattle.tcap.proofs.FoundDialogue.{octet-z}
 use Rattle.tcap.proofs.FoundComponents.{components-find, dialogue-finds}
 
 module _ (limit : ℕ) (m : List ℕ) where

@@ -1,10 +1,9 @@
 -- What the readers of a tag and of a length call a fault is one, by the octets; what a head says of the part it begins. Assumes nothing.
-use Prim.Native.Nat.{ℕ, zero, suc, _+_, _-_, _≤_, _<_}
+use Prim.Native.Nat.{ℕ, suc, _+_, _-_, _≤_, _<_}
 use mathlib.Core.Path.{_≡_, refl, sym, ap, _∙_}
-use mathlib.Core.Logic.{_⊎_, inl, inr}
-use mathlib.Core.Bool.{Bool, true, false, cond, not, _||_, false≢true}
+use mathlib.Core.Logic.{inl, inr}
+use mathlib.Core.Bool.{Bool, true, false, not, _||_, false≢true}
 use mathlib.Core.List.{List, [], _∷_, _++_}
-use mathlib.Core.Option.{Option, none, some}
 use native.Mathlib.Omega.{arith}
 use lib.ListN.{length, take, drop, getD, length-drop, length-append}
 use lib.Seq.{drop-append-seam}
@@ -13,7 +12,7 @@ use borrow.Author.Tests.{ltb-true, ltb-false, leb-true, leb-false, eqb-true, eqb
 use Rattle.base.specs.Number.{numberFrom}
 use Rattle.base.proofs.Tests.{cond-all}
 use Rattle.element.specs.Form.{fewestOf}
-use Rattle.element.specs.Element.{constructorOf, codeZero, extendedOf, Definitely, Endlessly}
+use Rattle.element.specs.Element.{codeZero, extendedOf, Definitely, Endlessly}
 use Rattle.element.specs.Fault.{Text, Fault}
 use Rattle.element.specs.declared.FaultKind.{FaultKind}
 use Rattle.element.specs.declared.TagRead.{TagRead}

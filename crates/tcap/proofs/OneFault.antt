@@ -1,27 +1,24 @@
 -- A message has one fault at most: where a trail ends in something wrong, no other does; and none in a message that is allowed. Assumes nothing.
-use Prim.Native.Nat.{ℕ, zero, suc, _+_, _-_, _*_, _≤_, _<_}
+use Prim.Native.Nat.{ℕ, zero, suc, _+_, _-_, _*_, _≤_}
 use mathlib.Core.Path.{_≡_, refl, sym, ap, _∙_}
 use mathlib.Core.Bool.{Bool, true, false, cond, false≢true}
-use mathlib.Core.List.{List, [], _∷_}
+use mathlib.Core.List.{List}
 use mathlib.Core.Option.{Option, none, some}
 use native.Mathlib.Omega.{arith}
 use lib.ListN.{length, take, drop, length-drop}
-use lib.Dec.{ltb, eqb}
-use lib.IntN.{ℤ}
+use lib.Dec.{eqb}
 use borrow.Author.Tests.{lt-ltb, le-ltb, eqb-true}
-use Rattle.element.specs.Element.{constructorOf, codeZero, Definitely, Endlessly}
-use Rattle.element.specs.Fault.{Text, Owner, portion, component, Fault, fault, at, inComponent}
+use Rattle.element.specs.Fault.{Text, Owner, portion, component, fault, at, inComponent}
 use Rattle.element.specs.declared.FaultKind.{FaultKind}
-use Rattle.element.specs.declared.EndRead.{EndRead}
-use Rattle.element.specs.declared.EndRead.the-variants.{Ended as ended, Unfinished as unfinished, More as more}
-use Rattle.element.specs.Head.{tagOf, lengthOf, endOf}
+use Rattle.element.specs.declared.EndRead.the-variants.{Ended as ended, More as more}
+use Rattle.element.specs.Head.{endOf}
 use Rattle.element.specs.Ask.{Got, got, bad, definite, indefinite, Head, head, Body, ask}
 use Rattle.element.specs.Parts.{firstOf}
-use Rattle.element.proofs.Asking.{HeadOf, ask-head, ask-ends, ask-missing, ask-unfinished, ask-full, ask-tag, ask-zero, ask-deep, ask-other, ask-length}
+use Rattle.element.proofs.Asking.{HeadOf, ask-head, ask-missing, ask-unfinished, ask-full, ask-tag, ask-zero, ask-deep, ask-other, ask-length}
 use Rattle.element.proofs.Laid.{nothing-ends}
-use Rattle.tcap.specs.Due.{Parts, end, must, may, name, many, components, Holds, due, behind, mayEnd, someMay, position, passes, contentsOf, there}
-use Rattle.tcap.specs.Refused.{Right, primitive, definite as filled, indefinite as endlessly, Fits, nothing, also, Known, known, whose, inside, told, Tagged, Unfit, unknown, another, tooMany, Faulty, tagCut, tagBad, zeroCode, tooDeep, unfit, lengthWrong, badContents, Wrong, noPair, missing, seventeenth, element}
-use Rattle.tcap.proofs.Fronts.{endless-some, definite-some, right-some, head-more}
+use Rattle.tcap.specs.Due.{Parts, end, must, may, name, many, components, Holds, due, mayEnd, someMay, position, passes, contentsOf, there}
+use Rattle.tcap.specs.Refused.{Right, primitive, definite as filled, indefinite as endlessly, Fits, nothing, also, Unfit, unknown, another, tooMany, Faulty, tagCut, tagBad, zeroCode, tooDeep, unfit, lengthWrong, badContents, Wrong, noPair, missing, seventeenth, element}
+use Rattle.tcap.proofs.Fronts.{endless-some, right-some, head-more}
 use Rattle.tcap.proofs.Found.{same-some, there-of}
 use Rattle.tcap.proofs.OneFront.{cut-tag, bad-tag, tagged-tag, zero-tag, wrong-length, definite-head, endless-head}
 

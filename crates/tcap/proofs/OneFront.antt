@@ -1,22 +1,21 @@
 -- What stands at the front of a part is one thing: octets that are called a fault are read as that fault, a head is read as that head. Assumes nothing.
-use Prim.Native.Nat.{ℕ, zero, suc, _+_, _-_, _%_, _≤_, _<_}
-use mathlib.Core.Path.{_≡_, refl, sym, ap, _∙_}
-use mathlib.Core.Logic.{_⊎_, inl, inr}
-use mathlib.Core.Bool.{Bool, true, false, cond, _||_, false≢true}
+use Prim.Native.Nat.{ℕ, suc, _+_, _-_, _%_}
+use mathlib.Core.Path.{_≡_, refl, ap, _∙_}
+use mathlib.Core.Logic.{inl, inr}
+use mathlib.Core.Bool.{Bool, true, false, _||_}
 use mathlib.Core.List.{List, [], _∷_, _++_, append-assoc}
 use native.Mathlib.Omega.{arith}
-use lib.ListN.{length, take, drop, getD, length-append}
+use lib.ListN.{length, take, drop, length-append}
 use lib.Seq.{drop-append-seam}
-use lib.Dec.{ltb, leb, eqb}
+use lib.Dec.{eqb}
 use borrow.Author.Tests.{eqb-true, lt-ltb, le-ltb, le-leb, lt-leb, eq-eqb, ne-eqb}
 use Rattle.base.specs.Number.{numberFrom}
-use Rattle.element.specs.Form.{fewestOf}
 use Rattle.element.specs.Element.{constructorOf, codeZero, extendedOf, Definitely, Endlessly}
 use Rattle.element.specs.declared.FaultKind.{FaultKind}
 use Rattle.element.specs.declared.TagRead.the-variants.{Fault as tagFault, Tag as tag}
 use Rattle.element.specs.declared.LengthRead.the-variants.{Fault as lengthFault, Definite as sized, Indefinite as unsized}
 use Rattle.element.specs.Head.{tagOf, first, second, third, within, longOf, lengthOf}
-use Rattle.element.specs.Ask.{definite, indefinite, Head, head}
+use Rattle.element.specs.Ask.{definite, indefinite, head}
 use Rattle.element.proofs.Heads.{tag-complete, length-complete, length-endless}
 use Rattle.element.proofs.Asking.{HeadOf, finite, unended}
 use Rattle.tcap.specs.Refused.{TagCut, empty, one, two, three, TagBad, small, long, LengthWrong, gone, cut, reserved, endless, wasteful, passing, passingLong, Tagged}

@@ -1,27 +1,26 @@
 -- From a place on, contents that fit have no fault, and others one. Assumes nothing.
-use Prim.Native.Nat.{ℕ, zero, suc, _+_, _-_, _*_, _≤_, _<_}
+use Prim.Native.Nat.{ℕ, zero, suc, _+_, _*_, _≤_}
 use mathlib.Core.Path.{_≡_, refl, sym, ap, _∙_}
 use mathlib.Core.Bool.{Bool, true, false, false≢true}
-use mathlib.Core.List.{List, [], _∷_}
+use mathlib.Core.List.{List}
 use mathlib.Core.Option.{Option, none, some}
 use native.Mathlib.Omega.{arith}
 use lib.ListN.{length, take, drop, length-drop, length-take}
-use lib.Seq.{length-take-le}
 use lib.IntN.{ℤ}
 use Rattle.element.specs.Element.{Definitely, Endlessly}
 use Rattle.element.specs.Fault.{Text, Owner, portion, Fault, fault}
 use Rattle.element.specs.declared.FaultKind.{FaultKind}
 use Rattle.element.specs.declared.EndRead.the-variants.{Ended as ended}
 use Rattle.element.specs.Head.{endOf}
-use Rattle.element.specs.Ask.{Got, got, definite, indefinite, Head, head, ask}
+use Rattle.element.specs.Ask.{Got, got, definite, indefinite, Head, head}
 use Rattle.element.specs.Parts.{firstOf}
-use Rattle.element.proofs.Asking.{HeadOf, ask-ends}
-use Rattle.tcap.specs.Due.{Parts, end, must, Holds, message, due, behind, mayEnd, position, passes, contentsOf}
+use Rattle.element.proofs.Asking.{ask-ends}
+use Rattle.tcap.specs.Due.{Parts, end, must, Holds, message, due, behind, mayEnd, position, contentsOf}
 use Rattle.tcap.specs.Refused.{Right, primitive, definite as filled, indefinite as endlessly, Fits, nothing, also, Known, known, whose, inside, told, Trail, top, into, intoEndless, past, Wrong}
 use Rattle.tcap.proofs.Fronts.{endless-some, definite-some, right-some}
 use Rattle.tcap.proofs.Found.{same-some}
 use Rattle.tcap.proofs.OneFront.{definite-head, endless-head}
-use Rattle.tcap.proofs.OneFault.{Shown, around, here, contents, one-shown, asked, wrong-shown, wrong-head, one-head, right-head, right-level, same-first, not-ended, same-head, same-endless, other-head, none-some, right-one}
+use Rattle.tcap.proofs.OneFault.{Shown, around, here, contents, one-shown, asked, wrong-shown, wrong-head, one-head, right-head, same-first, not-ended, same-head, same-endless, other-head, none-some, right-one}
 
 -- a fault from a place on: at this place, in the contents of an element here, or behind an element here
 pub data Fails (limit : ℕ) : ℕ → Bool → Parts → Known → ℕ → List ℕ → Fault → Type 0 where

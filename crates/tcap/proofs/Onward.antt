@@ -1,5 +1,5 @@
 -- Contents find their faults where they are: one element after another, optional ones, series, any element. Assumes nothing.
-use Prim.Native.Nat.{ℕ, zero, suc, _+_, _-_, _≤_, _<_}
+use Prim.Native.Nat.{ℕ, zero, suc, _+_, _-_, _≤_}
 use mathlib.Core.Path.{_≡_, refl, sym, ap, _∙_}
 use mathlib.Core.Logic.{_⊎_, inl, inr}
 use mathlib.Core.Bool.{Bool, true, false, cond, not, _||_, false≢true}
@@ -7,21 +7,20 @@ use mathlib.Core.List.{List, [], _∷_}
 use mathlib.Core.Option.{Option·map, Option, none, some}
 use native.Mathlib.Omega.{arith}
 use lib.ListN.{length, take, drop}
-use lib.Seq.{drop-drop}
 use lib.IntN.{ℤ}
 use Rattle.element.specs.Element.{constructorOf, codeZero}
 use Rattle.element.specs.Fault.{Text, Owner, Fault, fault, at}
 use Rattle.element.specs.declared.FaultKind.{FaultKind}
-use Rattle.element.specs.Ask.{Got, got, Head, Body}
+use Rattle.element.specs.Ask.{Got, Head, Body}
 use Rattle.element.specs.Parts.{Item, Where, level, firstOf, place, done, onward, silently, bindBody, thenBody, onlyBody, lastBody, optPick, optBody, mapBody, seriesBody}
 use Rattle.element.specs.Walk.{walkPick, elementOf, anyTag, walkContents}
 use Rattle.element.proofs.Asking.{HeadOf}
 use Rattle.element.proofs.Laid.{nothing-ends}
 use Rattle.element.proofs.Ends.{Ends, held, ends-next}
-use Rattle.tcap.specs.Due.{Parts, end, must, may, many, Choice, tag, any, Holds, octets, parts, find, due, behind, mayEnd, position, there, orElse}
+use Rattle.tcap.specs.Due.{Parts, end, must, may, many, Choice, tag, any, Holds, octets, parts, find, due, behind, mayEnd, position, there}
 use Rattle.tcap.specs.Refused.{Right, Fits, also, Known, known, whose, told, Trail, past, Unfit, another, tooMany, Found}
-use Rattle.tcap.proofs.Fronts.{right-some, ends-blame, or-right}
-use Rattle.tcap.proofs.Found.{there-some, there-none, there-of, there-else, else-none, else-first, else-second, quiet, quiet-told, Like, BodyTells, Untold, BodyFinds, Spot, ItemFinds, ask-finds, Said, Silent, leaf-from, inside-finds}
+use Rattle.tcap.proofs.Fronts.{right-some, ends-blame}
+use Rattle.tcap.proofs.Found.{there-some, there-none, there-else, else-none, quiet, quiet-told, Like, BodyTells, Untold, BodyFinds, Spot, ItemFinds, ask-finds, Said, Silent, leaf-from, inside-finds}
 
 map-some : {A B : Type 0} (f : A → B) (x : Option A) (v : B) → Option·map f x ≡ some v → (u : A) × (x ≡ some u) × (f u ≡ v)
 map-some f none v e = nothing-ends e

@@ -2,7 +2,7 @@
 -- stands before it in the contents, and whether the contents may end there. No reader is named here. Assumes nothing: these are definitions.
 use Prim.Native.Nat.{ℕ, suc}
 use mathlib.Core.{Bool.Bool, Bool.true, Bool.false, Bool.cond, List.List, List.[], List._∷_, Option.Option, Option.none, Option.some}
-use lib.{Dec.eqb, Dec.ltb, Dec.leb}
+use lib.{Dec.eqb, Dec.ltb}
 use Rattle.base.specs.{Value.same}
 use Rattle.primitive.specs.{Primitive.between, Primitive.integerOk, Primitive.identifierOk}
 use Rattle.element.specs.{Element.constructorOf, Element.codeZero}

@@ -1,8 +1,8 @@
 -- Where a place of a message is, by its octets alone, and what is wrong there, number by number: document 01, "Record and refusal of a reading".
 -- A page to check a refusal against: no reader is named here. Assumes nothing: these are definitions.
 use Prim.Native.Nat.{ℕ, suc, _+_, _-_, _≤_, _<_}
-use mathlib.Core.{Path._≡_, Logic._⊎_, Bool.Bool, Bool.true, Bool.false, Bool._||_, List.List, List.[], List._∷_, List._++_, Option.Option, Option.none, Option.some, Option.Option·map, Option.Option·getD}
-use lib.{ListN.length, ListN.take, ListN.drop, ListN.getD, Dec.eqb, IntN.ℤ}
+use mathlib.Core.{Path._≡_, Logic._⊎_, Bool.Bool, Bool.true, Bool.false, List.List, List.[], List._∷_, List._++_, Option.Option, Option.none, Option.some, Option.Option·map, Option.Option·getD}
+use lib.{ListN.length, ListN.take, ListN.drop, ListN.getD, IntN.ℤ}
 use Rattle.base.specs.{Number.numberFrom}
 use Rattle.primitive.specs.{Primitive.signedOf}
 use Rattle.element.specs.{Form.fewestOf, Element.IsTag, Element.constructorOf, Element.codeZero, Element.extendedOf, Element.Definitely, Element.Endlessly, Fault.Text, Fault.Owner, Fault.portion, Fault.dialogue as theDialogue, Fault.component as theComponent, Fault.Fault, Fault.fault, Fault.numberOf, Head.endOf, declared.FaultKind.FaultKind, declared.EndRead.EndRead}
