@@ -48,7 +48,7 @@ full-false (some k) h = by-test (eqb k 16) refl
     by-test true e = absurd (h (ap some (eqb-true k 16 e)))
     by-test false e = refl
 
-none-counts : (r : Parts) → someMay r ≡ false → position r ≡ none
+pub none-counts : (r : Parts) → someMay r ≡ false → position r ≡ none
 none-counts end e = refl
 none-counts (must x r) e = refl
 none-counts (may x r) e = refl

@@ -1,0 +1,184 @@
+-- What each kind of number 10 means, by the table of what is due: missing exactly if .., another exactly if .., too many exactly if .. Assumes nothing.
+use Prim.Native.Nat.{ℕ, suc, _+_, _≤_, _<_}
+use mathlib.Core.Path.{_≡_, refl, sym, ap, _∙_}
+use mathlib.Core.Logic.{_↔_}
+use mathlib.Core.Bool.{Bool, true, false}
+use mathlib.Core.List.{List, [], _∷_}
+use mathlib.Core.Option.{Option, none, some}
+use native.Mathlib.Omega.{arith}
+use lib.ListN.{length}
+use lib.IntN.{ℤ}
+use Rattle.element.specs.Element.{codeZero}
+use Rattle.element.specs.Fault.{Text, Owner, portion, Fault, fault}
+use Rattle.element.specs.declared.FaultKind.{FaultKind}
+use Rattle.element.specs.declared.EndRead.the-variants.{Ended as ended, More as more}
+use Rattle.element.specs.Head.{endOf}
+use Rattle.element.specs.Ask.{bad}
+use Rattle.element.proofs.Asking.{more-at}
+use Rattle.element.proofs.Laid.{nothing-ends}
+use Rattle.tcap.specs.Reading.{locatedUpTo}
+use Rattle.tcap.specs.Due.{Parts, Holds, message, find, due, mayEnd, someMay, position}
+use Rattle.tcap.specs.Refused.{Known, known, whose, Trail, LengthWrong, gone, cut, reserved, endless, wasteful, passing, passingLong, Tagged, Unfit, unknown, another, tooMany, Faulty, tagCut, tagBad, zeroCode, tooDeep, unfit, lengthWrong, badContents, noPair, missing, seventeenth, element, Found, found, after, Refuses, overlong, noOctets, noMessage, within}
+use Rattle.tcap.proofs.OneFront.{tagged-tag}
+use Rattle.tcap.proofs.OneFault.{none-counts}
+use Rattle.tcap.proofs.Pinned.{fault-exactly}
+
+-- a place that reading comes to, in a message of at most 255 octets with one of the five tags; all before it is right
+pub record Reached (limit : ℕ) (m : List ℕ) (l : ℕ) (d : Bool) (r : Parts) (s : Known) (p : ℕ) (part : List ℕ) : Type 0 where
+  pub short : length m ≤ 255
+  pub first : ℕ
+  pub rest : List ℕ
+  pub holds : Holds
+  pub octets : m ≡ first ∷ rest
+  pub isMessage : find message first ≡ some holds
+  pub way : Trail limit m l d r s p part
+
+-- the contents end where something mandatory is due; they are those of w
+pub record MissingAt (limit : ℕ) (m : List ℕ) (p : ℕ) (w : Owner) (i : Option ℤ) (t : Option Text) : Type 0 where
+  pub level : ℕ
+  pub definite : Bool
+  pub left : Parts
+  pub owner : Owner
+  pub part : List ℕ
+  pub reached : Reached limit m level definite left (known w owner i t) p part
+  pub ends : endOf definite part ≡ ended
+  pub mandatory : mayEnd left ≡ false
+
+-- an element stands, at no component's position, with a sound tag, not code 0 and not too deep, that may not stand there; it belongs to w
+pub record StrangeAt (limit : ℕ) (m : List ℕ) (p : ℕ) (w : Owner) (i : Option ℤ) (t : Option Text) (other : Bool) : Type 0 where
+  pub level : ℕ
+  pub definite : Bool
+  pub left : Parts
+  pub around : Owner
+  pub part : List ℕ
+  pub tag : ℕ
+  pub behind : List ℕ
+  pub reached : Reached limit m level definite left (known around w i t) p part
+  pub noComponent : position left ≡ none
+  pub sound : Tagged part tag behind
+  pub deep : level ≤ limit
+  pub strange : due left tag ≡ none
+  -- whether some other may, mandatory or optional
+  pub others : someMay left ≡ other
+
+-- which row of the table a kind is of
+rank : FaultKind → ℕ
+rank FaultKind.Missing = 1
+rank FaultKind.Another = 2
+rank FaultKind.TooMany = 3
+rank FaultKind.UnknownComponent = 4
+rank FaultKind.CutOff = 0
+rank FaultKind.BadTag = 0
+rank FaultKind.BadLength = 0
+rank FaultKind.PassesEnd = 0
+rank FaultKind.TooDeep = 0
+rank FaultKind.CodeZero = 0
+rank FaultKind.Overlong = 0
+rank FaultKind.NoMessage = 0
+rank FaultKind.OctetsAfter = 0
+rank FaultKind.BadContents = 0
+rank FaultKind.Seventeenth = 0
+
+length-rank : {c : Bool} {q : List ℕ} {k : FaultKind} → LengthWrong c q k → rank k ≡ 0
+unfolding rank
+length-rank gone = refl
+length-rank (cut a b d) = refl
+length-rank (reserved a) = refl
+length-rank (endless a) = refl
+length-rank (wasteful a b d e) = refl
+length-rank (passing a b) = refl
+length-rank (passingLong a b d e f) = refl
+
+unfit-rank : {r : Parts} {k : FaultKind} → Unfit r k → 2 ≤ rank k
+unfolding rank
+unfit-rank (unknown e) = omega arith
+unfit-rank (another e f) = omega arith
+unfit-rank (tooMany e) = omega arith
+
+-- the element that an unfit kind speaks of
+pub record StrangeIn (limit l : ℕ) (r : Parts) (part : List ℕ) (k : FaultKind) : Type 0 where
+  pub tag : ℕ
+  pub behind : List ℕ
+  pub sound : Tagged part tag behind
+  pub deep : l ≤ limit
+  pub strange : due r tag ≡ none
+  pub kind : Unfit r k
+
+faulty-strange : {limit l : ℕ} {r : Parts} {part : List ℕ} {k : FaultKind} → Faulty limit l r part k → 1 ≤ rank k → StrangeIn limit l r part k
+unfolding rank
+faulty-strange (tagCut w) h = absurd (omega arith)
+faulty-strange (tagBad w) h = absurd (omega arith)
+faulty-strange (zeroCode e z) h = absurd (omega arith)
+faulty-strange (tooDeep g j) h = absurd (omega arith)
+faulty-strange (unfit {a = a} {q = q} g j e u) h = record { tag = a; behind = q; sound = g; deep = j; strange = e; kind = u }
+faulty-strange (lengthWrong g j e w) h = absurd (omega (arith, h, length-rank w))
+faulty-strange (badContents j e s z f) h = absurd (omega arith)
+
+tagged-more : {part : List ℕ} {a : ℕ} {q : List ℕ} (d : Bool) → Tagged part a q → endOf d part ≡ more
+tagged-more {part = part} {a = a} d t = more-at d part a _ (tagged-tag t .0) (t .plain)
+
+missing-from : {limit : ℕ} {m : List ℕ} {p : ℕ} {w : Owner} {i : Option ℤ} {t : Option Text} → Refuses limit m (fault FaultKind.Missing p w i t) → MissingAt limit m p w i t
+unfolding rank
+missing-from (within {a = a} {q = q} {h = h} b e z (found {l = l} {d = d} {r = r} {o = o} {part = part} way (missing x y))) =
+    record { level = l; definite = d; left = r; owner = o; part = part; reached = record { short = b; first = a; rest = q; holds = h; octets = e; isMessage = z; way = way }; ends = x; mandatory = y }
+missing-from (within b e z (found way (element x y f))) = let u = faulty-strange f (omega arith) in absurd (omega (arith, unfit-rank (u .kind)))
+
+strange-from : {limit : ℕ} {m : List ℕ} {p : ℕ} {k : FaultKind} {w : Owner} {i : Option ℤ} {t : Option Text} (other : Bool) → 2 ≤ rank k → ((r : Parts) → Unfit r k → (position r ≡ none) × (someMay r ≡ other)) → Refuses limit m (fault k p w i t) → StrangeAt limit m p w i t other
+unfolding rank
+strange-from other h is (overlong b) = absurd (omega arith)
+strange-from other h is (noOctets e) = absurd (omega arith)
+strange-from other h is (noMessage b e z) = absurd (omega arith)
+strange-from other h is (within b e z (after x y u n o)) = absurd (omega arith)
+strange-from other h is (within b e z (found way (noPair x))) = absurd (omega arith)
+strange-from other h is (within b e z (found way (missing x y))) = absurd (omega arith)
+strange-from other h is (within b e z (found way (seventeenth x y))) = absurd (omega arith)
+strange-from other h is (within {a = a} {q = q} {h = g} b e z (found {l = l} {d = d} {r = r} {c = c} {o = o} {part = part} way (element x y f))) =
+    let u = faulty-strange f (omega arith) in
+    let v = is r (u .kind) in
+    let n : whose (position r) o ≡ o = rw (v .0) refl in
+    record {
+      level = l;
+      definite = d;
+      left = r;
+      around = c;
+      part = part;
+      tag = u .tag;
+      behind = u .behind;
+      reached = record { short = b; first = a; rest = q; holds = g; octets = e; isMessage = z; way = rw n way };
+      noComponent = v .0;
+      sound = u .sound;
+      deep = u .deep;
+      strange = u .strange;
+      others = v .1;
+    }
+
+another-unfit : (r : Parts) → Unfit r FaultKind.Another → (position r ≡ none) × (someMay r ≡ true)
+another-unfit r (another e f) = (e, f)
+
+many-unfit : (r : Parts) → Unfit r FaultKind.TooMany → (position r ≡ none) × (someMay r ≡ false)
+many-unfit r (tooMany e) = (none-counts r e, e)
+
+module _ (limit : ℕ) (m : List ℕ) (p : ℕ) (w : Owner) (i : Option ℤ) (t : Option Text) where
+  -- missing: the contents end at the place where something mandatory is due
+  pub missing-exactly : (locatedUpTo limit m ≡ bad (fault FaultKind.Missing p w i t)) ↔ MissingAt limit m p w i t
+  missing-exactly = (
+    λ e. missing-from (fault-exactly limit m (fault FaultKind.Missing p w i t) .0 e),
+    λ x. let y = x .reached in fault-exactly limit m (fault FaultKind.Missing p w i t) .1 (within (y .short) (y .octets) (y .isMessage) (found (y .way) (missing (x .ends) (x .mandatory)))),
+  )
+
+  strange-found : (k : FaultKind) (other : Bool) (x : StrangeAt limit m p w i t other) → Unfit (x .left) k → locatedUpTo limit m ≡ bad (fault k p w i t)
+  strange-found k other x u =
+      let y = x .reached in
+      let e : whose (position (x .left)) w ≡ w = rw (x .noComponent) refl in
+      let g : Found limit m (fault k p (whose (position (x .left)) w) i t) = found (y .way) (element (tagged-more (x .definite) (x .sound)) (λ q. nothing-ends (sym (x .noComponent) ∙ q)) (unfit (x .sound) (x .deep) (x .strange) u)) in
+      fault-exactly limit m (fault k p w i t) .1 (within (y .short) (y .octets) (y .isMessage) (rw e at g))
+
+  -- another: it may not stand there, and some other may
+  pub another-exactly : (locatedUpTo limit m ≡ bad (fault FaultKind.Another p w i t)) ↔ StrangeAt limit m p w i t true
+  unfolding rank
+  another-exactly = (λ e. strange-from true (omega arith) another-unfit (fault-exactly limit m (fault FaultKind.Another p w i t) .0 e), λ x. strange-found FaultKind.Another true x (another (x .noComponent) (x .others)))
+
+  -- too many: none may
+  pub too-many-exactly : (locatedUpTo limit m ≡ bad (fault FaultKind.TooMany p w i t)) ↔ StrangeAt limit m p w i t false
+  unfolding rank
+  too-many-exactly = (λ e. strange-from false (omega arith) many-unfit (fault-exactly limit m (fault FaultKind.TooMany p w i t) .0 e), λ x. strange-found FaultKind.TooMany false x (tooMany (x .others)))
