@@ -2,13 +2,15 @@
 use Prim.Native.Nat.{ℕ, suc, _+_, _≤_, _<_}
 use mathlib.Core.Path.{_≡_, refl, sym, ap, _∙_}
 use mathlib.Core.Logic.{_↔_}
-use mathlib.Core.Bool.{Bool, true, false}
+use mathlib.Core.Bool.{Bool, true, false, false≢true}
 use mathlib.Core.List.{List, [], _∷_}
 use mathlib.Core.Option.{Option, none, some}
 use native.Mathlib.Omega.{arith}
 use lib.ListN.{length}
 use lib.IntN.{ℤ}
-use Rattle.element.specs.Element.{codeZero}
+use borrow.Author.Tests.{eq-eqb}
+use Rattle.primitive.specs.Primitive.{identifierOk}
+use Rattle.element.specs.Element.{constructorOf, codeZero}
 use Rattle.element.specs.Fault.{Text, Owner, portion, Fault, fault}
 use Rattle.element.specs.declared.FaultKind.{FaultKind}
 use Rattle.element.specs.declared.EndRead.the-variants.{Ended as ended, More as more}
@@ -17,7 +19,7 @@ use Rattle.element.specs.Ask.{bad}
 use Rattle.element.proofs.Asking.{more-at}
 use Rattle.element.proofs.Laid.{nothing-ends}
 use Rattle.tcap.specs.Reading.{locatedUpTo}
-use Rattle.tcap.specs.Due.{Parts, Holds, message, find, due, mayEnd, someMay, position}
+use Rattle.tcap.specs.Due.{Parts, end, must, may, name, many, components, Choice, tag, either, any, Holds, octets, message, find, due, mayEnd, someMay, position}
 use Rattle.tcap.specs.Refused.{Known, known, whose, Trail, LengthWrong, gone, cut, reserved, endless, wasteful, passing, passingLong, Tagged, Unfit, unknown, another, tooMany, Faulty, tagCut, tagBad, zeroCode, tooDeep, unfit, lengthWrong, badContents, noPair, missing, seventeenth, element, Found, found, after, Refuses, overlong, noOctets, noMessage, within}
 use Rattle.tcap.proofs.OneFront.{tagged-tag}
 use Rattle.tcap.proofs.OneFault.{none-counts}
@@ -61,8 +63,31 @@ pub record StrangeAt (limit : ℕ) (m : List ℕ) (p : ℕ) (w : Owner) (i : Opt
   -- whether some other may, mandatory or optional
   pub others : someMay left ≡ other
 
+-- `someMay` says so: where it is true some element may stand, where it is false none
+choice-some : (x : Choice) → (a : ℕ) × (h : Holds) × (find x a ≡ some h)
+unfolding codeZero constructorOf
+choice-some (tag t h) = (t, h, rw (eq-eqb t t refl))
+choice-some (either x y) = let u = choice-some x in (u .0, u .1, rw (u .2))
+choice-some any = (2, octets (λ c. true), refl)
+
+pub some-may : (r : Parts) → someMay r ≡ true → (a : ℕ) × (h : Holds) × (due r a ≡ some h)
+some-may end e = absurd (false≢true e)
+some-may (must x r) e = choice-some x
+some-may (may x r) e = let u = choice-some x in (u .0, u .1, rw (u .2))
+some-may (name r) e = (0x06, octets identifierOk, refl)
+some-may (many x) e = choice-some x
+some-may (components x k) e = choice-some x
+
+pub none-may : (r : Parts) → someMay r ≡ false → (a : ℕ) → due r a ≡ none
+none-may end e a = refl
+none-may (must x r) e a = absurd (false≢true (sym e))
+none-may (may x r) e a = absurd (false≢true (sym e))
+none-may (name r) e a = absurd (false≢true (sym e))
+none-may (many x) e a = absurd (false≢true (sym e))
+none-may (components x k) e a = absurd (false≢true (sym e))
+
 -- which row of the table a kind is of
-rank : FaultKind → ℕ
+unfoldable pub rank : FaultKind → ℕ
 rank FaultKind.Missing = 1
 rank FaultKind.Another = 2
 rank FaultKind.TooMany = 3
@@ -104,7 +129,7 @@ pub record StrangeIn (limit l : ℕ) (r : Parts) (part : List ℕ) (k : FaultKin
   pub strange : due r tag ≡ none
   pub kind : Unfit r k
 
-faulty-strange : {limit l : ℕ} {r : Parts} {part : List ℕ} {k : FaultKind} → Faulty limit l r part k → 1 ≤ rank k → StrangeIn limit l r part k
+pub faulty-strange : {limit l : ℕ} {r : Parts} {part : List ℕ} {k : FaultKind} → Faulty limit l r part k → 1 ≤ rank k → StrangeIn limit l r part k
 unfolding rank
 faulty-strange (tagCut w) h = absurd (omega arith)
 faulty-strange (tagBad w) h = absurd (omega arith)

@@ -93,7 +93,7 @@ found-one {m = m} (after is z u n o) (after is′ z′ u′ n′ o′) =
 empty-first : {m : List ℕ} {a : ℕ} {q : List ℕ} → m ≡ [] → m ≡ a ∷ q → ⊥
 empty-first e f = let z : _≡_ {A = ℕ} 0 1 = cc in omega arith
 
-same-front : {m : List ℕ} {a b : ℕ} {q r : List ℕ} → m ≡ a ∷ q → m ≡ b ∷ r → a ≡ b
+pub same-front : {m : List ℕ} {a b : ℕ} {q r : List ℕ} → m ≡ a ∷ q → m ≡ b ∷ r → a ≡ b
 same-front e f = let z : _ ≡ _ = sym e ∙ f in cc
 
 -- no second fault
