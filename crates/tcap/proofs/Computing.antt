@@ -1,7 +1,13 @@
--- Reading and writing back with every definition open, so that a table of examples is one computation. Assumes nothing.
-use Prim.Native.Nat.{ℕ}
-use mathlib.Core.List.{List}
+-- Reading and writing back with every definition open, so that a table of examples is one computation; and the words of such tables.
+-- Assumes nothing.
+use Prim.Native.Nat.{ℕ, zero, suc, _+_, _-_, _*_}
+use Prim.Native.String.{String}
+use mathlib.Core.Path.{_≡_}
+use mathlib.Core.Bool.{cond}
+use mathlib.Core.List.{List, [], _∷_, _++_, map}
 use mathlib.Core.Option.{Option·map, Option, none, some, bind}
+use lib.Dec.{ltb}
+use Rattle.base.specs.Text.{text}
 use Rattle.base.specs.Number.{numberFrom, octetsIn, topOf, signedAt, bitsAt, holds}
 use Rattle.base.specs.Value.{same}
 use Rattle.element.specs.Form.{seriesForm, shortest, fewestOf, digits, lengthOctets}
@@ -12,7 +18,7 @@ use Rattle.element.specs.Head.{endOf, third, second, first, tagOf, within, long
 use Rattle.element.specs.Ask.{next, check, blamed, askLength, askTag, atEnd, askEnd, ask}
 use Rattle.element.specs.Parts.{leafContents, inside, onward, optPick, seriesBody}
 use Rattle.element.specs.Walk.{walkPick, walkContents}
-use Rattle.tcap.specs.declared.{Record.Record, Outcome.Outcome, Reading.Reading}
+use Rattle.tcap.specs.declared.{OptionalOrig.OptionalOrig, Record.Record, Answer.Answer, Outcome.Outcome, Reading.Reading}
 use Rattle.tcap.specs.Meaning.{componentForm, componentsForm, dialogueForm, endingForm, messageForm, written}
 use Rattle.tcap.specs.WellFormed.{idOk, deepestLevel}
 use Rattle.tcap.specs.Productions.{single?}
@@ -36,3 +42,43 @@ rewritten (Outcome.Refused f) r m = none
 unfoldable pub writtenBack : List ℕ → Option (List ℕ)
 unfolding outcomeOf rewritten
 writtenBack m = let r = outcomeOf m in rewritten (r .outcome) (r .message) m
+
+-- What the page says of a message: its record, or a refusal by its number, place, originating ID and standard answer, with the record handed back
+pub data Told : Type 0 where
+  reads : Record → Told
+  refused : ℕ → ℕ → OptionalOrig → Answer → Record → Told
+
+unfoldable pub toldOf : Outcome → Record → Told
+unfolding numberOf
+toldOf Outcome.Accepted r = reads r
+toldOf (Outcome.Refused f) r = refused (numberOf (f .kind)) (f .place) (f .orig) (f .answer) r
+
+unfoldable pub toldUpTo : ℕ → List ℕ → Told
+unfolding outcomeUpTo toldOf
+toldUpTo limit m = let r = outcomeUpTo limit m in toldOf (r .outcome) (r .message)
+
+unfoldable pub told : List ℕ → Told
+unfolding toldUpTo
+told m = toldUpTo deepestLevel m
+
+-- a table of messages and of what is told of each
+abbrev pub AsTold : List (List ℕ × Told) → Type 0
+AsTold rows = map (λ (r : List ℕ × Told). told (r .0)) rows ≡ map (λ (r : List ℕ × Told). r .1) rows
+
+-- octets as the page prints them: two digits each, a space between
+abbrev pub digit : ℕ → ℕ
+digit c = cond (ltb c 58) (c - 48) (c - 55)
+
+abbrev pub printed : List ℕ → List ℕ
+printed [] = []
+printed (a ∷ []) = []
+printed (a ∷ b ∷ []) = (16 * digit a + digit b) ∷ []
+printed (a ∷ b ∷ c ∷ r) = (16 * digit a + digit b) ∷ printed r
+
+abbrev pub hex : String → List ℕ
+hex s = printed (text s)
+
+-- the same octets so many times
+abbrev pub times : ℕ → List ℕ → List ℕ
+times zero s = []
+times (suc n) s = s ++ times n s

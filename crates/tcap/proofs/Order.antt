@@ -1,75 +1,117 @@
 -- The order of questions at a place, and whom a fault belongs to: examples of the points that document 01 leaves open, as one table under one statement.
--- Assumes nothing.
-use Prim.Native.Nat.{ℕ, _-_}
+-- And what a refusal carries, as another. Assumes nothing.
+use Prim.Native.Nat.{ℕ}
 use mathlib.Core.Path.{_≡_, refl}
-use mathlib.Core.List.{List, [], _∷_, _++_, map}
-use mathlib.Core.Option.{Option, none, some}
-use lib.ListN.{length, take, drop, replicate}
+use mathlib.Core.List.{List, [], _∷_, _++_}
 use lib.IntN.{ℤ, pos, negsuc}
-use Rattle.element.specs.declared.{FaultKind.FaultKind}
-use Rattle.tcap.specs.declared.{Span.Span, OptionalSpan.OptionalSpan, OptionalOrig.OptionalOrig, OptionalDest.OptionalDest, InvokeId.InvokeId, LinkedId.LinkedId, Code.Code, Returned.Returned, ComponentKind.ComponentKind, Row.Row, Dialogue.Dialogue, MessageKind.MessageKind, Answer.Answer, Outcome.Outcome, Reading.Reading}
-use Rattle.tcap.specs.Record.{blankRow, blankRecord}
-use Rattle.tcap.specs.Reading.{readingUpTo}
-use Rattle.tcap.proofs.Computing.{outcomeOf, outcomeUpTo}
-use Rattle.tcap.proofs.Specimens.{origAt, refuses}
+use Rattle.tcap.specs.declared.{OptionalOrig.OptionalOrig, InvokeId.InvokeId}
+use Rattle.tcap.proofs.Computing.{Told, AsTold, told, toldUpTo, hex, times}
+use Rattle.tcap.proofs.Specimens.{origAt, id, refuses, cause, problem}
 
-pub record Fault : Type 0 where
-  pub octets : List ℕ
-  pub outcome : Reading
-
-abbrev pub faults : List Fault
+abbrev pub faults : List (List ℕ × Told)
 faults =
     -- a missing end pair of 6B itself belongs to 6B, which stands in the message
-    record { octets = 0x62 ∷ 0x05 ∷ 0x48 ∷ 0x01 ∷ 0x05 ∷ 0x6B ∷ 0x80 ∷ []; outcome = refuses FaultKind.CutOff 7 (origAt 4 1) (Answer.AbortCause 2) }
+    (hex "62 05 48 01 05 6B 80", refuses 1 7 (origAt 4 1) (cause 2))
     -- left open inside 6B
-    ∷ record { octets = 0x62 ∷ 0x07 ∷ 0x48 ∷ 0x01 ∷ 0x05 ∷ 0x6B ∷ 0x80 ∷ 0x28 ∷ 0x80 ∷ []; outcome = refuses FaultKind.CutOff 9 (origAt 4 1) (Answer.AbortCause 3) }
+    ∷ (hex "62 07 48 01 05 6B 80 28 80", refuses 1 9 (origAt 4 1) (cause 3))
+    -- the innermost of several left open answers
+    ∷ (hex "62 80 48 01 05 6B 80 28 80", refuses 1 9 (origAt 4 1) (cause 3))
+    -- the tag and length of 6B itself stand in the message
+    ∷ (hex "62 05 48 01 05 6B FF", refuses 3 5 (origAt 4 1) (cause 2))
     -- 00 alone in 6C is a missing end pair of 6C
-    ∷ record { octets = 0x62 ∷ 0x06 ∷ 0x48 ∷ 0x01 ∷ 0x05 ∷ 0x6C ∷ 0x80 ∷ 0x00 ∷ []; outcome = refuses FaultKind.CutOff 7 (origAt 4 1) (Answer.AbortCause 2) }
+    ∷ (hex "62 06 48 01 05 6C 80 00", refuses 1 7 (origAt 4 1) (cause 2))
     -- 00 with another octet is no end, and belongs to the component at whose position it stands
-    ∷ record { octets = 0x62 ∷ 0x07 ∷ 0x48 ∷ 0x01 ∷ 0x05 ∷ 0x6C ∷ 0x80 ∷ 0x00 ∷ 0x05 ∷ []; outcome = refuses FaultKind.CodeZero 7 (origAt 4 1) (Answer.RejectProblem 2 0 InvokeId.Null) }
+    ∷ (hex "62 07 48 01 05 6C 80 00 05", refuses 6 7 (origAt 4 1) (problem 2 0 InvokeId.Null))
     -- a cut-off length stands at the first octet of its element
-    ∷ record { octets = 0x62 ∷ 0x01 ∷ 0x48 ∷ []; outcome = refuses FaultKind.CutOff 2 OptionalOrig.NoOrig (Answer.AbortCause 2) }
+    ∷ (hex "62 01 48", refuses 1 2 OptionalOrig.NoOrig (cause 2))
     -- no room is set aside for pairs still owed; the ID was read
-    ∷ record { octets = 0x62 ∷ 0x80 ∷ 0x48 ∷ 0x03 ∷ 0x05 ∷ 0x00 ∷ 0x00 ∷ []; outcome = refuses FaultKind.CutOff 7 (origAt 4 3) (Answer.AbortCause 2) }
+    ∷ (hex "62 80 48 03 05 00 00", refuses 1 7 (origAt 4 3) (cause 2))
     -- 8 looks at the first octet alone
-    ∷ record { octets = 0x1F ∷ []; outcome = refuses FaultKind.NoMessage 0 OptionalOrig.NoOrig (Answer.AbortCause 0) }
-    -- 8 looks at the first octet alone
-    ∷ record { octets = 0x00 ∷ 0x00 ∷ []; outcome = refuses FaultKind.NoMessage 0 OptionalOrig.NoOrig (Answer.AbortCause 0) }
+    ∷ (hex "1F", refuses 8 0 OptionalOrig.NoOrig (cause 0))
+    ∷ (hex "00 00", refuses 8 0 OptionalOrig.NoOrig (cause 0))
     -- a badly extended tag before the expected tag
-    ∷ record { octets = 0x62 ∷ 0x06 ∷ 0x48 ∷ 0x01 ∷ 0x05 ∷ 0x5F ∷ 0x80 ∷ 0x01 ∷ []; outcome = refuses FaultKind.BadTag 5 (origAt 4 1) (Answer.AbortCause 2) }
+    ∷ (hex "62 06 48 01 05 5F 80 01", refuses 2 5 (origAt 4 1) (cause 2))
     -- code 0 before the expected tag and the length
-    ∷ record { octets = 0x62 ∷ 0x06 ∷ 0x48 ∷ 0x01 ∷ 0x05 ∷ 0x20 ∷ 0xFF ∷ 0x01 ∷ []; outcome = refuses FaultKind.CodeZero 5 (origAt 4 1) (Answer.AbortCause 2) }
+    ∷ (hex "62 06 48 01 05 20 FF 01", refuses 6 5 (origAt 4 1) (cause 2))
     -- the expected tag before the length
-    ∷ record { octets = 0x62 ∷ 0x06 ∷ 0x48 ∷ 0x01 ∷ 0x05 ∷ 0x04 ∷ 0xFF ∷ 0x01 ∷ []; outcome = refuses FaultKind.Another 5 (origAt 4 1) (Answer.AbortCause 3) }
+    ∷ (hex "62 06 48 01 05 04 FF 01", refuses 10 5 (origAt 4 1) (cause 3))
+    -- a known code with the other form bit is another tag
+    ∷ (hex "62 03 68 01 05", refuses 10 2 OptionalOrig.NoOrig (cause 3))
+    ∷ (hex "62 0B 48 01 05 6C 06 A2 04 22 02 05 00", refuses 10 9 (origAt 4 1) (problem 1 0 InvokeId.Null))
+    -- what the sources allow beyond the page is another element
+    ∷ (hex "62 0E 48 01 05 6B 09 28 07 06 01 2A 82 02 00 FF", refuses 10 12 (origAt 4 1) (cause 3))
     -- 3 even where the contents pass the end
-    ∷ record { octets = 0x62 ∷ 0x03 ∷ 0x48 ∷ 0x81 ∷ 0x7F ∷ []; outcome = refuses FaultKind.BadLength 2 OptionalOrig.NoOrig (Answer.AbortCause 2) }
+    ∷ (hex "62 03 48 81 7F", refuses 3 2 OptionalOrig.NoOrig (cause 2))
     -- a length in four octets that passes the end
-    ∷ record { octets = 0x62 ∷ 0x06 ∷ 0x48 ∷ 0x84 ∷ 0x01 ∷ 0x00 ∷ 0x00 ∷ 0x00 ∷ []; outcome = refuses FaultKind.PassesEnd 2 OptionalOrig.NoOrig (Answer.AbortCause 2) }
+    ∷ (hex "62 06 48 84 01 00 00 00", refuses 4 2 OptionalOrig.NoOrig (cause 2))
     -- a code missing in a component, with its invoke ID
-    ∷ record { octets = 0x62 ∷ 0x0A ∷ 0x48 ∷ 0x01 ∷ 0x05 ∷ 0x6C ∷ 0x05 ∷ 0xA1 ∷ 0x03 ∷ 0x02 ∷ 0x01 ∷ 0x01 ∷ []; outcome = refuses FaultKind.Missing 12 (origAt 4 1) (Answer.RejectProblem 1 0 (InvokeId.Id (pos 1))) }
+    ∷ (hex "62 0A 48 01 05 6C 05 A1 03 02 01 01", refuses 10 12 (origAt 4 1) (problem 1 0 (id 1)))
     -- never the invoke ID of another component
-    ∷ record { octets = 0x62 ∷ 0x0C ∷ 0x48 ∷ 0x01 ∷ 0x05 ∷ 0x6C ∷ 0x07 ∷ 0xA2 ∷ 0x03 ∷ 0x02 ∷ 0x01 ∷ 0x01 ∷ 0xA2 ∷ 0x00 ∷ []; outcome = refuses FaultKind.Missing 14 (origAt 4 1) (Answer.RejectProblem 1 1 InvokeId.Null) }
+    ∷ (hex "62 0C 48 01 05 6C 07 A2 03 02 01 01 A2 00", refuses 10 14 (origAt 4 1) (problem 1 1 InvokeId.Null))
     -- a 17th component
-    ∷ record { octets = 0x62 ∷ 0x5A ∷ 0x48 ∷ 0x01 ∷ 0x05 ∷ 0x6C ∷ 0x55 ∷ 0xA2 ∷ 0x03 ∷ 0x02 ∷ 0x01 ∷ 0x01 ∷ 0xA2 ∷ 0x03 ∷ 0x02 ∷ 0x01 ∷ 0x01 ∷ 0xA2 ∷ 0x03 ∷ 0x02 ∷ 0x01 ∷ 0x01 ∷ 0xA2 ∷ 0x03 ∷ 0x02 ∷ 0x01 ∷ 0x01 ∷ 0xA2 ∷ 0x03 ∷ 0x02 ∷ 0x01 ∷ 0x01 ∷ 0xA2 ∷ 0x03 ∷ 0x02 ∷ 0x01 ∷ 0x01 ∷ 0xA2 ∷ 0x03 ∷ 0x02 ∷ 0x01 ∷ 0x01 ∷ 0xA2 ∷ 0x03 ∷ 0x02 ∷ 0x01 ∷ 0x01 ∷ 0xA2 ∷ 0x03 ∷ 0x02 ∷ 0x01 ∷ 0x01 ∷ 0xA2 ∷ 0x03 ∷ 0x02 ∷ 0x01 ∷ 0x01 ∷ 0xA2 ∷ 0x03 ∷ 0x02 ∷ 0x01 ∷ 0x01 ∷ 0xA2 ∷ 0x03 ∷ 0x02 ∷ 0x01 ∷ 0x01 ∷ 0xA2 ∷ 0x03 ∷ 0x02 ∷ 0x01 ∷ 0x01 ∷ 0xA2 ∷ 0x03 ∷ 0x02 ∷ 0x01 ∷ 0x01 ∷ 0xA2 ∷ 0x03 ∷ 0x02 ∷ 0x01 ∷ 0x01 ∷ 0xA2 ∷ 0x03 ∷ 0x02 ∷ 0x01 ∷ 0x01 ∷ 0xA2 ∷ 0x03 ∷ 0x02 ∷ 0x01 ∷ 0x01 ∷ []; outcome = refuses FaultKind.Seventeenth 87 (origAt 4 1) (Answer.AbortCause 4) }
+    ∷ (hex "62 5A 48 01 05 6C 55" ++ times 17 (hex "A2 03 02 01 01"), refuses 12 87 (origAt 4 1) (cause 4))
     -- a 17th component is asked before its tag
-    ∷ record { octets = 0x62 ∷ 0x57 ∷ 0x48 ∷ 0x01 ∷ 0x05 ∷ 0x6C ∷ 0x52 ∷ 0xA2 ∷ 0x03 ∷ 0x02 ∷ 0x01 ∷ 0x01 ∷ 0xA2 ∷ 0x03 ∷ 0x02 ∷ 0x01 ∷ 0x01 ∷ 0xA2 ∷ 0x03 ∷ 0x02 ∷ 0x01 ∷ 0x01 ∷ 0xA2 ∷ 0x03 ∷ 0x02 ∷ 0x01 ∷ 0x01 ∷ 0xA2 ∷ 0x03 ∷ 0x02 ∷ 0x01 ∷ 0x01 ∷ 0xA2 ∷ 0x03 ∷ 0x02 ∷ 0x01 ∷ 0x01 ∷ 0xA2 ∷ 0x03 ∷ 0x02 ∷ 0x01 ∷ 0x01 ∷ 0xA2 ∷ 0x03 ∷ 0x02 ∷ 0x01 ∷ 0x01 ∷ 0xA2 ∷ 0x03 ∷ 0x02 ∷ 0x01 ∷ 0x01 ∷ 0xA2 ∷ 0x03 ∷ 0x02 ∷ 0x01 ∷ 0x01 ∷ 0xA2 ∷ 0x03 ∷ 0x02 ∷ 0x01 ∷ 0x01 ∷ 0xA2 ∷ 0x03 ∷ 0x02 ∷ 0x01 ∷ 0x01 ∷ 0xA2 ∷ 0x03 ∷ 0x02 ∷ 0x01 ∷ 0x01 ∷ 0xA2 ∷ 0x03 ∷ 0x02 ∷ 0x01 ∷ 0x01 ∷ 0xA2 ∷ 0x03 ∷ 0x02 ∷ 0x01 ∷ 0x01 ∷ 0xA2 ∷ 0x03 ∷ 0x02 ∷ 0x01 ∷ 0x01 ∷ 0x1F ∷ 0x80 ∷ []; outcome = refuses FaultKind.Seventeenth 87 (origAt 4 1) (Answer.AbortCause 4) }
+    ∷ (hex "62 57 48 01 05 6C 52" ++ times 16 (hex "A2 03 02 01 01") ++ hex "1F 80", refuses 12 87 (origAt 4 1) (cause 4))
     -- 00 with another octet behind 16 components
-    ∷ record { octets = 0x62 ∷ 0x57 ∷ 0x48 ∷ 0x01 ∷ 0x05 ∷ 0x6C ∷ 0x80 ∷ 0xA2 ∷ 0x03 ∷ 0x02 ∷ 0x01 ∷ 0x01 ∷ 0xA2 ∷ 0x03 ∷ 0x02 ∷ 0x01 ∷ 0x01 ∷ 0xA2 ∷ 0x03 ∷ 0x02 ∷ 0x01 ∷ 0x01 ∷ 0xA2 ∷ 0x03 ∷ 0x02 ∷ 0x01 ∷ 0x01 ∷ 0xA2 ∷ 0x03 ∷ 0x02 ∷ 0x01 ∷ 0x01 ∷ 0xA2 ∷ 0x03 ∷ 0x02 ∷ 0x01 ∷ 0x01 ∷ 0xA2 ∷ 0x03 ∷ 0x02 ∷ 0x01 ∷ 0x01 ∷ 0xA2 ∷ 0x03 ∷ 0x02 ∷ 0x01 ∷ 0x01 ∷ 0xA2 ∷ 0x03 ∷ 0x02 ∷ 0x01 ∷ 0x01 ∷ 0xA2 ∷ 0x03 ∷ 0x02 ∷ 0x01 ∷ 0x01 ∷ 0xA2 ∷ 0x03 ∷ 0x02 ∷ 0x01 ∷ 0x01 ∷ 0xA2 ∷ 0x03 ∷ 0x02 ∷ 0x01 ∷ 0x01 ∷ 0xA2 ∷ 0x03 ∷ 0x02 ∷ 0x01 ∷ 0x01 ∷ 0xA2 ∷ 0x03 ∷ 0x02 ∷ 0x01 ∷ 0x01 ∷ 0xA2 ∷ 0x03 ∷ 0x02 ∷ 0x01 ∷ 0x01 ∷ 0xA2 ∷ 0x03 ∷ 0x02 ∷ 0x01 ∷ 0x01 ∷ 0x00 ∷ 0x05 ∷ []; outcome = refuses FaultKind.Seventeenth 87 (origAt 4 1) (Answer.AbortCause 4) }
+    ∷ (hex "62 57 48 01 05 6C 80" ++ times 16 (hex "A2 03 02 01 01") ++ hex "00 05", refuses 12 87 (origAt 4 1) (cause 4))
     -- the end of the contents is asked before a 17th component
-    ∷ record { octets = 0x62 ∷ 0x56 ∷ 0x48 ∷ 0x01 ∷ 0x05 ∷ 0x6C ∷ 0x80 ∷ 0xA2 ∷ 0x03 ∷ 0x02 ∷ 0x01 ∷ 0x01 ∷ 0xA2 ∷ 0x03 ∷ 0x02 ∷ 0x01 ∷ 0x01 ∷ 0xA2 ∷ 0x03 ∷ 0x02 ∷ 0x01 ∷ 0x01 ∷ 0xA2 ∷ 0x03 ∷ 0x02 ∷ 0x01 ∷ 0x01 ∷ 0xA2 ∷ 0x03 ∷ 0x02 ∷ 0x01 ∷ 0x01 ∷ 0xA2 ∷ 0x03 ∷ 0x02 ∷ 0x01 ∷ 0x01 ∷ 0xA2 ∷ 0x03 ∷ 0x02 ∷ 0x01 ∷ 0x01 ∷ 0xA2 ∷ 0x03 ∷ 0x02 ∷ 0x01 ∷ 0x01 ∷ 0xA2 ∷ 0x03 ∷ 0x02 ∷ 0x01 ∷ 0x01 ∷ 0xA2 ∷ 0x03 ∷ 0x02 ∷ 0x01 ∷ 0x01 ∷ 0xA2 ∷ 0x03 ∷ 0x02 ∷ 0x01 ∷ 0x01 ∷ 0xA2 ∷ 0x03 ∷ 0x02 ∷ 0x01 ∷ 0x01 ∷ 0xA2 ∷ 0x03 ∷ 0x02 ∷ 0x01 ∷ 0x01 ∷ 0xA2 ∷ 0x03 ∷ 0x02 ∷ 0x01 ∷ 0x01 ∷ 0xA2 ∷ 0x03 ∷ 0x02 ∷ 0x01 ∷ 0x01 ∷ 0xA2 ∷ 0x03 ∷ 0x02 ∷ 0x01 ∷ 0x01 ∷ 0x00 ∷ []; outcome = refuses FaultKind.CutOff 87 (origAt 4 1) (Answer.AbortCause 2) }
+    ∷ (hex "62 56 48 01 05 6C 80" ++ times 16 (hex "A2 03 02 01 01") ++ hex "00", refuses 1 87 (origAt 4 1) (cause 2))
     -- level 17
-    ∷ record { octets = 0x62 ∷ 0x80 ∷ 0x48 ∷ 0x01 ∷ 0x05 ∷ 0x6C ∷ 0x80 ∷ 0xA1 ∷ 0x80 ∷ 0x02 ∷ 0x01 ∷ 0x01 ∷ 0x02 ∷ 0x01 ∷ 0x01 ∷ 0x30 ∷ 0x80 ∷ 0x30 ∷ 0x80 ∷ 0x30 ∷ 0x80 ∷ 0x30 ∷ 0x80 ∷ 0x30 ∷ 0x80 ∷ 0x30 ∷ 0x80 ∷ 0x30 ∷ 0x80 ∷ 0x30 ∷ 0x80 ∷ 0x30 ∷ 0x80 ∷ 0x30 ∷ 0x80 ∷ 0x30 ∷ 0x80 ∷ 0x30 ∷ 0x80 ∷ 0x30 ∷ 0x80 ∷ 0x04 ∷ 0x00 ∷ []; outcome = refuses FaultKind.TooDeep 41 (origAt 4 1) (Answer.RejectProblem 2 0 (InvokeId.Id (pos 1))) }
+    ∷ (hex "62 80 48 01 05 6C 80 A1 80 02 01 01 02 01 01" ++ times 13 (hex "30 80") ++ hex "04 00", refuses 5 41 (origAt 4 1) (problem 2 0 (id 1)))
     -- code 0 before the level
-    ∷ record { octets = 0x62 ∷ 0x80 ∷ 0x48 ∷ 0x01 ∷ 0x05 ∷ 0x6C ∷ 0x80 ∷ 0xA1 ∷ 0x80 ∷ 0x02 ∷ 0x01 ∷ 0x01 ∷ 0x02 ∷ 0x01 ∷ 0x01 ∷ 0x30 ∷ 0x80 ∷ 0x30 ∷ 0x80 ∷ 0x30 ∷ 0x80 ∷ 0x30 ∷ 0x80 ∷ 0x30 ∷ 0x80 ∷ 0x30 ∷ 0x80 ∷ 0x30 ∷ 0x80 ∷ 0x30 ∷ 0x80 ∷ 0x30 ∷ 0x80 ∷ 0x30 ∷ 0x80 ∷ 0x30 ∷ 0x80 ∷ 0x30 ∷ 0x80 ∷ 0x30 ∷ 0x80 ∷ 0x20 ∷ 0x00 ∷ []; outcome = refuses FaultKind.CodeZero 41 (origAt 4 1) (Answer.RejectProblem 2 0 (InvokeId.Id (pos 1))) }
+    ∷ (hex "62 80 48 01 05 6C 80 A1 80 02 01 01 02 01 01" ++ times 13 (hex "30 80") ++ hex "20 00", refuses 6 41 (origAt 4 1) (problem 2 0 (id 1)))
     -- the level before the length
-    ∷ record { octets = 0x62 ∷ 0x80 ∷ 0x48 ∷ 0x01 ∷ 0x05 ∷ 0x6C ∷ 0x80 ∷ 0xA1 ∷ 0x80 ∷ 0x02 ∷ 0x01 ∷ 0x01 ∷ 0x02 ∷ 0x01 ∷ 0x01 ∷ 0x30 ∷ 0x80 ∷ 0x30 ∷ 0x80 ∷ 0x30 ∷ 0x80 ∷ 0x30 ∷ 0x80 ∷ 0x30 ∷ 0x80 ∷ 0x30 ∷ 0x80 ∷ 0x30 ∷ 0x80 ∷ 0x30 ∷ 0x80 ∷ 0x30 ∷ 0x80 ∷ 0x30 ∷ 0x80 ∷ 0x30 ∷ 0x80 ∷ 0x30 ∷ 0x80 ∷ 0x30 ∷ 0x80 ∷ 0x04 ∷ 0xFF ∷ []; outcome = refuses FaultKind.TooDeep 41 (origAt 4 1) (Answer.RejectProblem 2 0 (InvokeId.Id (pos 1))) }
+    ∷ (hex "62 80 48 01 05 6C 80 A1 80 02 01 01 02 01 01" ++ times 13 (hex "30 80") ++ hex "04 FF", refuses 5 41 (origAt 4 1) (problem 2 0 (id 1)))
     ∷ []
 
-pub ordered : map (λ (f : Fault). outcomeOf (f .octets)) faults ≡ map (λ (f : Fault). f .outcome) faults
-unfolding outcomeOf
+pub ordered : AsTold faults
+unfolding told
 ordered = refl
 
 -- the level is asked before the expected tag, which 16 levels never show: with 2 levels a component of unknown tag is too deep
-pub level-first : outcomeUpTo 2 (0x62 ∷ 0x07 ∷ 0x48 ∷ 0x01 ∷ 0x05 ∷ 0x6C ∷ 0x02 ∷ 0xA5 ∷ 0x00 ∷ []) ≡ refuses FaultKind.TooDeep 7 (origAt 4 1) (Answer.RejectProblem 2 0 InvokeId.Null)
-unfolding outcomeUpTo
+pub level-first : toldUpTo 2 (hex "62 07 48 01 05 6C 02 A5 00") ≡ refuses 5 7 (origAt 4 1) (problem 2 0 InvokeId.Null)
+unfolding toldUpTo
 level-first = refl
+
+abbrev pub carriers : List (List ℕ × Told)
+carriers =
+    -- a refused Continue has its originating ID, at whatever later place the fault is: in the destination ID, behind it, in a component, behind the message
+    (hex "65 05 48 01 05 49 00", refuses 11 5 (origAt 4 1) (cause 3))
+    ∷ (hex "65 08 48 01 05 49 01 06 04 00", refuses 10 8 (origAt 4 1) (cause 3))
+    ∷ (hex "65 0F 48 01 05 49 01 06 6C 07 A2 05 02 01 07 04 00", refuses 10 15 (origAt 4 1) (problem 1 0 (id 7)))
+    ∷ (hex "65 06 48 01 05 49 01 06 00", refuses 9 8 (origAt 4 1) (cause 2))
+    -- but none before it was read whole
+    ∷ (hex "65 07 48 05 01 02 03 04 05", refuses 11 2 OptionalOrig.NoOrig (cause 3))
+    -- a refused End has none, nor has an Abort, nor a Unidirectional
+    ∷ (hex "64 02 49 00", refuses 11 2 OptionalOrig.NoOrig (cause 3))
+    ∷ (hex "64 05 49 01 05 04 00", refuses 10 5 OptionalOrig.NoOrig (cause 3))
+    ∷ (hex "64 03 49 01 05 00", refuses 9 5 OptionalOrig.NoOrig (cause 2))
+    ∷ (hex "67 05 49 01 05 6C 00", refuses 10 5 OptionalOrig.NoOrig (cause 3))
+    ∷ (hex "61 02 04 00", refuses 10 2 OptionalOrig.NoOrig (cause 3))
+    ∷ (hex "61 09 6C 07 A2 05 02 01 07 04 00", refuses 10 9 OptionalOrig.NoOrig (problem 1 0 (id 7)))
+    -- 11 in each kind of component, with its index and its invoke ID: in the linked ID and the code of an Invoke
+    ∷ (hex "62 11 48 01 05 6C 0C A1 0A 02 01 07 80 02 00 01 02 01 2D", refuses 11 12 (origAt 4 1) (problem 1 0 (id 7)))
+    ∷ (hex "62 0E 48 01 05 6C 09 A1 07 02 01 07 02 02 00 7F", refuses 11 12 (origAt 4 1) (problem 1 0 (id 7)))
+    ∷ (hex "62 0E 48 01 05 6C 09 A1 07 02 01 07 06 02 2A 80", refuses 11 12 (origAt 4 1) (problem 1 0 (id 7)))
+    -- in the code of a Return Result, Last and Not Last
+    ∷ (hex "62 13 48 01 05 6C 0E A2 0C 02 01 07 30 07 02 02 FF 80 04 01 00", refuses 11 14 (origAt 4 1) (problem 1 0 (id 7)))
+    ∷ (hex "62 12 48 01 05 6C 0D A7 0B 02 01 07 30 06 06 01 80 04 01 00", refuses 11 14 (origAt 4 1) (problem 1 0 (id 7)))
+    -- in the code of a Return Error
+    ∷ (hex "62 11 48 01 05 6C 0C A3 0A 02 01 07 02 05 01 00 00 00 00", refuses 11 12 (origAt 4 1) (problem 1 0 (id 7)))
+    -- in the problem of a Reject, whose ID is there
+    ∷ (hex "62 0D 48 01 05 6C 08 A4 06 02 01 07 80 01 03", refuses 11 12 (origAt 4 1) (problem 1 0 (id 7)))
+    ∷ (hex "62 0D 48 01 05 6C 08 A4 06 02 01 07 81 01 08", refuses 11 12 (origAt 4 1) (problem 1 0 (id 7)))
+    ∷ (hex "62 0D 48 01 05 6C 08 A4 06 02 01 07 82 01 03", refuses 11 12 (origAt 4 1) (problem 1 0 (id 7)))
+    ∷ (hex "62 0D 48 01 05 6C 08 A4 06 02 01 07 83 01 05", refuses 11 12 (origAt 4 1) (problem 1 0 (id 7)))
+    -- or null, which is none
+    ∷ (hex "62 0C 48 01 05 6C 07 A4 05 05 00 80 01 03", refuses 11 11 (origAt 4 1) (problem 1 0 InvokeId.Null))
+    -- and in the ID itself, of which none is told
+    ∷ (hex "62 0E 48 01 05 6C 09 A1 07 02 02 00 01 02 01 2D", refuses 11 9 (origAt 4 1) (problem 1 0 InvokeId.Null))
+    ∷ (hex "62 0A 48 01 05 6C 05 A4 03 05 01 00", refuses 11 9 (origAt 4 1) (problem 1 0 InvokeId.Null))
+    -- the invoke ID is signed; it and the index are those of the component at fault
+    ∷ (hex "62 11 48 01 05 6C 0C A2 03 02 01 01 A3 05 02 01 80 04 00", refuses 10 17 (origAt 4 1) (problem 1 1 (InvokeId.Id (negsuc 127))))
+    ∷ []
+
+pub carried-along : AsTold carriers
+unfolding told
+carried-along = refl
