@@ -193,7 +193,7 @@ someMay (name r) = true
 someMay (many x) = true
 someMay (components x k) = true
 
--- the position of a component, and that of a 17th
+-- the position of a component: so many stand before it
 abbrev pub position : Parts → Option ℕ
 position end = none
 position (must x r) = none
@@ -202,6 +202,7 @@ position (name r) = none
 position (many x) = none
 position (components x k) = some k
 
+-- what is asked of a primitive's contents
 abbrev pub passes : Holds → List ℕ → Bool
 passes (octets fits) c = fits c
 passes origId c = between 1 4 c
@@ -209,6 +210,7 @@ passes invokeId c = integerOk 1 c
 passes (parts r) c = false
 passes (dialogue r) c = false
 
+-- what is to come in a constructor
 abbrev pub contentsOf : Holds → Option Parts
 contentsOf (octets fits) = none
 contentsOf origId = none

@@ -19,6 +19,7 @@ aloneBody limit x =
     place (level limit) none (x .mine) FaultKind.NoMessage
     (λ d h p part. next (x .contents h p part) (λ v n. blamed (learnt v) (check (eqb n (length part)) (at FaultKind.OctetsAfter (p + n)) (got v n))))
 
+-- 8 goes by the first octet alone, before tag and level; `aloneBody` asks for the same tags, so its own 8 never answers
 unfoldable pub readFirst : ℕ → Item (Message Text) → List ℕ → Got (Message Text)
 readFirst limit x [] = bad (at FaultKind.CutOff 0)
 readFirst limit x (a ∷ r) = check (x .mine a) (at FaultKind.NoMessage 0) (ask (aloneBody limit x) true 0 (a ∷ r))

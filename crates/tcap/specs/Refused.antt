@@ -10,6 +10,10 @@ use Rattle.tcap.specs.{declared.OptionalOrig.OptionalOrig, declared.Refu
 
 -- Octets that are right
 
+-- there is room here: this is not the position of a 17th component
+abbrev pub Room : Parts → Type 0
+Room r = position r ≡ some 16 → ⊥
+
 mutual
   -- n octets at the front of a part, which begins at place p, are an element at level l, with first octet a, that holds h, to its bottom; then the
   -- place of its contents, and these (of an indefinite one, from there to the end of the part)
@@ -21,7 +25,7 @@ mutual
   -- k octets at the front of a part are what is due in contents at level l, up to their end; d: the contents are definite
   pub data Fits (limit : ℕ) : ℕ → Parts → Bool → ℕ → List ℕ → ℕ → Type 0 where
     nothing : {l p : ℕ} {r : Parts} {d : Bool} {part : List ℕ} → endOf d part ≡ EndRead.Ended → mayEnd r ≡ true → Fits limit l r d p part 0
-    also : {l a p n k : ℕ} {r : Parts} {h : Holds} {d : Bool} {part : List ℕ} {x : Text} → (position r ≡ some 16 → ⊥) → due r a ≡ some h → Right limit l a h p part n x → Fits limit l (behind r a (x .1)) d (p + n) (drop n part) k → Fits limit l r d p part (n + k)
+    also : {l a p n k : ℕ} {r : Parts} {h : Holds} {d : Bool} {part : List ℕ} {x : Text} → Room r → due r a ≡ some h → Right limit l a h p part n x → Fits limit l (behind r a (x .1)) d (p + n) (drop n part) k → Fits limit l r d p part (n + k)
 
 -- Where a place is
 
@@ -56,12 +60,12 @@ told (dialogue r) x s = s
 pub data Trail (limit : ℕ) (m : List ℕ) : ℕ → Bool → Parts → Known → ℕ → List ℕ → Type 0 where
   top : Trail limit m 1 true (must message end) (known portion portion none none) 0 m
   -- into the contents of an element that may stand here
-  into : {l a u n p : ℕ} {d : Bool} {r q : Parts} {h : Holds} {c o : Owner} {i : Option ℤ} {t : Option Text} {part : List ℕ} → Trail limit m l d r (known c o i t) p part → l ≤ limit → (position r ≡ some 16 → ⊥) → due r a ≡ some h → contentsOf h ≡ some q → Definitely part a u n
+  into : {l a u n p : ℕ} {d : Bool} {r q : Parts} {h : Holds} {c o : Owner} {i : Option ℤ} {t : Option Text} {part : List ℕ} → Trail limit m l d r (known c o i t) p part → l ≤ limit → Room r → due r a ≡ some h → contentsOf h ≡ some q → Definitely part a u n
       → Trail limit m (suc l) true q (known (whose (position r) o) (inside h (whose (position r) o)) i t) (p + u) (take n (drop u part))
-  intoEndless : {l a u p : ℕ} {d : Bool} {r q : Parts} {h : Holds} {c o : Owner} {i : Option ℤ} {t : Option Text} {part : List ℕ} → Trail limit m l d r (known c o i t) p part → l ≤ limit → (position r ≡ some 16 → ⊥) → due r a ≡ some h → contentsOf h ≡ some q → Endlessly part a u
+  intoEndless : {l a u p : ℕ} {d : Bool} {r q : Parts} {h : Holds} {c o : Owner} {i : Option ℤ} {t : Option Text} {part : List ℕ} → Trail limit m l d r (known c o i t) p part → l ≤ limit → Room r → due r a ≡ some h → contentsOf h ≡ some q → Endlessly part a u
       → Trail limit m (suc l) false q (known (whose (position r) o) (inside h (whose (position r) o)) i t) (p + u) (drop u part)
   -- past an element that may stand here and is right; past the message is no place
-  past : {l a p n : ℕ} {d : Bool} {r : Parts} {h : Holds} {s : Known} {part : List ℕ} {x : Text} → Trail limit m l d r s p part → 2 ≤ l → (position r ≡ some 16 → ⊥) → due r a ≡ some h → Right limit l a h p part n x
+  past : {l a p n : ℕ} {d : Bool} {r : Parts} {h : Holds} {s : Known} {part : List ℕ} {x : Text} → Trail limit m l d r s p part → 2 ≤ l → Room r → due r a ≡ some h → Right limit l a h p part n x
       → Trail limit m l d (behind r a (x .1)) (told h x s) (p + n) (drop n part)
 
 -- What is wrong with the octets at a place
@@ -125,7 +129,7 @@ pub data Wrong (limit l : ℕ) (d : Bool) (r : Parts) (part : List ℕ) (c o : O
   -- a 17th component (12)
   seventeenth : endOf d part ≡ EndRead.More → position r ≡ some 16 → Wrong limit l d r part c o FaultKind.Seventeenth c
   -- an element
-  element : {k : FaultKind} → endOf d part ≡ EndRead.More → (position r ≡ some 16 → ⊥) → Faulty limit l r part k → Wrong limit l d r part c o k o
+  element : {k : FaultKind} → endOf d part ≡ EndRead.More → Room r → Faulty limit l r part k → Wrong limit l d r part c o k o
 
 -- The message
 
