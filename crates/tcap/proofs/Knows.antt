@@ -3,11 +3,12 @@
 use Prim.Native.Nat.{ℕ, suc, _+_, _≤_, _<_}
 use mathlib.Core.Path.{_≡_, refl, sym, ap, _∙_}
 use mathlib.Core.Logic.{_⊎_, inl, inr}
-use mathlib.Core.Bool.{Bool, true, false, false≢true}
+use mathlib.Core.Bool.{Bool, true, false, cond}
 use mathlib.Core.List.{List, [], _∷_, _++_}
 use mathlib.Core.Option.{Option, none, some}
 use native.Mathlib.Omega.{arith}
 use lib.ListN.{length, drop}
+use lib.Dec.{eqb}
 use lib.IntN.{ℤ}
 use Rattle.primitive.specs.Primitive.{signedOf}
 use Rattle.element.specs.Element.{Definitely, Endlessly}
@@ -16,10 +17,11 @@ use Rattle.element.specs.declared.FaultKind.{FaultKind}
 use Rattle.element.specs.declared.EndRead.the-variants.{Ended as ended, More as more}
 use Rattle.element.specs.Head.{endOf}
 use Rattle.element.proofs.Laid.{nothing-ends}
-use Rattle.tcap.specs.Due.{Parts, end, must, Choice, tag, either, any, Holds, octets, origId, invokeId, parts, dialogue, message, find, due, behind, someMay, position, contentsOf}
+use Rattle.tcap.specs.Due.{Parts, end, must, Choice, tag, either, any, Holds, octets, origId, invokeId, parts, dialogue, unidirectional, begin, finish, continue, abort, message, find, due, contentsOf, orElse}
 use Rattle.tcap.specs.Refused.{Right, Known, known, told, Trail, top, into, intoEndless, past, Tagged, Unfit, unknown, another, tooMany, noPair, missing, seventeenth, element, found, after, Refuses, overlong, noOctets, noMessage, within}
 use Rattle.tcap.proofs.Fronts.{definite-some, endless-some, right-some}
-use Rattle.tcap.proofs.Found.{same-some}
+use Rattle.tcap.proofs.Found.{same-some, tag-held}
+use Rattle.tcap.proofs.FoundMessage.{trail-low}
 use Rattle.tcap.proofs.OneFault.{none-some}
 use Rattle.tcap.proofs.OneRefusal.{same-front}
 use Rattle.tcap.proofs.DueExactly.{rank, faulty-strange}
@@ -85,6 +87,56 @@ invoke-stands {limit} {m} j (past {h = h} {s = s} {x = y} w k free is u) e = cho
     choose : ((invokeId ≡ h) × (signedOf (y .1) ≡ j)) ⊎ (invokeKnown s ≡ some j) → (invokeKnown s ≡ some j → (x : Text) × (j ≡ signedOf (x .1)) × Stood limit m invokeId x) → (x : Text) × (j ≡ signedOf (x .1)) × Stood limit m invokeId x
     choose (inl (f, g)) k = (y, sym g, stood invokeId y w is u f refl)
     choose (inr f) k = k f
+
+-- In a Begin or Continue, the originating ID is not known only where it is due
+
+opens : (b c d e f : Bool) (h : Holds) (n : Parts)
+    → orElse (cond b (some (parts unidirectional)) none) (orElse (cond c (some (parts begin)) none) (orElse (cond d (some (parts finish)) none) (orElse (cond e (some (parts continue)) none) (cond f (some (parts abort)) none)))) ≡ some h
+    → contentsOf h ≡ some n → due n 0x48 ≡ some origId → (begin ≡ n) ⊎ (continue ≡ n)
+opens true c d e f h n x y z = let k = same-some (ap contentsOf (same-some x) ∙ y) in nothing-ends (ap (λ (r : Parts). due r 0x48) k ∙ z)
+opens false true d e f h n x y z = inl (same-some (ap contentsOf (same-some x) ∙ y))
+opens false false true e f h n x y z = let k = same-some (ap contentsOf (same-some x) ∙ y) in nothing-ends (ap (λ (r : Parts). due r 0x48) k ∙ z)
+opens false false false true f h n x y z = inr (same-some (ap contentsOf (same-some x) ∙ y))
+opens false false false false true h n x y z = let k = same-some (ap contentsOf (same-some x) ∙ y) in nothing-ends (ap (λ (r : Parts). due r 0x48) k ∙ z)
+opens false false false false false h n x y z = nothing-ends x
+
+-- nothing else is due there
+opens-alone : {n : Parts} (b : ℕ) (g : Holds) → (begin ≡ n) ⊎ (continue ≡ n) → due n b ≡ some g → origId ≡ g
+opens-alone b g (inl e) is = tag-held b 0x48 origId g (ap (λ (r : Parts). due r b) e ∙ is) .1
+opens-alone b g (inr e) is = tag-held b 0x48 origId g (ap (λ (r : Parts). due r b) e ∙ is) .1
+
+trail-one : {limit : ℕ} {m : List ℕ} {l p : ℕ} {d : Bool} {r : Parts} {s : Known} {part : List ℕ} → Trail limit m l d r s p part → l ≡ 1 → (part ≡ m) × (r ≡ must message end)
+trail-one top e = (refl, refl)
+trail-one {limit} {m} (into w j free is z y) e = absurd (omega (arith, trail-low limit m w))
+trail-one {limit} {m} (intoEndless w j free is z y) e = absurd (omega (arith, trail-low limit m w))
+trail-one (past w j free is u) e = absurd (omega arith)
+
+not-told : (g : Holds) (x : Text) (s : Known) → origId ≡ g → origKnown (told g x s) ≡ none → ⊥
+not-told g x (known c o i t) e f = let k : origKnown (told origId x (known c o i t)) ≡ none = rw (← e) at f in let z : _≡_ {A = ℕ} 0 1 = cc in omega arith
+
+still-none : (h : Holds) (x : Text) (s : Known) → origKnown (told h x s) ≡ none → origKnown s ≡ none
+still-none (octets fits) x (known c o i t) e = e
+still-none origId x (known c o i t) e = let z : _≡_ {A = ℕ} 0 1 = cc in absurd (omega arith)
+still-none invokeId x (known c o i t) e = e
+still-none (parts r) x (known c o i t) e = e
+still-none (dialogue r) x (known c o i t) e = e
+
+module _ (limit : ℕ) {m : List ℕ} (a : ℕ) (q : List ℕ) (h : Holds) (n : Parts) (e : m ≡ a ∷ q) (z : find message a ≡ some h) (c : contentsOf h ≡ some n) (f : due n 0x48 ≡ some origId) where
+  -- the contents that the message opens
+  opened : (r : Parts) (b : ℕ) (g : Holds) (k : Parts) (part y : List ℕ) → (part ≡ m) × (r ≡ must message end) → due r b ≡ some g → contentsOf g ≡ some k → part ≡ b ∷ y → k ≡ n
+  opened r b g k part y (x, w) is u v =
+      let same : b ≡ a = same-front v (x ∙ e) in
+      let held : find message b ≡ some g = ap (λ (r : Parts). due r b) (sym w) ∙ is in
+      let like : g ≡ h = same-some (sym held ∙ ap (find message) same ∙ z) in
+      same-some (sym u ∙ ap contentsOf like ∙ c)
+
+  pub orig-told : {l p : ℕ} {d : Bool} {r : Parts} {s : Known} {part : List ℕ} → Trail limit m l d r s p part → l ≡ 2 → origKnown s ≡ none → r ≡ n
+  orig-told top k o = absurd (omega arith)
+  orig-told (into {a = b} {d = d} {r = r} {q = k} {h = g} {part = part} w j free is u y) l o = opened r b g k part _ (trail-one w (omega arith)) is u (y .front)
+  orig-told (intoEndless {a = b} {d = d} {r = r} {q = k} {h = g} {part = part} w j free is u y) l o = opened r b g k part _ (trail-one w (omega arith)) is u (y .front)
+  orig-told (past {a = b} {r = r} {h = g} {s = s} {x = x} w j free is u) l o =
+      let same : r ≡ n = orig-told w l (still-none g x s o) in
+      absurd (not-told g x s (opens-alone b g (opens (eqb a 0x61) (eqb a 0x62) (eqb a 0x64) (eqb a 0x65) (eqb a 0x67) h n z c f) (ap (λ (r : Parts). due r b) (sym same) ∙ is)) o)
 
 -- At place 0
 
