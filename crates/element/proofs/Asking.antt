@@ -74,7 +74,7 @@ not-zero : (a : ℕ) → codeZero a ≡ false → eqb a 0 ≡ false
 unfolding codeZero
 not-zero a e = or-left (eqb a 0) (eqb a 32) e
 
-more-first : (d : Bool) (a : ℕ) (r : List ℕ) → eqb a 0 ≡ false → endOf d (a ∷ r) ≡ more
+pub more-first : (d : Bool) (a : ℕ) (r : List ℕ) → eqb a 0 ≡ false → endOf d (a ∷ r) ≡ more
 unfolding endOf
 more-first true a r e = refl
 more-first false a [] e = rw e

@@ -31,19 +31,19 @@ cond-all P false x y f g = g refl
 -- The tag
 
 -- what `tagOf` gives, by its first octets
-tag-plain : (a : ℕ) (r : List ℕ) → tagOf (a ∷ r) ≡ cond (extendedOf a) (first (a ∷ r)) (tag a 1)
+pub tag-plain : (a : ℕ) (r : List ℕ) → tagOf (a ∷ r) ≡ cond (extendedOf a) (first (a ∷ r)) (tag a 1)
 unfolding tagOf
 tag-plain a r = rw (ne-eqb (length (a ∷ r)) 0 (λ q. omega arith))
 
-tag-first : (a x : ℕ) (r : List ℕ) → first (a ∷ x ∷ r) ≡ cond (eqb x 128) (tagFault BadTag) (cond (ltb x 31) (tagFault BadTag) (cond (ltb x 128) (tag a 2) (second (a ∷ x ∷ r))))
+pub tag-first : (a x : ℕ) (r : List ℕ) → first (a ∷ x ∷ r) ≡ cond (eqb x 128) (tagFault BadTag) (cond (ltb x 31) (tagFault BadTag) (cond (ltb x 128) (tag a 2) (second (a ∷ x ∷ r))))
 unfolding first
 tag-first a x r = rw (lt-leb (length (a ∷ x ∷ r)) 1 (omega arith))
 
-tag-second : (a x y : ℕ) (r : List ℕ) → second (a ∷ x ∷ y ∷ r) ≡ cond (ltb y 128) (tag a 3) (third (a ∷ x ∷ y ∷ r))
+pub tag-second : (a x y : ℕ) (r : List ℕ) → second (a ∷ x ∷ y ∷ r) ≡ cond (ltb y 128) (tag a 3) (third (a ∷ x ∷ y ∷ r))
 unfolding second
 tag-second a x y r = rw (lt-leb (length (a ∷ x ∷ y ∷ r)) 2 (omega arith))
 
-tag-third : (a x y z : ℕ) (r : List ℕ) → third (a ∷ x ∷ y ∷ z ∷ r) ≡ cond (ltb z 128) (tag a 4) (tagFault BadTag)
+pub tag-third : (a x y z : ℕ) (r : List ℕ) → third (a ∷ x ∷ y ∷ z ∷ r) ≡ cond (ltb z 128) (tag a 4) (tagFault BadTag)
 unfolding third
 tag-third a x y z r = rw (lt-leb (length (a ∷ x ∷ y ∷ z ∷ r)) 3 (omega arith))
 
@@ -97,14 +97,14 @@ unfolding within
 within-known size n room h = rw (le-leb n room h)
 
 -- what `lengthOf` gives, by its first octet
-length-cons : (b : ℕ) (r : List ℕ) (c : Bool) → lengthOf (b ∷ r) c
+pub length-cons : (b : ℕ) (r : List ℕ) (c : Bool) → lengthOf (b ∷ r) c
     ≡ cond (ltb b 128) (within 1 b (length r)) (cond (leb 255 b) (lengthFault BadLength) (cond (eqb b 128) (cond c endless (lengthFault BadLength)) (longOf (b ∷ r) (b - 128))))
 unfolding lengthOf
 length-cons b r c =
     let e : length (b ∷ r) - 1 ≡ length r = omega arith in
     rw (ne-eqb (length (b ∷ r)) 0 (λ q. omega arith), e)
 
-long-cons : (b : ℕ) (r : List ℕ) (k : ℕ) → longOf (b ∷ r) k
+pub long-cons : (b : ℕ) (r : List ℕ) (k : ℕ) → longOf (b ∷ r) k
     ≡ cond (ltb (length r) k) (lengthFault CutOff) (cond (fewestOf (getD r 0 0) k) (within (suc k) (numberFrom 0 (take k r)) (length r - k)) (lengthFault BadLength))
 unfolding longOf
 long-cons b r k = let e : length (b ∷ r) - 1 ≡ length r = omega arith in rw e
@@ -140,7 +140,7 @@ within-is : (p : List ℕ) (c : Bool) (size n room : ℕ) → (n ≤ room → St
 unfolding within LengthIs
 within-is p c size n room h = cond-all (LengthIs p c) (leb n room) _ _ (λ e. h (leb-true n room e)) (λ _. tt)
 
-take-first : (k : ℕ) (r : List ℕ) → 1 ≤ k → getD (take k r) 0 0 ≡ getD r 0 0
+pub take-first : (k : ℕ) (r : List ℕ) → 1 ≤ k → getD (take k r) 0 0 ≡ getD r 0 0
 take-first zero r h = absurd (omega arith)
 take-first (suc k) [] h = refl
 take-first (suc k) (x ∷ r) h = refl

@@ -12,3 +12,6 @@ pub mod Walking
 pub mod Moved
 pub mod Ends
 pub mod Laid
+pub mod Alike
+pub mod Looked
+pub mod Local

@@ -5,7 +5,7 @@ use Prim.Native.String.{String}
 use mathlib.Core.Path.{_≡_}
 use mathlib.Core.Bool.{cond}
 use mathlib.Core.List.{List, [], _∷_, _++_, map}
-use mathlib.Core.Option.{Option·map, Option, none, some, bind}
+use mathlib.Core.Option.{Option·map, Option, none, bind}
 use lib.Dec.{ltb}
 use Rattle.base.specs.Text.{text}
 use Rattle.base.specs.Number.{numberFrom, octetsIn, topOf, signedAt, bitsAt, holds}

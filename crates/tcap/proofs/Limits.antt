@@ -1,9 +1,9 @@
 -- The numbers of document 01 at their edges, its names and its version: each row just within or just outside. And what is refused
 -- although Q.773 allows it. Assumes nothing.
 use Prim.Native.Nat.{ℕ}
-use mathlib.Core.Path.{_≡_, refl}
+use mathlib.Core.Path.{refl}
 use mathlib.Core.List.{List, [], _∷_, _++_}
-use lib.IntN.{ℤ, pos, negsuc}
+use lib.IntN.{pos}
 use Rattle.tcap.specs.declared.{OptionalSpan.OptionalSpan, OptionalOrig.OptionalOrig, OptionalDest.OptionalDest, LinkedId.LinkedId, Code.Code, Returned.Returned, ComponentKind.ComponentKind, Diagnostic.Diagnostic, Dialogue.Dialogue, MessageKind.MessageKind}
 use Rattle.tcap.proofs.Computing.{Told, AsTold, reads, told, hex, times}
 use Rattle.tcap.proofs.Specimens.{spanAt, origAt, destAt, id, component, invokes, kept, begun, refuses, cause, problem}

@@ -3,7 +3,7 @@
 use Prim.Native.Nat.{ℕ}
 use mathlib.Core.Path.{_≡_, refl}
 use mathlib.Core.List.{List, [], _∷_, _++_}
-use lib.IntN.{ℤ, pos, negsuc}
+use lib.IntN.{negsuc}
 use Rattle.tcap.specs.declared.{OptionalOrig.OptionalOrig, InvokeId.InvokeId}
 use Rattle.tcap.proofs.Computing.{Told, AsTold, told, toldUpTo, hex, times}
 use Rattle.tcap.proofs.Specimens.{origAt, id, refuses, cause, problem}
