@@ -40,6 +40,20 @@ faults =
     ∷ (hex "62 0B 48 01 05 6C 06 A2 04 22 02 05 00", refuses 10 9 (origAt 4 1) (problem 1 0 InvokeId.Null))
     -- what the sources allow beyond the page is another element
     ∷ (hex "62 0E 48 01 05 6B 09 28 07 06 01 2A 82 02 00 FF", refuses 10 12 (origAt 4 1) (cause 3))
+    -- code 0 directly in 6B is inside it
+    ∷ (hex "62 07 48 01 05 6B 02 00 05", refuses 6 7 (origAt 4 1) (cause 3))
+    -- an element that may not stand there is refused where it stands, and not skipped
+    ∷ (hex "62 0C 48 01 05 04 00 6C 05 A2 03 02 01 01", refuses 10 5 (origAt 4 1) (cause 3))
+    -- a part that may be left out comes once: 6B, 6C, cause, linked ID, parameter, 30, version, BE
+    ∷ (hex "62 15 48 01 05 6B 07 28 05 06 01 2A 81 00 6B 07 28 05 06 01 2A 81 00", refuses 10 14 (origAt 4 1) (cause 3))
+    ∷ (hex "62 11 48 01 05 6C 05 A2 03 02 01 01 6C 05 A2 03 02 01 01", refuses 10 12 (origAt 4 1) (cause 3))
+    ∷ (hex "62 13 48 01 05 6C 05 A2 03 02 01 01 6B 07 28 05 06 01 2A 81 00", refuses 10 12 (origAt 4 1) (cause 3))
+    ∷ (hex "67 09 49 01 05 4A 01 00 4A 01 00", refuses 10 8 OptionalOrig.NoOrig (cause 3))
+    ∷ (hex "62 13 48 01 05 6C 0E A1 0C 02 01 01 80 01 02 80 01 02 02 01 2D", refuses 10 15 (origAt 4 1) (problem 1 0 (id 1)))
+    ∷ (hex "62 11 48 01 05 6C 0C A1 0A 02 01 01 02 01 2D 04 00 04 00", refuses 10 17 (origAt 4 1) (problem 1 0 (id 1)))
+    ∷ (hex "62 18 48 01 05 6C 13 A7 11 02 01 01 30 05 02 01 2D 04 00 30 05 02 01 2D 04 00", refuses 10 19 (origAt 4 1) (problem 1 0 (id 1)))
+    ∷ (hex "62 21 48 01 05 6B 1C 28 1A 06 07 00 11 86 05 01 01 01 A0 0F 60 0D 80 02 07 80 80 02 07 80 A1 03 06 01 2A", refuses 10 26 (origAt 4 1) (cause 3))
+    ∷ (hex "62 1D 48 01 05 6B 18 28 16 06 07 00 11 86 05 01 01 01 A0 0B 60 09 A1 03 06 01 2A BE 00 BE 00", refuses 10 29 (origAt 4 1) (cause 3))
     -- 3 even where the contents pass the end
     ∷ (hex "62 03 48 81 7F", refuses 3 2 OptionalOrig.NoOrig (cause 2))
     -- a length in four octets that passes the end
