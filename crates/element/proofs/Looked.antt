@@ -11,7 +11,7 @@ use lib.ListN.{length, getD, take, drop, length-append, length-take, length-drop
 use lib.Seq.{take-take, take-length, length-take-le}
 use lib.Dec.{ltb, eqb}
 use borrow.Author.Tests.{eqb-true}
-use Rattle.element.specs.Element.{constructorOf, codeZero, extendedOf}
+use Rattle.element.specs.Element.{constructorOf, codeZero, extendedOf, Definitely, Endlessly}
 use Rattle.element.specs.Fault.{Fault, fault, at}
 use Rattle.element.specs.declared.FaultKind.{FaultKind}
 use Rattle.element.specs.declared.FaultKind.the-variants.{CutOff, TooDeep, CodeZero, NoMessage, OctetsAfter, Overlong, Missing, Another, TooMany, BadContents, Seventeenth, UnknownComponent}
@@ -25,7 +25,7 @@ use Rattle.element.specs.Head.{tagOf, lengthOf, endOf}
 use Rattle.element.specs.Ask.{Got, got, bad, next, check, definite, indefinite, Head, head, Body, askLength, askTag, atEnd, askEnd, ask}
 use Rattle.element.specs.Parts.{firstOf}
 use Rattle.element.proofs.Heads.{take-first, TagIs, tag-sound}
-use Rattle.element.proofs.Asking.{next-of, more-at, HeadOf, finite, unended, ask-head, ask-ends, ask-missing, ask-unfinished, ask-full, ask-tag, ask-zero, ask-deep, ask-other, ask-length, not-true, Definitely, Endlessly, Says, head-says}
+use Rattle.element.proofs.Asking.{next-of, more-at, HeadOf, finite, unended, ask-head, ask-ends, ask-missing, ask-unfinished, ask-full, ask-tag, ask-zero, ask-deep, ask-other, ask-length, not-true, Says, head-says}
 use Rattle.element.proofs.Reading.{tag-size}
 use Rattle.element.proofs.Insides.{no-extension, end-indefinite}
 use Rattle.element.proofs.Alike.{Alike, alike-less, alike-all, take-behind, alike-drop, pair, end-alike, More, more-alike, TagFaulty, tag-faulty, tag-alike, lengthSize, LengthFaulty, length-faulty, length-alike, endless-alike}
