@@ -1,9 +1,9 @@
 -- What each kind of number 10 means, by the table of what is due: missing exactly if .., another exactly if .., too many exactly if .. Assumes nothing.
-use Prim.Native.Nat.{ℕ, suc, _+_, _≤_, _<_}
-use mathlib.Core.Path.{_≡_, refl, sym, ap, _∙_}
+use Prim.Native.Nat.{ℕ, _≤_}
+use mathlib.Core.Path.{_≡_, refl, sym, _∙_}
 use mathlib.Core.Logic.{_↔_}
 use mathlib.Core.Bool.{Bool, true, false, false≢true}
-use mathlib.Core.List.{List, [], _∷_}
+use mathlib.Core.List.{List, _∷_}
 use mathlib.Core.Option.{Option, none, some}
 use native.Mathlib.Omega.{arith}
 use lib.ListN.{length}
@@ -11,7 +11,7 @@ use lib.IntN.{ℤ}
 use borrow.Author.Tests.{eq-eqb}
 use Rattle.primitive.specs.Primitive.{identifierOk}
 use Rattle.element.specs.Element.{constructorOf, codeZero}
-use Rattle.element.specs.Fault.{Text, Owner, portion, Fault, fault}
+use Rattle.element.specs.Fault.{Text, Owner, fault}
 use Rattle.element.specs.declared.FaultKind.{FaultKind}
 use Rattle.element.specs.declared.EndRead.the-variants.{Ended as ended, More as more}
 use Rattle.element.specs.Head.{endOf}
@@ -20,9 +20,10 @@ use Rattle.element.proofs.Asking.{more-at}
 use Rattle.element.proofs.Laid.{nothing-ends}
 use Rattle.tcap.specs.Reading.{locatedUpTo}
 use Rattle.tcap.specs.Due.{Parts, end, must, may, name, many, components, Choice, tag, either, any, Holds, octets, message, find, due, mayEnd, someMay, position}
-use Rattle.tcap.specs.Refused.{Known, known, whose, Trail, LengthWrong, gone, cut, reserved, endless, wasteful, passing, passingLong, Tagged, Unfit, unknown, another, tooMany, Faulty, tagCut, tagBad, zeroCode, tooDeep, unfit, lengthWrong, badContents, noPair, missing, seventeenth, element, Found, found, after, Refuses, overlong, noOctets, noMessage, within}
+use Rattle.tcap.specs.Refused.{Known, known, whose, Trail, Tagged, Unfit, another, tooMany, unfit, noPair, missing, seventeenth, element, Found, found, after, Refuses, overlong, noOctets, noMessage, within}
 use Rattle.tcap.proofs.OneFront.{tagged-tag}
 use Rattle.tcap.proofs.OneFault.{none-counts}
+use Rattle.tcap.proofs.Strange.{rank, unfit-rank, faulty-strange}
 use Rattle.tcap.proofs.Pinned.{fault-exactly}
 
 -- a place that reading comes to, in a message of at most 255 octets with one of the five tags; all before it is right
@@ -85,59 +86,6 @@ none-may (may x r) e a = absurd (false≢true (sym e))
 none-may (name r) e a = absurd (false≢true (sym e))
 none-may (many x) e a = absurd (false≢true (sym e))
 none-may (components x k) e a = absurd (false≢true (sym e))
-
--- which row of the table a kind is of
-unfoldable pub rank : FaultKind → ℕ
-rank FaultKind.Missing = 1
-rank FaultKind.Another = 2
-rank FaultKind.TooMany = 3
-rank FaultKind.UnknownComponent = 4
-rank FaultKind.CutOff = 0
-rank FaultKind.BadTag = 0
-rank FaultKind.BadLength = 0
-rank FaultKind.PassesEnd = 0
-rank FaultKind.TooDeep = 0
-rank FaultKind.CodeZero = 0
-rank FaultKind.Overlong = 0
-rank FaultKind.NoMessage = 0
-rank FaultKind.OctetsAfter = 0
-rank FaultKind.BadContents = 0
-rank FaultKind.Seventeenth = 0
-
-length-rank : {c : Bool} {q : List ℕ} {k : FaultKind} → LengthWrong c q k → rank k ≡ 0
-unfolding rank
-length-rank gone = refl
-length-rank (cut a b d) = refl
-length-rank (reserved a) = refl
-length-rank (endless a) = refl
-length-rank (wasteful a b d e) = refl
-length-rank (passing a b) = refl
-length-rank (passingLong a b d e f) = refl
-
-unfit-rank : {r : Parts} {k : FaultKind} → Unfit r k → 2 ≤ rank k
-unfolding rank
-unfit-rank (unknown e) = omega arith
-unfit-rank (another e f) = omega arith
-unfit-rank (tooMany e) = omega arith
-
--- the element that an unfit kind speaks of
-pub record StrangeIn (limit l : ℕ) (r : Parts) (part : List ℕ) (k : FaultKind) : Type 0 where
-  pub tag : ℕ
-  pub behind : List ℕ
-  pub sound : Tagged part tag behind
-  pub deep : l ≤ limit
-  pub strange : due r tag ≡ none
-  pub kind : Unfit r k
-
-pub faulty-strange : {limit l : ℕ} {r : Parts} {part : List ℕ} {k : FaultKind} → Faulty limit l r part k → 1 ≤ rank k → StrangeIn limit l r part k
-unfolding rank
-faulty-strange (tagCut w) h = absurd (omega arith)
-faulty-strange (tagBad w) h = absurd (omega arith)
-faulty-strange (zeroCode e z) h = absurd (omega arith)
-faulty-strange (tooDeep g j) h = absurd (omega arith)
-faulty-strange (unfit {a = a} {q = q} g j e u) h = record { tag = a; behind = q; sound = g; deep = j; strange = e; kind = u }
-faulty-strange (lengthWrong g j e w) h = absurd (omega (arith, h, length-rank w))
-faulty-strange (badContents j e s z f) h = absurd (omega arith)
 
 tagged-more : {part : List ℕ} {a : ℕ} {q : List ℕ} (d : Bool) → Tagged part a q → endOf d part ≡ more
 tagged-more {part = part} {a = a} d t = more-at d part a _ (tagged-tag t .0) (t .plain)

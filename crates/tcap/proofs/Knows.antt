@@ -1,30 +1,28 @@
 -- What is known at a place, and what is not there: the IDs stand where they were due, and where they were due they are known; nothing of 10 or 13 is
 -- at place 0, in any message. Assumes nothing.
-use Prim.Native.Nat.{ℕ, suc, _+_, _≤_, _<_}
+use Prim.Native.Nat.{ℕ, _≤_}
 use mathlib.Core.Path.{_≡_, refl, sym, ap, _∙_}
 use mathlib.Core.Logic.{_⊎_, inl, inr}
 use mathlib.Core.Bool.{Bool, true, false, cond}
-use mathlib.Core.List.{List, [], _∷_, _++_}
+use mathlib.Core.List.{List, _∷_}
 use mathlib.Core.Option.{Option, none, some}
 use native.Mathlib.Omega.{arith}
-use lib.ListN.{length, drop}
 use lib.Dec.{eqb}
 use lib.IntN.{ℤ}
 use Rattle.primitive.specs.Primitive.{signedOf}
-use Rattle.element.specs.Element.{Definitely, Endlessly}
-use Rattle.element.specs.Fault.{Text, Owner, Fault, fault}
+use Rattle.element.specs.Fault.{Text, Owner, fault}
 use Rattle.element.specs.declared.FaultKind.{FaultKind}
-use Rattle.element.specs.declared.EndRead.the-variants.{Ended as ended, More as more}
+use Rattle.element.specs.declared.EndRead.the-variants.{Ended as ended}
 use Rattle.element.specs.Head.{endOf}
 use Rattle.element.proofs.Laid.{nothing-ends}
-use Rattle.tcap.specs.Due.{Parts, end, must, Choice, tag, either, any, Holds, octets, origId, invokeId, parts, dialogue, unidirectional, begin, finish, continue, abort, message, find, due, contentsOf, orElse}
-use Rattle.tcap.specs.Refused.{Right, Known, known, told, Trail, top, into, intoEndless, past, Tagged, Unfit, unknown, another, tooMany, noPair, missing, seventeenth, element, found, after, Refuses, overlong, noOctets, noMessage, within}
+use Rattle.tcap.specs.Due.{Parts, end, must, tag, Holds, octets, origId, invokeId, parts, dialogue, unidirectional, begin, finish, continue, abort, message, find, due, contentsOf, orElse}
+use Rattle.tcap.specs.Refused.{Right, Known, known, told, Trail, top, into, intoEndless, past, noPair, missing, seventeenth, element, found, after, Refuses, overlong, noOctets, noMessage, within}
 use Rattle.tcap.proofs.Fronts.{definite-some, endless-some, right-some}
 use Rattle.tcap.proofs.Found.{same-some, tag-held}
 use Rattle.tcap.proofs.FoundMessage.{trail-low}
 use Rattle.tcap.proofs.OneFault.{none-some}
 use Rattle.tcap.proofs.OneRefusal.{same-front}
-use Rattle.tcap.proofs.DueExactly.{rank, faulty-strange}
+use Rattle.tcap.proofs.Strange.{rank, faulty-strange}
 
 -- What was read before
 

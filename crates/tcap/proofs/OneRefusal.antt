@@ -13,15 +13,13 @@ use Rattle.element.specs.Fault.{Text, portion, Fault, fault}
 use Rattle.element.specs.declared.FaultKind.{FaultKind}
 use Rattle.element.specs.declared.EndRead.the-variants.{Ended as ended, Unfinished as unfinished, More as more}
 use Rattle.element.specs.Head.{endOf}
-use Rattle.element.specs.Parts.{firstOf}
 use Rattle.element.proofs.Laid.{nothing-ends}
 use Rattle.tcap.specs.Due.{Parts, end, must, Holds, message, find}
 use Rattle.tcap.specs.Refused.{Right, primitive, definite as filled, indefinite as endlessly, Fits, nothing, also, Known, OrigOf, without, with, Found, found, after, Refuses, overlong, noOctets, noMessage, within, Allowed}
 use Rattle.tcap.proofs.Fronts.{first-octet}
 use Rattle.tcap.proofs.Found.{same-some}
-use Rattle.tcap.proofs.OneFront.{definite-head, endless-head}
-use Rattle.tcap.proofs.OneFault.{right-head, same-first, one-head, none-some, right-one}
-use Rattle.tcap.proofs.OneTrail.{Fails, at-once, within as inside, withinEndless, beyond, trail-fails, right-wrong, right-in, right-in-endless, fits-fails, fails-one}
+use Rattle.tcap.proofs.OneFault.{right-head, same-first, none-some, right-one}
+use Rattle.tcap.proofs.OneTrail.{Fails, at-once, within as inside, withinEndless, beyond, trail-fails, right-wrong, right-within, right-within-endless, fits-fails, fails-one}
 
 -- The size of what is right
 
@@ -58,16 +56,8 @@ right-size {part = part} (endlessly {a = a} {u = u} {k = k} j s c w) =
 -- a message that is right has no fault inside
 right-alone : {limit a n : ℕ} {m : List ℕ} {h : Holds} {s : Known} {x : Text} {f : Fault} → find message a ≡ some h → Right limit 1 a h 0 m n x → Fails limit 1 true (must message end) s 0 m f → ⊥
 right-alone is u (at-once w) = right-wrong u (λ e. nothing-ends e) is w
-right-alone {m = m} is u (inside j free is′ z y x) =
-    let k = right-head u in
-    let e = sym (k .2) ∙ ap firstOf (one-head (k .1) (definite-head y)) in
-    let g = same-some (sym is′ ∙ (rw e at is)) in
-    right-in (2 * length m) (omega arith) u (rw g at z) (rw (← e) at y) (rw g at x)
-right-alone {m = m} is u (withinEndless j free is′ z y x) =
-    let k = right-head u in
-    let e = sym (k .2) ∙ ap firstOf (one-head (k .1) (endless-head y)) in
-    let g = same-some (sym is′ ∙ (rw e at is)) in
-    right-in-endless (2 * length m) (omega arith) u (rw g at z) (rw (← e) at y) (rw g at x)
+right-alone is u (inside j free is′ z y x) = right-within (must message end) u is is′ z y x
+right-alone is u (withinEndless j free is′ z y x) = right-within-endless (must message end) u is is′ z y x
 right-alone is u (beyond j free is′ u′ x) = absurd (omega arith)
 
 one-orig : {limit : ℕ} {r : Parts} {x : Text} {t t′ : Option Text} → OrigOf limit r x t → OrigOf limit r x t′ → t ≡ t′

@@ -112,6 +112,22 @@ mutual
       let e = same-right r is is′ u u′ in
       fits-fails fuel (omega (arith, right-some u .1)) v (rw (← (e .0), ← (e .1), ← (e .2), ← (e .3)) at x)
 
+-- the same, where the element is due in two ways
+module _ (r : Parts) {limit l a b p n : ℕ} {g h : Holds} {q : Parts} {s : Known} {part : List ℕ} {x : Text} {f : Fault} (u : Right limit l b g p part n x) (is : due r b ≡ some g) (is′ : due r a ≡ some h) (z : contentsOf h ≡ some q) where
+  pub right-within : {v k : ℕ} → Definitely part a v k → Fails limit (suc l) true q s (p + v) (take k (drop v part)) f → ⊥
+  right-within y w =
+      let k = right-head u in
+      let e = sym (k .2) ∙ ap firstOf (one-head (k .1) (definite-head y)) in
+      let i = same-some (sym is′ ∙ (rw e at is)) in
+      right-in (2 * length part) (omega arith) u (rw i at z) (rw (← e) at y) w
+
+  pub right-within-endless : {v : ℕ} → Endlessly part a v → Fails limit (suc l) false q s (p + v) (drop v part) f → ⊥
+  right-within-endless y w =
+      let k = right-head u in
+      let e = sym (k .2) ∙ ap firstOf (one-head (k .1) (endless-head y)) in
+      let i = same-some (sym is′ ∙ (rw e at is)) in
+      right-in-endless (2 * length part) (omega arith) u (rw i at z) (rw (← e) at y) w
+
 -- One fault
 
 same-fault : {k k′ : FaultKind} {w w′ : Owner} (p : ℕ) (i : Option ℤ) (t : Option Text) → k ≡ k′ → w ≡ w′ → fault k p w i t ≡ fault k′ p w′ i t
@@ -133,11 +149,7 @@ fails-one (within j free is z y x) (within j′ free′ is′ z′ y′ x′) =
     let q = same-some (sym z ∙ (rw (← h) at z′)) in
     fails-one x (rw (← (e .1), ← (e .2), ← h, ← q) at x′)
 fails-one (within j free is z y x) (withinEndless j′ free′ is′ z′ y′ x′) = absurd (other-head (one-head (definite-head y) (endless-head y′)))
-fails-one {part = part} (within j free is z y x) (beyond j′ free′ is′ u x′) =
-    let k = right-head u in
-    let e = sym (k .2) ∙ ap firstOf (one-head (k .1) (definite-head y)) in
-    let g = same-some (sym is ∙ (rw e at is′)) in
-    absurd (right-in (2 * length part) (omega arith) u (rw g at z) (rw (← e) at y) (rw g at x))
+fails-one {r = r} (within j free is z y x) (beyond j′ free′ is′ u x′) = absurd (right-within r u is′ is z y x)
 fails-one {limit} {l} {p} {d} {r} {part = part} (withinEndless {a = a} {u = u} {h = h} {c = c} {o = o} j free is z y x) (at-once w) =
     absurd (none-some (wrong-head limit l d r p part c (whose (position r) o) (head a u indefinite) h w (endless-head y) j free is .0) z)
 fails-one (withinEndless j free is z y x) (within j′ free′ is′ z′ y′ x′) = absurd (other-head (one-head (definite-head y′) (endless-head y)))
@@ -146,22 +158,10 @@ fails-one (withinEndless j free is z y x) (withinEndless j′ free′ is′ z′
     let h = same-some (sym is ∙ (rw (← (e .0)) at is′)) in
     let q = same-some (sym z ∙ (rw (← h) at z′)) in
     fails-one x (rw (← (e .1), ← h, ← q) at x′)
-fails-one {part = part} (withinEndless j free is z y x) (beyond j′ free′ is′ u x′) =
-    let k = right-head u in
-    let e = sym (k .2) ∙ ap firstOf (one-head (k .1) (endless-head y)) in
-    let g = same-some (sym is ∙ (rw e at is′)) in
-    absurd (right-in-endless (2 * length part) (omega arith) u (rw g at z) (rw (← e) at y) (rw g at x))
+fails-one {r = r} (withinEndless j free is z y x) (beyond j′ free′ is′ u x′) = absurd (right-within-endless r u is′ is z y x)
 fails-one (beyond j free is u x) (at-once w) = absurd (right-wrong u free is w)
-fails-one {part = part} (beyond j′ free′ is′ u x′) (within j free is z y x) =
-    let k = right-head u in
-    let e = sym (k .2) ∙ ap firstOf (one-head (k .1) (definite-head y)) in
-    let g = same-some (sym is ∙ (rw e at is′)) in
-    absurd (right-in (2 * length part) (omega arith) u (rw g at z) (rw (← e) at y) (rw g at x))
-fails-one {part = part} (beyond j′ free′ is′ u x′) (withinEndless j free is z y x) =
-    let k = right-head u in
-    let e = sym (k .2) ∙ ap firstOf (one-head (k .1) (endless-head y)) in
-    let g = same-some (sym is ∙ (rw e at is′)) in
-    absurd (right-in-endless (2 * length part) (omega arith) u (rw g at z) (rw (← e) at y) (rw g at x))
+fails-one {r = r} (beyond j′ free′ is′ u x′) (within j free is z y x) = absurd (right-within r u is′ is z y x)
+fails-one {r = r} (beyond j′ free′ is′ u x′) (withinEndless j free is z y x) = absurd (right-within-endless r u is′ is z y x)
 fails-one {r = r} (beyond j free is u x) (beyond j′ free′ is′ u′ x′) =
     let e = same-right r is is′ u u′ in
     fails-one x (rw (← (e .0), ← (e .1), ← (e .2), ← (e .3)) at x′)
