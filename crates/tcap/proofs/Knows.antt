@@ -3,11 +3,10 @@
 use Prim.Native.Nat.{ℕ, _≤_}
 use mathlib.Core.Path.{_≡_, refl, sym, ap, _∙_}
 use mathlib.Core.Logic.{_⊎_, inl, inr}
-use mathlib.Core.Bool.{Bool, true, false, cond}
+use mathlib.Core.Bool.{Bool, true}
 use mathlib.Core.List.{List, _∷_}
 use mathlib.Core.Option.{Option, none, some}
 use native.Mathlib.Omega.{arith}
-use lib.Dec.{eqb}
 use lib.IntN.{ℤ}
 use Rattle.primitive.specs.Primitive.{signedOf}
 use Rattle.element.specs.Fault.{Text, Owner, fault}
@@ -15,11 +14,10 @@ use Rattle.element.specs.declared.FaultKind.{FaultKind}
 use Rattle.element.specs.declared.EndRead.the-variants.{Ended as ended}
 use Rattle.element.specs.Head.{endOf}
 use Rattle.element.proofs.Laid.{nothing-ends}
-use Rattle.tcap.specs.Due.{Parts, end, must, tag, Holds, octets, origId, invokeId, parts, dialogue, unidirectional, begin, finish, continue, abort, message, find, due, contentsOf, orElse}
+use Rattle.tcap.specs.Due.{Parts, end, must, tag, Holds, octets, origId, invokeId, parts, dialogue, message, find, due}
 use Rattle.tcap.specs.Refused.{Right, Known, known, told, Trail, top, into, intoEndless, past, noPair, missing, seventeenth, element, found, after, Refuses, overlong, noOctets, noMessage, within}
 use Rattle.tcap.proofs.Fronts.{definite-some, endless-some, right-some}
 use Rattle.tcap.proofs.Found.{same-some, tag-held}
-use Rattle.tcap.proofs.FoundMessage.{trail-low}
 use Rattle.tcap.proofs.OneFault.{none-some}
 use Rattle.tcap.proofs.OneRefusal.{same-front}
 use Rattle.tcap.proofs.Strange.{rank, faulty-strange}
@@ -86,55 +84,48 @@ invoke-stands {limit} {m} j (past {h = h} {s = s} {x = y} w k free is u) e = cho
     choose (inl (f, g)) k = (y, sym g, stood invokeId y w is u f refl)
     choose (inr f) k = k f
 
--- In a Begin or Continue, the originating ID is not known only where it is due
+-- And the other way: where contents begin with such an ID, it is not known only at their beginning
 
-opens : (b c d e f : Bool) (h : Holds) (n : Parts)
-    → orElse (cond b (some (parts unidirectional)) none) (orElse (cond c (some (parts begin)) none) (orElse (cond d (some (parts finish)) none) (orElse (cond e (some (parts continue)) none) (cond f (some (parts abort)) none)))) ≡ some h
-    → contentsOf h ≡ some n → due n 0x48 ≡ some origId → (begin ≡ n) ⊎ (continue ≡ n)
-opens true c d e f h n x y z = let k = same-some (ap contentsOf (same-some x) ∙ y) in nothing-ends (ap (λ (r : Parts). due r 0x48) k ∙ z)
-opens false true d e f h n x y z = inl (same-some (ap contentsOf (same-some x) ∙ y))
-opens false false true e f h n x y z = let k = same-some (ap contentsOf (same-some x) ∙ y) in nothing-ends (ap (λ (r : Parts). due r 0x48) k ∙ z)
-opens false false false true f h n x y z = inr (same-some (ap contentsOf (same-some x) ∙ y))
-opens false false false false true h n x y z = let k = same-some (ap contentsOf (same-some x) ∙ y) in nothing-ends (ap (λ (r : Parts). due r 0x48) k ∙ z)
-opens false false false false false h n x y z = nothing-ends x
+-- what was to come where the contents of a place begin
+unfoldable pub beginning : {limit : ℕ} {m : List ℕ} {l p : ℕ} {d : Bool} {r : Parts} {s : Known} {part : List ℕ} → Trail limit m l d r s p part → Parts
+beginning top = must message end
+beginning (into {q = q} w j free is z y) = q
+beginning (intoEndless {q = q} w j free is z y) = q
+beginning (past w j free is u) = beginning w
 
--- nothing else is due there
-opens-alone : {n : Parts} (b : ℕ) (g : Holds) → (begin ≡ n) ⊎ (continue ≡ n) → due n b ≡ some g → origId ≡ g
-opens-alone b g (inl e) is = tag-held b 0x48 origId g (ap (λ (r : Parts). due r b) e ∙ is) .1
-opens-alone b g (inr e) is = tag-held b 0x48 origId g (ap (λ (r : Parts). due r b) e ∙ is) .1
+orig-none : (h : Holds) (x : Text) (s : Known) → origKnown (told h x s) ≡ none → (origKnown s ≡ none) × (origId ≡ h → ⊥)
+orig-none (octets fits) x (known c o i t) e = (e, λ f. let z : _≡_ {A = ℕ} 0 1 = cc in omega arith)
+orig-none origId x (known c o i t) e = let z : _≡_ {A = ℕ} 0 1 = cc in absurd (omega arith)
+orig-none invokeId x (known c o i t) e = (e, λ f. let z : _≡_ {A = ℕ} 0 1 = cc in omega arith)
+orig-none (parts r) x (known c o i t) e = (e, λ f. let z : _≡_ {A = ℕ} 0 1 = cc in omega arith)
+orig-none (dialogue r) x (known c o i t) e = (e, λ f. let z : _≡_ {A = ℕ} 0 1 = cc in omega arith)
 
-trail-one : {limit : ℕ} {m : List ℕ} {l p : ℕ} {d : Bool} {r : Parts} {s : Known} {part : List ℕ} → Trail limit m l d r s p part → l ≡ 1 → (part ≡ m) × (r ≡ must message end)
-trail-one top e = (refl, refl)
-trail-one {limit} {m} (into w j free is z y) e = absurd (omega (arith, trail-low limit m w))
-trail-one {limit} {m} (intoEndless w j free is z y) e = absurd (omega (arith, trail-low limit m w))
-trail-one (past w j free is u) e = absurd (omega arith)
+invoke-none : (h : Holds) (x : Text) (s : Known) → invokeKnown (told h x s) ≡ none → (invokeKnown s ≡ none) × (invokeId ≡ h → ⊥)
+invoke-none (octets fits) x (known c o i t) e = (e, λ f. let z : _≡_ {A = ℕ} 0 1 = cc in omega arith)
+invoke-none origId x (known c o i t) e = (e, λ f. let z : _≡_ {A = ℕ} 0 1 = cc in omega arith)
+invoke-none invokeId x (known c o i t) e = let z : _≡_ {A = ℕ} 0 1 = cc in absurd (omega arith)
+invoke-none (parts r) x (known c o i t) e = (e, λ f. let z : _≡_ {A = ℕ} 0 1 = cc in omega arith)
+invoke-none (dialogue r) x (known c o i t) e = (e, λ f. let z : _≡_ {A = ℕ} 0 1 = cc in omega arith)
 
-not-told : (g : Holds) (x : Text) (s : Known) → origId ≡ g → origKnown (told g x s) ≡ none → ⊥
-not-told g x (known c o i t) e f = let k : origKnown (told origId x (known c o i t)) ≡ none = rw (← e) at f in let z : _≡_ {A = ℕ} 0 1 = cc in omega arith
+-- one law for both: `tells` picks the ID that an element marked h tells, behind the tag b
+module _ {A : Type 0} (tells : Known → Option A) (b : ℕ) (h : Holds) (unknown : (g : Holds) (x : Text) (s : Known) → tells (told g x s) ≡ none → (tells s ≡ none) × (h ≡ g → ⊥)) where
+  known-behind : {limit : ℕ} {m : List ℕ} {l p : ℕ} {d : Bool} {r : Parts} {s : Known} {part : List ℕ} (rest : Parts) (w : Trail limit m l d r s p part) → beginning w ≡ must (tag b h) rest → tells s ≡ none → r ≡ beginning w
+  unfolding beginning
+  known-behind rest top e f = refl
+  known-behind rest (into w j free is z y) e f = refl
+  known-behind rest (intoEndless w j free is z y) e f = refl
+  known-behind rest (past {a = a} {r = r} {h = g} {s = s} {x = x} w j free is u) e f =
+      let k = unknown g x s f in
+      let same : r ≡ must (tag b h) rest = known-behind rest w e (k .0) ∙ e in
+      absurd (k .1 (tag-held a b h g (ap (λ (r : Parts). due r a) (sym same) ∙ is) .1))
 
-still-none : (h : Holds) (x : Text) (s : Known) → origKnown (told h x s) ≡ none → origKnown s ≡ none
-still-none (octets fits) x (known c o i t) e = e
-still-none origId x (known c o i t) e = let z : _≡_ {A = ℕ} 0 1 = cc in absurd (omega arith)
-still-none invokeId x (known c o i t) e = e
-still-none (parts r) x (known c o i t) e = e
-still-none (dialogue r) x (known c o i t) e = e
+-- of a Begin or Continue
+pub orig-told : {limit : ℕ} {m : List ℕ} {l p : ℕ} {d : Bool} {r : Parts} {s : Known} {part : List ℕ} (rest : Parts) (w : Trail limit m l d r s p part) → beginning w ≡ must (tag 0x48 origId) rest → origKnown s ≡ none → r ≡ beginning w
+orig-told = known-behind origKnown 0x48 origId orig-none
 
-module _ (limit : ℕ) {m : List ℕ} (a : ℕ) (q : List ℕ) (h : Holds) (n : Parts) (e : m ≡ a ∷ q) (z : find message a ≡ some h) (c : contentsOf h ≡ some n) (f : due n 0x48 ≡ some origId) where
-  -- the contents that the message opens
-  opened : (r : Parts) (b : ℕ) (g : Holds) (k : Parts) (part y : List ℕ) → (part ≡ m) × (r ≡ must message end) → due r b ≡ some g → contentsOf g ≡ some k → part ≡ b ∷ y → k ≡ n
-  opened r b g k part y (x, w) is u v =
-      let same : b ≡ a = same-front v (x ∙ e) in
-      let held : find message b ≡ some g = ap (λ (r : Parts). due r b) (sym w) ∙ is in
-      let like : g ≡ h = same-some (sym held ∙ ap (find message) same ∙ z) in
-      same-some (sym u ∙ ap contentsOf like ∙ c)
-
-  pub orig-told : {l p : ℕ} {d : Bool} {r : Parts} {s : Known} {part : List ℕ} → Trail limit m l d r s p part → l ≡ 2 → origKnown s ≡ none → r ≡ n
-  orig-told top k o = absurd (omega arith)
-  orig-told (into {a = b} {d = d} {r = r} {q = k} {h = g} {part = part} w j free is u y) l o = opened r b g k part _ (trail-one w (omega arith)) is u (y .front)
-  orig-told (intoEndless {a = b} {d = d} {r = r} {q = k} {h = g} {part = part} w j free is u y) l o = opened r b g k part _ (trail-one w (omega arith)) is u (y .front)
-  orig-told (past {a = b} {r = r} {h = g} {s = s} {x = x} w j free is u) l o =
-      let same : r ≡ n = orig-told w l (still-none g x s o) in
-      absurd (not-told g x s (opens-alone b g (opens (eqb a 0x61) (eqb a 0x62) (eqb a 0x64) (eqb a 0x65) (eqb a 0x67) h n z c f) (ap (λ (r : Parts). due r b) (sym same) ∙ is)) o)
+-- of every component but a Reject, which may begin with 05 00
+pub invoke-told : {limit : ℕ} {m : List ℕ} {l p : ℕ} {d : Bool} {r : Parts} {s : Known} {part : List ℕ} (rest : Parts) (w : Trail limit m l d r s p part) → beginning w ≡ must (tag 0x02 invokeId) rest → invokeKnown s ≡ none → r ≡ beginning w
+invoke-told = known-behind invokeKnown 0x02 invokeId invoke-none
 
 -- At place 0
 
