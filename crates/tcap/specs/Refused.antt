@@ -18,13 +18,18 @@ mutual
   -- n octets at the front of a part, which begins at place p, are an element at level l, with first octet a, that holds h, to its bottom; then the
   -- place of its contents, and these (of an indefinite one, from there to the end of the part)
   pub data Right (limit : ℕ) : ℕ → ℕ → Holds → ℕ → List ℕ → ℕ → Text → Type 0 where
+    -- tag, length and contents, of which is asked what a primitive here is asked
     primitive : {l a p u n : ℕ} {h : Holds} {part : List ℕ} → l ≤ limit → Definitely part a u n → contentsOf h ≡ none → passes h (take n (drop u part)) ≡ true → Right limit l a h p part (u + n) (p + u, take n (drop u part))
+    -- tag, length and contents, in which is what is due
     definite : {l a p u n k : ℕ} {h : Holds} {r : Parts} {part : List ℕ} → l ≤ limit → Definitely part a u n → contentsOf h ≡ some r → Fits limit (suc l) r true (p + u) (take n (drop u part)) k → Right limit l a h p part (u + n) (p + u, take n (drop u part))
+    -- tag, 80, contents in which is what is due, and the end pair
     indefinite : {l a p u k : ℕ} {h : Holds} {r : Parts} {part : List ℕ} → l ≤ limit → Endlessly part a u → contentsOf h ≡ some r → Fits limit (suc l) r false (p + u) (drop u part) k → Right limit l a h p part (u + (k + 2)) (p + u, drop u part)
 
   -- k octets at the front of a part are what is due in contents at level l, up to their end; d: the contents are definite
   pub data Fits (limit : ℕ) : ℕ → Parts → Bool → ℕ → List ℕ → ℕ → Type 0 where
+    -- they end here, and may
     nothing : {l p : ℕ} {r : Parts} {d : Bool} {part : List ℕ} → endOf d part ≡ EndRead.Ended → mayEnd r ≡ true → Fits limit l r d p part 0
+    -- an element that may stand here and is right, and then the rest
     also : {l a p n k : ℕ} {r : Parts} {h : Holds} {d : Bool} {part : List ℕ} {x : Text} → Room r → due r a ≡ some h → Right limit l a h p part n x → Fits limit l (behind r a (x .1)) d (p + n) (drop n part) k → Fits limit l r d p part (n + k)
 
 -- Where a place is
@@ -58,6 +63,7 @@ told (dialogue r) x s = s
 -- the place p of m: its level, whether the contents it is in are definite, what is still to come in them, what is known, and the octets from there
 -- to the end of these contents
 pub data Trail (limit : ℕ) (m : List ℕ) : ℕ → Bool → Parts → Known → ℕ → List ℕ → Type 0 where
+  -- the message is level 1
   top : Trail limit m 1 true (must message end) (known portion portion none none) 0 m
   -- into the contents of an element that may stand here
   into : {l a u n p : ℕ} {d : Bool} {r q : Parts} {h : Holds} {c o : Owner} {i : Option ℤ} {t : Option Text} {part : List ℕ} → Trail limit m l d r (known c o i t) p part → l ≤ limit → Room r → due r a ≡ some h → contentsOf h ≡ some q → Definitely part a u n
@@ -72,6 +78,7 @@ pub data Trail (limit : ℕ) (m : List ℕ) : ℕ → Bool → Parts → Known �
 
 -- they end in the tag
 pub data TagCut : List ℕ → Type 0 where
+  -- no octet; one, two or three of a tag that goes on
   empty : TagCut []
   one : {a : ℕ} → extendedOf a ≡ true → TagCut (a ∷ [])
   two : {a x : ℕ} → extendedOf a ≡ true → 129 ≤ x → TagCut (a ∷ x ∷ [])
@@ -82,13 +89,16 @@ pub data TagBad : List ℕ → Type 0 where
   small : {a x : ℕ} {r : List ℕ} → extendedOf a ≡ true → (x ≡ 128) ⊎ (x < 31) → TagBad (a ∷ x ∷ r)
   long : {a x y z : ℕ} {r : List ℕ} → extendedOf a ≡ true → 129 ≤ x → 128 ≤ y → 128 ≤ z → TagBad (a ∷ x ∷ y ∷ z ∷ r)
 
--- of the octets behind a tag; the Bool: it is a constructor's
+-- the length, of the octets behind a tag; the Bool: it is a constructor's
 pub data LengthWrong (c : Bool) : List ℕ → FaultKind → Type 0 where
+  -- nothing; fewer octets than it names
   gone : LengthWrong c [] FaultKind.CutOff
   cut : {b : ℕ} {r : List ℕ} → 129 ≤ b → b ≤ 254 → length r < b - 128 → LengthWrong c (b ∷ r) FaultKind.CutOff
+  -- FF; 80 on a primitive; not fewest
   reserved : {b : ℕ} {r : List ℕ} → 255 ≤ b → LengthWrong c (b ∷ r) FaultKind.BadLength
   endless : {r : List ℕ} → c ≡ false → LengthWrong c (0x80 ∷ r) FaultKind.BadLength
   wasteful : {b : ℕ} {r : List ℕ} → 129 ≤ b → b ≤ 254 → b - 128 ≤ length r → fewestOf (getD r 0 0) (b - 128) ≡ false → LengthWrong c (b ∷ r) FaultKind.BadLength
+  -- more contents than the part has left, in one octet and in several
   passing : {b : ℕ} {r : List ℕ} → b < 128 → length r < b → LengthWrong c (b ∷ r) FaultKind.PassesEnd
   passingLong : {b : ℕ} {r : List ℕ} → 129 ≤ b → b ≤ 254 → b - 128 ≤ length r → fewestOf (getD r 0 0) (b - 128) ≡ true → length r - (b - 128) < numberFrom 0 (take (b - 128) r) → LengthWrong c (b ∷ r) FaultKind.PassesEnd
 
@@ -145,9 +155,13 @@ pub data Found (limit : ℕ) (m : List ℕ) : Fault → Type 0 where
 
 -- the whole table: 7, 1 for no octets and 8 before all
 pub data Refuses (limit : ℕ) (m : List ℕ) : Fault → Type 0 where
+  -- over 255 octets (7)
   overlong : 255 < length m → Refuses limit m (fault FaultKind.Overlong 255 portion none none)
+  -- nothing at all (1)
   noOctets : m ≡ [] → Refuses limit m (fault FaultKind.CutOff 0 portion none none)
+  -- not one of the five message tags (8)
   noMessage : {a : ℕ} {q : List ℕ} → length m ≤ 255 → m ≡ a ∷ q → find message a ≡ none → Refuses limit m (fault FaultKind.NoMessage 0 portion none none)
+  -- else what is found inside the message, or behind it
   within : {a : ℕ} {q : List ℕ} {h : Holds} {f : Fault} → length m ≤ 255 → m ≡ a ∷ q → find message a ≡ some h → Found limit m f → Refuses limit m f
 
 -- nothing to refuse: one message that is right, and the octets end behind it
