@@ -1,19 +1,18 @@
--- Why a record may have no meaning over the octets beside it: every record has a meaning, or one of these causes. Assumes nothing.
+-- Why a record has no meaning over the octets beside it: exactly for one of these causes. Assumes nothing.
 use Prim.Native.Nat.{ℕ, _+_, _<_}
-use mathlib.Core.Path.{_≡_, refl}
-use mathlib.Core.Logic.{_⊎_, inl, inr}
-use mathlib.Core.Bool.{Bool, true, false, cond}
+use mathlib.Core.Path.{_≡_, refl, sym, _∙_}
+use mathlib.Core.Logic.{_⊎_, inl, inr, _↔_}
+use mathlib.Core.Bool.{Bool, true, false}
 use mathlib.Core.List.{List, [], _∷_}
 use mathlib.Core.Option.{Option, none, some, bind}
 use native.Mathlib.Omega.{arith}
 use lib.ListN.{length, take, drop}
 use lib.Dec.{leb}
-use lib.IntN.{ℤ}
-use borrow.Author.Tests.{leb-false}
-use Rattle.tcap.specs.declared.{Span.Span, OptionalSpan.OptionalSpan, OptionalOrig.OptionalOrig, OptionalDest.OptionalDest, InvokeId.InvokeId, LinkedId.LinkedId, Code.Code as CodeField, Returned.Returned, ComponentKind.ComponentKind, Row.Row, Dialogue.Dialogue as DialogueField, MessageKind.MessageKind, Record.Record}
-use Rattle.tcap.specs.Meaning.{Originating, orig, Destination, dest, Code, local, global, Component, invoke, last, notLast, error, reject, Dialogue, request, unidialogue, response, aborted, single, octets, Ending, silent, cause, says, unidirectional, begin, finish, continue, abort, Meaning}
+use borrow.Author.Tests.{leb-true, leb-false}
+use Rattle.tcap.specs.declared.{Span.Span, OptionalSpan.OptionalSpan, OptionalOrig.OptionalOrig, OptionalDest.OptionalDest, InvokeId.InvokeId, Code.Code as CodeField, Returned.Returned, ComponentKind.ComponentKind, Row.Row, Dialogue.Dialogue as DialogueField, MessageKind.MessageKind, Record.Record}
+use Rattle.tcap.specs.Meaning.{Originating, orig, Destination, dest, local, global, Component, invoke, last, notLast, error, reject, Dialogue, request, unidialogue, response, aborted, single, octets, Ending, silent, cause, says, unidirectional, begin, finish, continue, abort}
 use Rattle.tcap.specs.WellFormed.{mostComponents}
-use Rattle.tcap.specs.Record.{octetsAt, spanMeans, codeMeans, bothMeans, idMeans, linkedMeans, rowMeans, rowsMean, endingMeans, portionOf, origMeans, destMeans, lacks, lacksAll, partsMean, meaningOf}
+use Rattle.tcap.specs.Record.{octetsAt, spanMeans, codeMeans, bothMeans, idMeans, linkedMeans, rowMeans, rowsMean, endingMeans, portionOf, origMeans, destMeans, lacks, lacksAll, partsMean, meaningOf, Same}
 
 module _ (m : List ℕ) where
   -- a string past the end, in any part that has one
@@ -81,63 +80,73 @@ module _ (m : List ℕ) where
     inRow : RowsCause (take (r .count) (r .rows)) → Cause r
     inParts : PartsCause (r .kind) (r .orig) (r .dest) (r .dialogue) (take (r .count) (r .rows)) → Cause r
 
-  -- something is wrong, or there is a meaning
+  -- something is wrong and there is no meaning, or nothing is and there is one
   abbrev Or : {A : Type 0} → Type 0 → Option A → Type 0
-  Or {A} P x = P ⊎ ((a : A) × (x ≡ some a))
+  Or {A} P x = (P × (x ≡ none)) ⊎ ((P → ⊥) × ((a : A) × (x ≡ some a)))
+
+  fine : {A P : Type 0} {x : Option A} → (P → ⊥) → (a : A) → x ≡ some a → Or P x
+  fine n a e = inr (n, (a, e))
 
   string-or : (s : Span) → Or (Past s) (octetsAt m s)
   string-or s = by-test (leb (s .place + s .len) (length m)) refl
     where
       by-test : (b : Bool) → leb (s .place + s .len) (length m) ≡ b → Or (Past s) (octetsAt m s)
-      by-test true e = inr (take (s .len) (drop (s .place) m), rw e)
-      by-test false e = inl (omega (arith, leb-false (s .place + s .len) (length m) e))
+      by-test true e = fine (λ p. omega (arith, leb-true (s .place + s .len) (length m) e)) (take (s .len) (drop (s .place) m)) (rw e)
+      by-test false e = inl (omega (arith, leb-false (s .place + s .len) (length m) e), rw e)
 
   -- one after another
+  neither : {P Q : Type 0} → (P → ⊥) → (Q → ⊥) → P ⊎ Q → ⊥
+  neither n k (inl p) = n p
+  neither n k (inr q) = k q
+
   bind-or : {A B : Type 0} {P Q : Type 0} (x : Option A) (f : A → Option B) → Or P x → ((a : A) → Or Q (f a)) → Or (P ⊎ Q) (bind x f)
   unfolding bind
-  bind-or x f (inl p) g = inl (inl p)
-  bind-or {A} {B} {P} {Q} x f (inr (a, e)) g = on (g a)
+  bind-or x f (inl (p, e)) g = inl (inl p, rw e)
+  bind-or {A} {B} {P} {Q} x f (inr (n, (a, e))) g = on (g a)
     where
       on : Or Q (f a) → Or (P ⊎ Q) (bind x f)
-      on (inl q) = inl (inr q)
-      on (inr (b, h)) = inr (b, rw e h)
+      on (inl (q, h)) = inl (inr q, rw e h)
+      on (inr (k, (b, h))) = inr (neither n k, (b, rw e h))
 
   map-or : {A B : Type 0} {P : Type 0} (x : Option A) (f : A → B) → Or P x → Or P (bind x (λ a. some (f a)))
   unfolding bind
-  map-or x f (inl p) = inl p
-  map-or x f (inr (a, e)) = inr (f a, rw e)
+  map-or x f (inl (p, e)) = inl (p, rw e)
+  map-or x f (inr (n, (a, e))) = inr (n, (f a, rw e))
+
+  never : ⊥ → ⊥
+  never x = x
 
   option-or : (s : OptionalSpan) → Or (PastOption s) (spanMeans m s)
-  option-or OptionalSpan.Absent = inr (none, refl)
+  option-or OptionalSpan.Absent = fine never none refl
   option-or (OptionalSpan.Present s) = map-or (octetsAt m s) (λ c. some c) (string-or s)
 
   code-or : (c : CodeField) → Or (PastCode c) (codeMeans m c)
-  code-or (CodeField.Local z) = inr (local z, refl)
+  code-or (CodeField.Local z) = fine never (local z) refl
   code-or (CodeField.Global s) = map-or (octetsAt m s) global (string-or s)
 
   both-or : (r : Returned) → Or (PastReturned r) (bothMeans m r)
-  both-or Returned.Bare = inr (none, refl)
+  both-or Returned.Bare = fine never none refl
   both-or (Returned.Both c p) = bind-or (codeMeans m c) _ (code-or c) λ d. map-or (octetsAt m p) (λ p. some (d, p)) (string-or p)
 
   id-or : (i : InvokeId) → Or (i ≡ InvokeId.Null) (idMeans m i)
-  id-or InvokeId.Null = inl refl
-  id-or (InvokeId.Id i) = inr (i, refl)
+  id-or InvokeId.Null = inl (refl, refl)
+  id-or (InvokeId.Id i) = fine (λ e. let z : _≡_ {A = ℕ} 0 1 = cc in omega arith) i refl
 
   row-or : (i : InvokeId) (k : ComponentKind) → Or (RowCause i k) (rowMeans m i k)
   row-or i (ComponentKind.Invoke l c p) = bind-or (idMeans m i) _ (id-or i) λ j. bind-or (codeMeans m c) _ (code-or c) λ d. map-or (spanMeans m p) (λ p. invoke j (linkedMeans m l) d p) (option-or p)
   row-or i (ComponentKind.ResultLast r) = bind-or (idMeans m i) _ (id-or i) λ j. map-or (bothMeans m r) (λ r. last j r) (both-or r)
   row-or i (ComponentKind.ResultNotLast r) = bind-or (idMeans m i) _ (id-or i) λ j. map-or (bothMeans m r) (λ r. notLast j r) (both-or r)
   row-or i (ComponentKind.ReturnError c p) = bind-or (idMeans m i) _ (id-or i) λ j. bind-or (codeMeans m c) _ (code-or c) λ d. map-or (spanMeans m p) (λ p. error j d p) (option-or p)
-  row-or i (ComponentKind.Reject q) = inr (reject (idMeans m i) q, refl)
+  row-or i (ComponentKind.Reject q) = fine never (reject (idMeans m i) q) refl
 
   rows-or : (rs : List Row) → Or (RowsCause rs) (rowsMean m rs)
   unfolding RowsCause rowsMean
-  rows-or [] = inr ([], refl)
+  rows-or [] = fine never [] refl
   rows-or (r ∷ rs) = bind-or (rowMeans m (r .id) (r .kind)) _ (row-or (r .id) (r .kind)) λ c. map-or (rowsMean m rs) (λ cs. c ∷ cs) (rows-or rs)
 
   ending-or : (d : DialogueField) → Or (PastDialogue d) (endingMeans m d)
-  ending-or DialogueField.NoDialogue = inr (silent, refl)
-  ending-or (DialogueField.Cause n) = inr (cause n, refl)
+  ending-or DialogueField.NoDialogue = fine never silent refl
+  ending-or (DialogueField.Cause n) = fine never (cause n) refl
   ending-or (DialogueField.Request n u) = bind-or (octetsAt m n) _ (string-or n) λ c. map-or (spanMeans m u) (λ u. says (request c u)) (option-or u)
   ending-or (DialogueField.Response n r s u) = bind-or (octetsAt m n) _ (string-or n) λ c. map-or (spanMeans m u) (λ u. says (response c r s u)) (option-or u)
   ending-or (DialogueField.DialogueAbort r u) = map-or (spanMeans m u) (λ u. says (aborted r u)) (option-or u)
@@ -146,11 +155,11 @@ module _ (m : List ℕ) where
   ending-or (DialogueField.OutsideOctets n c) = bind-or (octetsAt m n) _ (string-or n) λ d. map-or (octetsAt m c) (λ c. says (octets d c)) (string-or c)
 
   orig-or : (o : OptionalOrig) → Or (PastOrig o) (origMeans m o)
-  orig-or OptionalOrig.NoOrig = inr (none, refl)
+  orig-or OptionalOrig.NoOrig = fine never none refl
   orig-or (OptionalOrig.Orig o) = map-or (octetsAt m (o .0 .octets)) (λ c. some (orig c)) (string-or (o .0 .octets))
 
   dest-or : (e : OptionalDest) → Or (PastDest e) (destMeans m e)
-  dest-or OptionalDest.NoDest = inr (none, refl)
+  dest-or OptionalDest.NoDest = fine never none refl
   dest-or (OptionalDest.Dest e) = map-or (octetsAt m (e .0 .octets)) (λ c. some (dest c)) (string-or (e .0 .octets))
 
   -- a field is there just if its meaning is
@@ -159,12 +168,12 @@ module _ (m : List ℕ) where
     present : {y : A} → (x ≡ blank → ⊥) → Link blank x (some y)
 
   lacks-or : {F A : Type 0} {blank x : F} {v : Option A} → Link blank x v → Or (x ≡ blank → ⊥) (lacks m v)
-  lacks-or (absent e) = inr (tt, refl)
-  lacks-or (present n) = inl n
+  lacks-or (absent e) = fine (λ n. n e) tt refl
+  lacks-or (present n) = inl (n, refl)
 
   needs-or : {F A : Type 0} {blank x : F} {v : Option A} → Link blank x v → Or (x ≡ blank) v
-  needs-or (absent e) = inl e
-  needs-or (present {y = y} n) = inr (y, refl)
+  needs-or (absent e) = inl (e, refl)
+  needs-or (present {y = y} n) = fine n y refl
 
   some-is : {A : Type 0} {a b : A} → some a ≡ some b → a ≡ b
   some-is e = cc
@@ -186,33 +195,48 @@ module _ (m : List ℕ) where
   dest-link (OptionalDest.Dest o) v e = there (octetsAt m (o .0 .octets)) dest v (λ q. let z : _≡_ {A = ℕ} 0 1 = cc in omega arith) e
 
   -- of a dialogue that is said
-  said : {P : Type 0} {d : Dialogue (List ℕ)} (s : Ending (List ℕ)) → some (says d) ≡ some s → Or P (portionOf m s)
-  said {d = d} s e = rw (← (some-is e)) (inr (some d, refl))
+  said : {P : Type 0} {d : Dialogue (List ℕ)} (s : Ending (List ℕ)) → (P → ⊥) → some (says d) ≡ some s → Or P (portionOf m s)
+  said {d = d} s n e = rw (← (some-is e)) (fine n (some d) refl)
 
-  said-one : {P A : Type 0} (x : Option A) (f : A → Dialogue (List ℕ)) (s : Ending (List ℕ)) → bind x (λ a. some (says (f a))) ≡ some s → Or P (portionOf m s)
+  said-one : {P A : Type 0} (x : Option A) (f : A → Dialogue (List ℕ)) (s : Ending (List ℕ)) → (P → ⊥) → bind x (λ a. some (says (f a))) ≡ some s → Or P (portionOf m s)
   unfolding bind
-  said-one none f s e = absurd (not-some e)
-  said-one (some a) f s e = said s e
+  said-one none f s n e = absurd (not-some e)
+  said-one (some a) f s n e = said s n e
 
-  said-two : {P A B : Type 0} (x : Option A) (y : Option B) (f : A → B → Dialogue (List ℕ)) (s : Ending (List ℕ)) → bind x (λ a. bind y (λ b. some (says (f a b)))) ≡ some s → Or P (portionOf m s)
+  said-two : {P A B : Type 0} (x : Option A) (y : Option B) (f : A → B → Dialogue (List ℕ)) (s : Ending (List ℕ)) → (P → ⊥) → bind x (λ a. bind y (λ b. some (says (f a b)))) ≡ some s → Or P (portionOf m s)
   unfolding bind
-  said-two none y f s e = absurd (not-some e)
-  said-two (some a) y f s e = said-one y (f a) s e
+  said-two none y f s n e = absurd (not-some e)
+  said-two (some a) y f s n e = said-one y (f a) s n e
 
   portion-or : (d : DialogueField) (s : Ending (List ℕ)) → endingMeans m d ≡ some s → Or (IsCause d) (portionOf m s)
-  portion-or DialogueField.NoDialogue s e = rw (← (some-is e)) (inr (none, refl))
-  portion-or (DialogueField.Cause n) s e = inl (n, refl)
-  portion-or (DialogueField.Request n u) s e = said-two (octetsAt m n) (spanMeans m u) request s e
-  portion-or (DialogueField.Response n r q u) s e = said-two (octetsAt m n) (spanMeans m u) (λ n u. response n r q u) s e
-  portion-or (DialogueField.DialogueAbort r u) s e = said-one (spanMeans m u) (aborted r) s e
-  portion-or (DialogueField.Unidialogue n u) s e = said-two (octetsAt m n) (spanMeans m u) unidialogue s e
-  portion-or (DialogueField.OutsideElement n x) s e = said-two (octetsAt m n) (octetsAt m x) single s e
-  portion-or (DialogueField.OutsideOctets n c) s e = said-two (octetsAt m n) (octetsAt m c) octets s e
+  portion-or DialogueField.NoDialogue s e = rw (← (some-is e)) (fine (λ (n, q). let z : _≡_ {A = ℕ} 0 1 = cc in omega arith) none refl)
+  portion-or (DialogueField.Cause n) s e = rw (← (some-is e)) (inl ((n, refl), refl))
+  portion-or (DialogueField.Request n u) s e = said-two (octetsAt m n) (spanMeans m u) request s (λ (k, q). let z : _≡_ {A = ℕ} 0 1 = cc in omega arith) e
+  portion-or (DialogueField.Response n r v u) s e = said-two (octetsAt m n) (spanMeans m u) (λ n u. response n r v u) s (λ (k, q). let z : _≡_ {A = ℕ} 0 1 = cc in omega arith) e
+  portion-or (DialogueField.DialogueAbort r u) s e = said-one (spanMeans m u) (aborted r) s (λ (k, q). let z : _≡_ {A = ℕ} 0 1 = cc in omega arith) e
+  portion-or (DialogueField.Unidialogue n u) s e = said-two (octetsAt m n) (spanMeans m u) unidialogue s (λ (k, q). let z : _≡_ {A = ℕ} 0 1 = cc in omega arith) e
+  portion-or (DialogueField.OutsideElement n x) s e = said-two (octetsAt m n) (octetsAt m x) single s (λ (k, q). let z : _≡_ {A = ℕ} 0 1 = cc in omega arith) e
+  portion-or (DialogueField.OutsideOctets n c) s e = said-two (octetsAt m n) (octetsAt m c) octets s (λ (k, q). let z : _≡_ {A = ℕ} 0 1 = cc in omega arith) e
+
+  some-row : (c : Component (List ℕ)) (x : Option (List (Component (List ℕ)))) → bind x (λ cs. some (c ∷ cs)) ≡ some [] → ⊥
+  unfolding bind
+  some-row c none e = not-some e
+  some-row c (some cs) e = let z : _≡_ {A = ℕ} 0 1 = cc in omega arith
+
+  first-row : (x : Option (Component (List ℕ))) (y : Option (List (Component (List ℕ)))) → bind x (λ c. bind y (λ cs. some (c ∷ cs))) ≡ some [] → ⊥
+  unfolding bind
+  first-row none y e = not-some e
+  first-row (some c) y e = some-row c y e
+
+  no-rows : (rs : List Row) → rowsMean m rs ≡ some [] → rs ≡ []
+  unfolding rowsMean
+  no-rows [] e = refl
+  no-rows (r ∷ rs) e = absurd (first-row (rowMeans m (r .id) (r .kind)) (rowsMean m rs) e)
 
   none-or : (rs : List Row) (cs : List (Component (List ℕ))) → rowsMean m rs ≡ some cs → Or (rs ≡ [] → ⊥) (lacksAll m cs)
   unfolding rowsMean
-  none-or rs [] e = inr (tt, refl)
-  none-or rs (c ∷ cs) e = inl (λ q. empty (rw q at e))
+  none-or rs [] e = fine (λ n. n (no-rows rs e)) tt refl
+  none-or rs (c ∷ cs) e = inl ((λ q. empty (rw q at e)), refl)
     where
       empty : some [] ≡ some (c ∷ cs) → ⊥
       empty h = let z : _≡_ {A = ℕ} 0 1 = cc in omega arith
@@ -226,40 +250,73 @@ module _ (m : List ℕ) where
     parts-or MessageKind.Continue = bind-or ov _ (needs-or lo) λ o. bind-or xv _ (needs-or lx) λ e. map-or (portionOf m s) (λ d. continue o e d cs) ls
     parts-or MessageKind.Abort = bind-or (lacks m ov) _ (lacks-or lo) λ _. bind-or xv _ (needs-or lx) λ e. map-or (lacksAll m cs) (λ y. abort e s) lr
 
-  -- every record has a cause or a meaning
+  -- every record has a cause and no meaning, or no cause and a meaning
   module _ (r : Record) where
+    abbrev counted : List Row
+    counted = take (r .count) (r .rows)
+
     abbrev CauseOr : Type 0
-    CauseOr = Cause r ⊎ ((μ : Meaning) × (meaningOf r m ≡ some μ))
+    CauseOr = Or (Cause r) (meaningOf r m)
 
     module _ (c : leb (r .count) mostComponents ≡ true) where
-      by-parts : (ov : Option (Originating (List ℕ))) (xv : Option (Destination (List ℕ))) (s : Ending (List ℕ)) (cs : List (Component (List ℕ))) → origMeans m (r .orig) ≡ some ov → destMeans m (r .dest) ≡ some xv
-          → endingMeans m (r .dialogue) ≡ some s → rowsMean m (take (r .count) (r .rows)) ≡ some cs → Or (PartsCause (r .kind) (r .orig) (r .dest) (r .dialogue) (take (r .count) (r .rows))) (partsMean m (r .kind) ov xv s cs) → CauseOr
-      unfolding meaningOf bind
-      by-parts ov xv s cs eo ex es er (inl p) = inl (inParts p)
-      by-parts ov xv s cs eo ex es er (inr (μ, h)) = inr (μ, rw (c, eo, ex, es, er) h)
+      none-of : (PastOrig (r .orig) → ⊥) → (PastDest (r .dest) → ⊥) → (PastDialogue (r .dialogue) → ⊥) → (RowsCause counted → ⊥) → (PartsCause (r .kind) (r .orig) (r .dest) (r .dialogue) counted → ⊥) → Cause r → ⊥
+      none-of nw nx ns nr np (many h) = omega (arith, leb-true (r .count) mostComponents c)
+      none-of nw nx ns nr np (pastOrig p) = nw p
+      none-of nw nx ns nr np (pastDest p) = nx p
+      none-of nw nx ns nr np (pastDialogue p) = ns p
+      none-of nw nx ns nr np (inRow p) = nr p
+      none-of nw nx ns nr np (inParts p) = np p
 
-      by-rows : (ov : Option (Originating (List ℕ))) (xv : Option (Destination (List ℕ))) (s : Ending (List ℕ)) → origMeans m (r .orig) ≡ some ov → destMeans m (r .dest) ≡ some xv → endingMeans m (r .dialogue) ≡ some s
-          → Or (RowsCause (take (r .count) (r .rows))) (rowsMean m (take (r .count) (r .rows))) → CauseOr
-      by-rows ov xv s eo ex es (inl p) = inl (inRow p)
-      by-rows ov xv s eo ex es (inr (cs, er)) =
-          by-parts ov xv s cs eo ex es er
-          (parts-or (r .orig) (r .dest) (r .dialogue) (take (r .count) (r .rows)) s cs (orig-link (r .orig) ov eo) (dest-link (r .dest) xv ex) (portion-or (r .dialogue) s es) (none-or (take (r .count) (r .rows)) cs er) (r .kind))
+      module _ (nw : PastOrig (r .orig) → ⊥) (ov : Option (Originating (List ℕ))) (eo : origMeans m (r .orig) ≡ some ov) where
+        module _ (nx : PastDest (r .dest) → ⊥) (xv : Option (Destination (List ℕ))) (ex : destMeans m (r .dest) ≡ some xv) where
+          module _ (ns : PastDialogue (r .dialogue) → ⊥) (s : Ending (List ℕ)) (es : endingMeans m (r .dialogue) ≡ some s) where
+            by-parts : (RowsCause counted → ⊥) → (cs : List (Component (List ℕ))) → rowsMean m counted ≡ some cs → Or (PartsCause (r .kind) (r .orig) (r .dest) (r .dialogue) counted) (partsMean m (r .kind) ov xv s cs) → CauseOr
+            unfolding meaningOf bind
+            by-parts nr cs er (inl (p, h)) = inl (inParts p, rw (c, eo, ex, es, er) h)
+            by-parts nr cs er (inr (np, (μ, h))) = inr (none-of nw nx ns nr np, (μ, rw (c, eo, ex, es, er) h))
 
-      by-ending : (ov : Option (Originating (List ℕ))) (xv : Option (Destination (List ℕ))) → origMeans m (r .orig) ≡ some ov → destMeans m (r .dest) ≡ some xv → Or (PastDialogue (r .dialogue)) (endingMeans m (r .dialogue)) → CauseOr
-      by-ending ov xv eo ex (inl p) = inl (pastDialogue p)
-      by-ending ov xv eo ex (inr (s, es)) = by-rows ov xv s eo ex es (rows-or (take (r .count) (r .rows)))
+            by-rows : Or (RowsCause counted) (rowsMean m counted) → CauseOr
+            unfolding meaningOf bind
+            by-rows (inl (p, h)) = inl (inRow p, rw (c, eo, ex, es, h))
+            by-rows (inr (nr, (cs, er))) =
+                by-parts nr cs er (parts-or (r .orig) (r .dest) (r .dialogue) counted s cs (orig-link (r .orig) ov eo) (dest-link (r .dest) xv ex) (portion-or (r .dialogue) s es) (none-or counted cs er) (r .kind))
 
-      by-dest : (ov : Option (Originating (List ℕ))) → origMeans m (r .orig) ≡ some ov → Or (PastDest (r .dest)) (destMeans m (r .dest)) → CauseOr
-      by-dest ov eo (inl p) = inl (pastDest p)
-      by-dest ov eo (inr (xv, ex)) = by-ending ov xv eo ex (ending-or (r .dialogue))
+          by-ending : Or (PastDialogue (r .dialogue)) (endingMeans m (r .dialogue)) → CauseOr
+          unfolding meaningOf bind
+          by-ending (inl (p, h)) = inl (pastDialogue p, rw (c, eo, ex, h))
+          by-ending (inr (ns, (s, es))) = by-rows ns s es (rows-or counted)
+
+        by-dest : Or (PastDest (r .dest)) (destMeans m (r .dest)) → CauseOr
+        unfolding meaningOf bind
+        by-dest (inl (p, h)) = inl (pastDest p, rw (c, eo, h))
+        by-dest (inr (nx, (xv, ex))) = by-ending nx xv ex (ending-or (r .dialogue))
 
       by-orig : Or (PastOrig (r .orig)) (origMeans m (r .orig)) → CauseOr
-      by-orig (inl p) = inl (pastOrig p)
-      by-orig (inr (ov, eo)) = by-dest ov eo (dest-or (r .dest))
+      unfolding meaningOf bind
+      by-orig (inl (p, h)) = inl (pastOrig p, rw (c, h))
+      by-orig (inr (nw, (ov, eo))) = by-dest nw ov eo (dest-or (r .dest))
 
     by-count : (c : Bool) → leb (r .count) mostComponents ≡ c → CauseOr
+    unfolding meaningOf
     by-count true c = by-orig c (orig-or (r .orig))
-    by-count false c = inl (many (omega (arith, leb-false (r .count) mostComponents c)))
+    by-count false c = inl (many (omega (arith, leb-false (r .count) mostComponents c)), rw c)
 
-    pub cause-or-meaning : Cause r ⊎ ((μ : Meaning) × (meaningOf r m ≡ some μ))
-    cause-or-meaning = by-count (leb (r .count) mostComponents) refl
+    whether : CauseOr
+    whether = by-count (leb (r .count) mostComponents) refl
+
+    -- no meaning exactly if there is a cause
+    pub cause-exactly : (meaningOf r m ≡ none) ↔ Cause r
+    cause-exactly = by-cause whether
+      where
+        by-cause : CauseOr → (meaningOf r m ≡ none) ↔ Cause r
+        by-cause (inl (p, e)) = (λ _. p, λ _. e)
+        by-cause (inr (n, (μ, e))) = (λ h. absurd (not-some (sym h ∙ e)), λ p. absurd (n p))
+
+    -- and then it is not the same even as itself
+    pub same-itself : Same r m r m ↔ (Cause r → ⊥)
+    unfolding Same
+    same-itself = by-cause whether
+      where
+        by-cause : CauseOr → Same r m r m ↔ (Cause r → ⊥)
+        by-cause (inl (p, e)) = (λ s. absurd (not-some (sym e ∙ s .1)), λ n. absurd (n p))
+        by-cause (inr (n, (μ, e))) = (λ _. n, λ _. (μ, e, e))
