@@ -4,7 +4,7 @@ use native.Mathlib.Omega.{arith}
 use native.Mathlib.Nat.{zero-add}
 use native.Mathlib.Numerals.{add-one}
 use mathlib.Core.Path.{_≡_, refl, ap, sym, _∙_}
-use mathlib.Core.Bool.{Bool, true, false, cond, not, false≢true}
+use mathlib.Core.Bool.{Bool, true, false, cond, false≢true}
 use mathlib.Core.List.{List, [], _∷_, _++_, append-assoc, append-nil}
 use lib.ListN.{length, drop, getD, length-append, drop-of-length-le}
 use lib.Seq.{drop-cons}
@@ -133,40 +133,6 @@ octets-after b v (x ∷ c) o =
 pub octets-number : (c : List ℕ) → Octets c → octetsIn (length c) (numberFrom 0 c) ≡ c
 unfolding octetsIn
 octets-number c o = rw (zero-add (length c)) at (octets-after 0 0 c o)
-
--- whether a number is within a bound whose further octets are all FF, its front tells
-front-tells : (f : ℕ → ℕ) → ((k : ℕ) → f (suc k) ≡ f k * 256 + 255) → (v : ℕ) (c : List ℕ) → Octets c → leb (numberFrom v c) (f (length c)) ≡ leb v (f 0)
-unfolding numberFrom Every
-front-tells f s v [] o = refl
-front-tells f s v (x ∷ c) o = front-tells (λ k. f (suc k)) (λ k. s (suc k)) (v * 256 + x) c (o .1) ∙ rw (s 0) (by-test (leb v (f 0)) refl)
-  where
-    by-test : (b : Bool) → leb v (f 0) ≡ b → leb (v * 256 + x) (f 0 * 256 + 255) ≡ leb v (f 0)
-    by-test true e = rw e (le-leb (v * 256 + x) (f 0 * 256 + 255) (omega (arith, o .0, leb-true v (f 0) e)))
-    by-test false e = rw e (lt-leb (v * 256 + x) (f 0 * 256 + 255) (omega (arith, o .0, leb-false v (f 0) e)))
-
-sub-test : (t n h : ℕ) → h < t → leb (t - n) h ≡ not (leb n (t - h - 1))
-sub-test t n h l = by-test (leb n (t - h - 1)) refl
-  where
-    by-test : (b : Bool) → leb n (t - h - 1) ≡ b → leb (t - n) h ≡ not (leb n (t - h - 1))
-    by-test true e = rw e (lt-leb (t - n) h (omega (arith, leb-true n (t - h - 1) e)))
-    by-test false e = rw e (le-leb (t - n) h (omega (arith, leb-false n (t - h - 1) e)))
-
--- whether one octet fewer holds a number, its first two tell
-pub holds-front : (v : ℕ) (r : List ℕ) → Octets r → holds (suc (length r)) (signedAt (topOf (suc (suc (length r)))) (numberFrom v r)) ≡ holds 1 (signedAt (topOf 2) v)
-unfolding holds signedAt topOf
-holds-front v r o = by-sign (leb v (topOf 2 / 2)) refl
-  where
-    below : (k : ℕ) → topOf (suc k) / 2 < topOf (suc (suc k))
-    below k = omega arith
-
-    sign : leb (numberFrom v r) (topOf (suc (suc (length r))) / 2) ≡ leb v (topOf 2 / 2)
-    sign = front-tells (λ k. topOf (suc (suc k)) / 2) (λ k. omega arith) v r o
-
-    by-sign : (b : Bool) → leb v (topOf 2 / 2) ≡ b → holds (suc (length r)) (signedAt (topOf (suc (suc (length r)))) (numberFrom v r)) ≡ holds 1 (signedAt (topOf 2) v)
-    by-sign true e = rw (sign, e) (front-tells (λ k. topOf (suc k) / 2) (λ k. omega arith) v r o)
-    by-sign false e =
-        rw (sign, e, sub-test (topOf (suc (suc (length r)))) (numberFrom v r) (topOf (suc (length r)) / 2) (below (length r)), sub-test (topOf 2) v (topOf 1 / 2) (below 0))
-        (ap not (front-tells (λ k. topOf (suc (suc k)) - topOf (suc k) / 2 - 1) (λ k. omega arith) v r o))
 
 -- one octet more
 pub number-step : (s : List ℕ) (i v : ℕ) → i < length s → numberFrom v (drop i s) ≡ numberFrom (v * 256 + getD s i 0) (drop (i + 1) s)

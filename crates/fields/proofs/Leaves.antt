@@ -21,7 +21,7 @@ use Rattle.element.specs.Fault.{Text, at}
 use Rattle.element.specs.Ask.{got, bad, next, check, head, definite}
 use Rattle.element.specs.Parts.{Item, leafContents, leafItem, mapItem, integerItem}
 use Rattle.primitive.specs.Answers.{integerOf}
-use Rattle.primitive.proofs.Integers.{firstNine, fewest-test}
+use Rattle.primitive.proofs.Integers.{fewest-range}
 use Rattle.tcap.specs.Productions.{single?, octetItem}
 use Rattle.tcap.specs.Meaning.{Code, local, global}
 use Rattle.asking.specs.declared.{Field.Field, Octet.Octet}
@@ -65,8 +65,8 @@ module _ (part : List ℕ) (u n : ℕ) (room : u + n ≤ length part) where
   contents-none e = rw e
 
 one-octet : (x : ℕ) → x < 256 → integerOk 1 (x ∷ []) ≡ true
-unfolding integerOk Every firstNine
-one-octet x h = rw (fewest-test (x ∷ []) (h, tt) (omega arith) (omega arith))
+unfolding integerOk Every
+one-octet x h = rw (fewest-range (x ∷ []) (h, tt) (omega arith) (omega arith))
 
 one-only : (c : List ℕ) (b : Bool) → integerOk 1 c ≡ b → (length c ≡ 1 → ⊥) → b ≡ false
 unfolding integerOk

@@ -1,23 +1,24 @@
--- Signed integers: written and read back, over the width; and their fewest octets, by value as defined and by bits as tested.
+-- Signed integers: written and read back, over the width; and their fewest octets, as those in which they are written and by the range of one less.
 -- Assumes nothing.
 use Prim.Native.Nat.{ℕ, zero, suc, _+_, _-_, _*_, _/_, _≤_, _<_}
 use native.Mathlib.Nat.{zero-add}
 use native.Mathlib.Omega.{arith}
 use mathlib.Core.Path.{_≡_, refl, sym, ap, _∙_}
-use mathlib.Core.Bool.{Bool, true, false, cond, not, _&&_, false≢true, and-eq-true-iff}
-use mathlib.Core.List.{List, [], _∷_}
+use mathlib.Core.Bool.{Bool, true, false, cond, not, _&&_, false≢true, and-true, and-eq-true-iff}
+use mathlib.Core.List.{List, [], _∷_, map}
 use lib.ListN.{length, getD}
-use lib.Dec.{leb, ltb, eqb}
+use lib.Dec.{leb, eqb}
 use lib.IntN.{ℤ, pos, negsuc}
-use lib.Signed.{mag}
-use borrow.Author.Tests.{leb-true, leb-false, le-leb, lt-leb, eqb-true, eqb-false, lt-ltb, le-ltb}
+use lib.Signed.{mag, leZ}
+use borrow.Author.Tests.{leb-true, le-leb, eqb-true, eqb-false}
 use Rattle.base.specs.Number.{numberFrom, octetsIn, topOf, signedAt, bitsAt, holds}
-use Rattle.base.specs.Value.{Every, same}
+use Rattle.base.specs.Value.{same}
 use Rattle.base.proofs.Tests.{cond-all}
 use Rattle.base.proofs.Values.{same-equal, same-refl}
-use Rattle.base.proofs.Numbers.{Octets, signed-small, bits-signed, signed-bits, bits-within, top-odd, holds-more, holds-small, small-holds, length-octets, octets-are, number-octets, number-small, octets-number, holds-front}
+use Rattle.base.proofs.Numbers.{Octets, signed-small, bits-signed, signed-bits, bits-within, top-odd, holds-more, holds-small, small-holds, length-octets, octets-are, number-octets, number-small, octets-number}
 use Rattle.primitive.specs.Primitive.{mostIntegerOctets, widthFrom, integerOctets, signedOf, integerOk}
 use Rattle.primitive.specs.Answers.{integerOf}
+use Rattle.primitive.specs.declared.IntegerRead.{IntegerRead}
 use Rattle.primitive.specs.declared.IntegerRead.the-variants.{Value, Wrong}
 
 -- the fewest octets from k on: they hold z if k and so many more do, and no fewer do
@@ -100,41 +101,10 @@ integer-only most c e =
     let n : length c ≤ most = leb-true (length c) most (and-eq-true-iff (leb 1 (length c)) (leb (length c) most) .0 b .1) in
     (q, holds-more (length c) most (signedOf c) n (octets-hold c))
 
--- The test by bits: the first nine are not all the same
-
-unfoldable pub nineOf : ℕ → ℕ → Bool
-nineOf x y = cond (eqb x 0) (leb 128 y) (cond (eqb x 255) (ltb y 128) true)
-
-unfoldable pub firstNine : List ℕ → Bool
-firstNine c = cond (leb (length c) 1) true (nineOf (getD c 0 0) (getD c 1 0))
-
-nine-tell : (x y : ℕ) → x < 256 → y < 256 → holds 1 (signedAt (topOf 2) (x * 256 + y)) ≡ not (nineOf x y)
-unfolding holds signedAt topOf nineOf
-nine-tell x y h g = by-two (eqb x 0) (eqb x 255) (leb 128 y) refl refl refl
-  where
-    by-two : (a b d : Bool) → eqb x 0 ≡ a → eqb x 255 ≡ b → leb 128 y ≡ d → holds 1 (signedAt (topOf 2) (x * 256 + y)) ≡ not (nineOf x y)
-    by-two true b true e f i =
-        let z = eqb-true x 0 e in
-        let m = leb-true 128 y i in
-        rw (e, i, le-leb (x * 256 + y) 32767 (omega arith)) (lt-leb (x * 256 + y) 127 (omega arith))
-    by-two true b false e f i =
-        let z = eqb-true x 0 e in
-        let m = leb-false 128 y i in
-        rw (e, i, le-leb (x * 256 + y) 32767 (omega arith)) (le-leb (x * 256 + y) 127 (omega arith))
-    by-two false true true e f i =
-        let z = eqb-true x 255 f in
-        let m = leb-true 128 y i in
-        rw (e, f, le-ltb y 128 m, lt-leb (x * 256 + y) 32767 (omega arith)) (le-leb (65535 - (x * 256 + y)) 127 (omega arith))
-    by-two false true false e f i =
-        let z = eqb-true x 255 f in
-        let m = leb-false 128 y i in
-        rw (e, f, lt-ltb y 128 m, lt-leb (x * 256 + y) 32767 (omega arith)) (lt-leb (65535 - (x * 256 + y)) 127 (omega arith))
-    by-two false false d e f i =
-        let z = eqb-false x 0 e in
-        let m = eqb-false x 255 f in
-        rw (e, f)
-        (cond-all (λ (n : ℤ). leb (mag n) 127 ≡ false) (leb (x * 256 + y) 32767) (pos (x * 256 + y)) (negsuc (65535 - (x * 256 + y)))
-        (λ s. lt-leb (x * 256 + y) 127 (omega arith)) (λ s. lt-leb (65535 - (x * 256 + y)) 127 (omega arith)))
+-- from -1 - k to k is no further than k
+pub range-far : (k : ℕ) (z : ℤ) → leZ (negsuc k) z && leZ z (pos k) ≡ leb (mag z) k
+range-far k (pos n) = refl
+range-far k (negsuc n) = and-true (leb n k)
 
 -- octets are those of their number if these are as many, and not if these are fewer
 module _ (c : List ℕ) (o : Octets c) (i : 1 ≤ length c) where
@@ -154,30 +124,24 @@ module _ (c : List ℕ) (o : Octets c) (i : 1 ≤ length c) where
       by-test true e = absurd (omega (arith, ap length (same-equal (integerOctets (signedOf c)) c e), integer-length (signedOf c)))
       by-test false e = refl
 
--- the definition, by value, is the test
-pub fewest-test : (c : List ℕ) → Octets c → 1 ≤ length c → length c ≤ mostIntegerOctets → same (integerOctets (signedOf c)) c ≡ firstNine c
-unfolding Every firstNine signedOf numberFrom
-fewest-test [] o i l = absurd (omega arith)
-fewest-test (x ∷ []) o i l = as-many (x ∷ []) o i (width-some (signedOf (x ∷ [])))
-fewest-test (x ∷ y ∷ r) o i l = let some : 1 < length (x ∷ y ∷ r) = omega arith in rw (lt-leb (length (x ∷ y ∷ r)) 1 some) (by-front (nineOf x y) refl)
+-- octets are the fewest unless one less holds their number; none hold no number
+pub fewest-range : (c : List ℕ) → Octets c → 1 ≤ length c → length c ≤ mostIntegerOctets
+    → same (integerOctets (signedOf c)) c ≡ cond (eqb (length c) 1) true (not (holds (length c - 1) (signedOf c)))
+fewest-range c o i l = by-one (eqb (length c) 1) refl
   where
-    c : List ℕ
-    c = x ∷ y ∷ r
-
     z : ℤ
     z = signedOf c
 
-    front : holds (suc (length r)) z ≡ not (nineOf x y)
-    front =
-        ap (λ (n : ℕ). holds (suc (length r)) (signedAt (topOf (length c)) (numberFrom (n * 256 + y) r))) (zero-add x)
-        ∙ holds-front (x * 256 + y) r (o .1 .1) ∙ nine-tell x y (o .0) (o .1 .0)
-
-    by-front : (b : Bool) → nineOf x y ≡ b → same (integerOctets z) c ≡ b
-    by-front true e =
+    by-less : (b : Bool) → 1 < length c → holds (length c - 1) z ≡ b → same (integerOctets z) c ≡ not b
+    by-less true s e = fewer c o i (omega (arith, width-fits (length c - 1) z (omega arith) e))
+    by-less false s e =
         let enough : holds (width z) z ≡ true = width-enough z (holds-more (length c) mostIntegerOctets z l (octets-hold c)) in
-        let unlike : width z ≤ suc (length r) → ⊥ = λ q. false≢true (sym (front ∙ ap not e) ∙ holds-more (width z) (suc (length r)) z q enough) in
+        let unlike : width z ≤ length c - 1 → ⊥ = λ q. false≢true (sym e ∙ holds-more (width z) (length c - 1) z q enough) in
         as-many c o i (omega arith)
-    by-front false e = fewer c o i (omega (arith, width-fits (suc (length r)) z (omega arith) (front ∙ ap not e)))
+
+    by-one : (b : Bool) → eqb (length c) 1 ≡ b → same (integerOctets z) c ≡ cond b true (not (holds (length c - 1) z))
+    by-one true e = as-many c o i (omega (arith, eqb-true (length c) 1 e, width-some z))
+    by-one false e = by-less (holds (length c - 1) z) (omega (arith, eqb-false (length c) 1 e)) refl
 
 -- the numbers of one octet to four, octet by octet
 module _ (z : ℤ) (s : List ℕ) (a : ℕ) (is-a : a ≡ getD s 0 0) where
@@ -225,9 +189,33 @@ module _ (z : ℤ) (s : List ℕ) (a : ℕ) (is-a : a ≡ getD s 0 0) where
           by-octets (x ∷ y ∷ v ∷ w ∷ []) i j k m l = let n : ((a * 256 + b) * 256 + c) * 256 + d ≡ (((0 + x) * 256 + y) * 256 + v) * 256 + w = omega (arith, i, j, k, m) in e ∙ ap (signedAt 4294967295) n
           by-octets (x ∷ y ∷ v ∷ w ∷ u ∷ r) i j k m l = absurd (omega (arith, l))
 
--- document 01's specimens
-specimens
-    : (integerOf 4 (0x80 ∷ []) ≡ Value (negsuc 127)) × (integerOf 4 (0x00 ∷ 0x80 ∷ []) ≡ Value (pos 128)) × (integerOf 4 (0x00 ∷ 0x7F ∷ []) ≡ Wrong)
-    × (integerOf 4 (0x80 ∷ 0x00 ∷ 0x00 ∷ 0x00 ∷ []) ≡ Value (negsuc 2147483647))
+-- Octets, and what they are read as: the ends of each range, in as many octets as they need and in one more
+
+record Reads : Type 0 where
+  octets : List ℕ
+  answer : IntegerRead
+
+abbrev table : List Reads
+table =
+    record { octets = 0x00 ∷ []; answer = Value (pos 0) }
+    ∷ record { octets = 0x80 ∷ []; answer = Value (negsuc 127) }
+    ∷ record { octets = 0x00 ∷ 0x7F ∷ []; answer = Wrong }
+    ∷ record { octets = 0x00 ∷ 0x80 ∷ []; answer = Value (pos 128) }
+    ∷ record { octets = 0xFF ∷ 0x80 ∷ []; answer = Wrong }
+    ∷ record { octets = 0xFF ∷ 0x7F ∷ []; answer = Value (negsuc 128) }
+    ∷ record { octets = 0x00 ∷ 0x7F ∷ 0xFF ∷ []; answer = Wrong }
+    ∷ record { octets = 0x00 ∷ 0x80 ∷ 0x00 ∷ []; answer = Value (pos 32768) }
+    ∷ record { octets = 0xFF ∷ 0x80 ∷ 0x00 ∷ []; answer = Wrong }
+    ∷ record { octets = 0xFF ∷ 0x7F ∷ 0xFF ∷ []; answer = Value (negsuc 32768) }
+    ∷ record { octets = 0x00 ∷ 0x7F ∷ 0xFF ∷ 0xFF ∷ []; answer = Wrong }
+    ∷ record { octets = 0x00 ∷ 0x80 ∷ 0x00 ∷ 0x00 ∷ []; answer = Value (pos 8388608) }
+    ∷ record { octets = 0xFF ∷ 0x80 ∷ 0x00 ∷ 0x00 ∷ []; answer = Wrong }
+    ∷ record { octets = 0xFF ∷ 0x7F ∷ 0xFF ∷ 0xFF ∷ []; answer = Value (negsuc 8388608) }
+    ∷ record { octets = 0x80 ∷ 0x00 ∷ 0x00 ∷ 0x00 ∷ []; answer = Value (negsuc 2147483647) }
+    ∷ record { octets = 0x00 ∷ 0x00 ∷ 0x00 ∷ 0x00 ∷ 0x2D ∷ []; answer = Wrong }
+    ∷ record { octets = []; answer = Wrong }
+    ∷ []
+
+computed : map (λ (r : Reads). integerOf mostIntegerOctets (r .octets)) table ≡ map (λ (r : Reads). r .answer) table
 unfolding integerOf integerOk integerOctets signedOf widthFrom same holds bitsAt signedAt octetsIn topOf numberFrom
-specimens = (refl, refl, refl, refl)
+computed = refl

@@ -5,8 +5,8 @@ ghost use mathlib.Core.Bool.{not, _&&_};
 ghost use Prim.Native.Nat.{_≤_, _<_};
 ghost use lib.ListN.{length, getD};
 ghost use lib.Dec.{eqb};
-ghost use lib.Signed.{mag};
-ghost use Rattle.base.specs.Number.{signedAt, bitsAt};
+ghost use lib.Signed.{mag, leZ};
+ghost use Rattle.base.specs.Number.{signedAt, bitsAt, holds};
 ghost use Rattle.base.specs.Value.{same};
 ghost use Rattle.primitive.specs.Primitive.{mostIntegerOctets, integerOctets, signedOf, beginsAt, identifierOk};
 ghost use Rattle.primitive.specs.Answers.{integerOf};
@@ -56,41 +56,47 @@ pub fn bits(top: u32, value: i32) -> u32
     if value >= 0 { far } else { top - far }
 }
 
-// How many octets an integer takes.
+// Whether a value lies in a range.
+fn lies(lowest: i32, value: i32, highest: i32) -> bool
+    ensures { λ r. ⌜ r ≡ leZ lowest value && leZ value highest ⌝ }
+{
+    if value >= lowest {
+        return value <= highest;
+    }
+    false
+}
+
+// Whether so many octets hold a value: it lies in their range.
+fn fits(value: i32, octets: usize) -> bool
+    requires { ⌜ 1 ≤ octets ⌝ }
+    ensures { λ r. ⌜ r ≡ holds octets value ⌝ }
+{
+    if octets == 1 {
+        return lies(-128, value, 127);
+    }
+    if octets == 2 {
+        return lies(-32768, value, 32767);
+    }
+    if octets == 3 {
+        return lies(-8388608, value, 8388607);
+    }
+    true
+}
+
+// How many octets an integer takes: the fewest that hold it.
 pub fn integer_size(value: i32) -> usize
     ensures { λ r. ⌜ r ≡ length (integerOctets value) ⌝ }
 {
-    let far = magnitude(value);
-    if far <= 127 {
+    if fits(value, 1) {
         return 1;
     }
-    if far <= 32767 {
+    if fits(value, 2) {
         return 2;
     }
-    if far <= 8388607 {
+    if fits(value, 3) {
         return 3;
     }
     4
-}
-
-// Whether octets are the fewest for their number: their first nine bits are not all the same.
-fn is_fewest(contents: &[u8]) -> bool
-    requires { ⌜ 1 ≤ length (now contents) ⌝ }
-    requires { ⌜ length (now contents) ≤ mostIntegerOctets ⌝ }
-    ensures { λ r. ⌜ r ≡ same (integerOctets (signedOf (now (contents .entry)))) (now (contents .entry)) ⌝ }
-{
-    let one = contents[0];
-    if contents.len() <= 1 {
-        return true;
-    }
-    let two = contents[1];
-    if one == 0 {
-        return two >= 128;
-    }
-    if one == 255 {
-        return two < 128;
-    }
-    true
 }
 
 // The number for which 1 to 4 octets stand.
@@ -112,6 +118,19 @@ fn value_of(contents: &[u8]) -> i32
         return signed(16777215, three);
     }
     signed(4294967295, three * 256 + wide(contents[3]) as u32)
+}
+
+// Whether octets are the fewest for their number: one octet less would not hold it. 00 7F is 127, which one octet holds.
+fn is_fewest(contents: &[u8]) -> bool
+    requires { ⌜ 1 ≤ length (now contents) ⌝ }
+    requires { ⌜ length (now contents) ≤ mostIntegerOctets ⌝ }
+    ensures { λ r. ⌜ r ≡ same (integerOctets (signedOf (now (contents .entry)))) (now (contents .entry)) ⌝ }
+{
+    if contents.len() == 1 {
+        return true;
+    }
+    let value = value_of(contents);
+    !fits(value, contents.len() - 1)
 }
 
 // Contents as a signed integer of 1 to `most` octets.

@@ -1,37 +1,61 @@
 -- The tests are those of the width. Assumes nothing.
 use borrow.Author.Needs.{needs}
-use mathlib.Core.Path.{_≡_, sym}
-use lib.Signed.{mag}
+use mathlib.Core.Path.{_≡_, sym, _∙_}
 use mir.Syntax.{w32}
 use mir.Facts.{toZ-ofZ}
-use Rattle.base.specs.Number.{topOf, holds}
-use Rattle.base.proofs.Tests.{tests}
+use Rattle.base.specs.Number.{holds}
 use Rattle.primitive.specs.Primitive.{widthFrom}
 use Rattle.primitive.proofs.Integers.{integer-length}
 use Rattle.primitive.proofs.integer_size.Statement.{statement}
 use Rattle.primitive.proofs.integer_size.Tie as tie
 
-far : (c : tie.After-magnitude) → mag (c .before .args .value) ≡ c .magnitude .result
-far c = sym (rw (toZ-ofZ {w = w32} (c .before .fits .value)) at (c .magnitude .ensures))
+one : (c : tie.After-fits2) → holds 1 (c .before .args .value) ≡ c .fits2 .result
+one c = sym (rw (toZ-ofZ {w = w32} (c .before .fits .value)) at (c .fits2 .ensures))
 
-magnitude-requires : tie.Need-magnitude-requires
-magnitude-requires c κs = search needs
+two : (c : tie.After-fits3) → holds 2 (c .before .before .before .args .value) ≡ c .fits3 .result
+two c = sym (rw (toZ-ofZ {w = w32} (c .before .before .before .fits .value)) at (c .fits3 .ensures))
+
+three : (c : tie.After-fits4) → holds 3 (c .before .before .before .before .before .args .value) ≡ c .fits4 .result
+three c = sym (rw (toZ-ofZ {w = w32} (c .before .before .before .before .before .fits .value)) at (c .fits4 .ensures))
+
+fits-requires : tie.Need-fits-requires
+fits-requires c κs = search needs
 
 returns : tie.Need-returns
-unfolding widthFrom holds topOf
-returns c = rw (integer-length, far (c .before)) (search tests)
+unfolding widthFrom
+returns c = rw (integer-length, one (c .before) ∙ c .if1 .taken)
+
+fits-requires-2 : tie.Need-fits-requires-2
+fits-requires-2 c κs = search needs
 
 returns-2 : tie.Need-returns-2
-unfolding widthFrom holds topOf
-returns-2 c = rw (integer-length, far (c .before .before)) (search tests)
+unfolding widthFrom
+returns-2 c = rw (integer-length, one (c .before .before .before) ∙ c .before .before .if1 .left, two (c .before) ∙ c .if2 .taken)
+
+fits-requires-3 : tie.Need-fits-requires-3
+fits-requires-3 c κs = search needs
 
 returns-3 : tie.Need-returns-3
-unfolding widthFrom holds topOf
-returns-3 c = rw (integer-length, far (c .before .before .before)) (search tests)
+unfolding widthFrom
+returns-3 c =
+    rw (
+      integer-length,
+      one (c .before .before .before .before .before) ∙ c .before .before .before .before .if1 .left,
+      two (c .before .before .before) ∙ c .before .before .if2 .left,
+      three (c .before) ∙ c .if3 .taken,
+    )
 
 returns-4 : tie.Need-returns-4
-unfolding widthFrom holds topOf
-returns-4 c = rw (integer-length, far (c .before .before .before)) (search tests)
+unfolding widthFrom
+returns-4 c =
+    rw (
+      integer-length,
+      one (c .before .before .before .before .before) ∙ c .before .before .before .before .if1 .left,
+      two (c .before .before .before) ∙ c .before .before .if2 .left,
+      three (c .before) ∙ c .if3 .left,
+    )
 
 pub integer-size-spec : {M : Type 1} → statement M
-integer-size-spec = tie.close (tie.spec magnitude-requires returns returns-2 returns-3 returns-4)
+integer-size-spec =
+    tie.close
+    (tie.spec fits-requires returns fits-requires-2 returns-2 fits-requires-3 returns-3 returns-4)
