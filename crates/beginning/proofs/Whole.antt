@@ -1,7 +1,7 @@
 -- The code's order over a whole message is the definition of reading. Assumes nothing.
 use Prim.Native.Nat.{ℕ, _+_, _-_}
 use mathlib.Core.Path.{_≡_, refl, sym, ap, _∙_}
-use mathlib.Core.Bool.{Bool, true, false, cond, _||_}
+use mathlib.Core.Bool.{Bool, true, false, cond}
 use mathlib.Core.List.{List, [], _∷_}
 use mathlib.Core.Option.{Option}
 use native.Mathlib.Omega.{arith}
@@ -11,18 +11,18 @@ use lib.IntN.{ℤ}
 use borrow.Author.Tests.{eqb-true, le-leb, lt-leb, ltb-true, ltb-false, ne-eqb}
 use Rattle.element.specs.declared.{FaultKind.FaultKind}
 use Rattle.element.specs.Element.{constructorOf, extendedOf, codeZero, IsTag}
-use Rattle.element.specs.Fault.{numberOf, Text, Owner, portion, dialogue, component, Fault, fault, at}
+use Rattle.element.specs.Fault.{Text, Owner, portion, dialogue, component, Fault, fault, at}
 use Rattle.element.specs.Head.{endOf}
 use Rattle.element.specs.Ask.{Got, got, bad, next, check, blamed, head, Body, ask}
 use Rattle.element.specs.Parts.{aroundItem}
 use Rattle.element.specs.Answers.{fronted, frontOf}
 use Rattle.element.proofs.Heads.{tag-complete}
-use Rattle.tcap.specs.declared.{MessageKind.MessageKind, Answer.Answer}
+use Rattle.tcap.specs.declared.{MessageKind.MessageKind, Ground.Ground}
 use Rattle.tcap.specs.Meaning.{Message, unidirectional, begin, finish, continue, abort}
 use Rattle.tcap.specs.WellFormed.{mostOctets, deepestLevel}
 use Rattle.tcap.specs.Productions.{messageItem}
 use Rattle.tcap.specs.Record.{idField, recordOf, messageTag}
-use Rattle.tcap.specs.Reading.{learnt, aloneBody, readFirst, locatedUpTo, byOwner, answerFor, refusalOf, answered, readingUpTo, reading}
+use Rattle.tcap.specs.Reading.{learnt, aloneBody, readFirst, locatedUpTo, groundOf, byOwner, answerFor, refusalOf, answered, readingUpTo, reading}
 use Rattle.asking.specs.declared.{Next.Next, Entry.Entry}
 use Rattle.asking.specs.Asked.{ownerField, faultField, onFront, onEnd, nextOf, innerOf, wholeOf}
 use Rattle.asking.proofs.Sizes.{inner-size, inner-open}
@@ -30,29 +30,28 @@ use Rattle.asking.proofs.Opened.{sizeFor, byTag, byNext, ask-next, byEntry, len
 use Rattle.asking.proofs.Fronts.{around-open}
 use Rattle.transaction.specs.Head.{carriedBy}
 use Rattle.beginning.specs.declared.{KindRead.KindRead}
-use Rattle.beginning.specs.Parts.{kindBody, causeBy, problemBy, answerBy, answerFrom, refusalFrom, refusedBy, acceptedWith, finished, readAs, kindOf, readKind, readMessage}
+use Rattle.beginning.specs.Parts.{kindBody, answerBy, answerFrom, refusalFrom, refusedBy, acceptedWith, finished, readAs, kindOf, readKind, readMessage}
 use Rattle.beginning.proofs.Bodies.{idsIn, toRecord, body-read}
 
 -- The refusal of a fault
 
-cause-same : (a b : Bool) → Answer.AbortCause (cond a 3 (cond b 3 2)) ≡ cond (a || b) (Answer.AbortCause 3) (Answer.AbortCause 2)
-cause-same true b = refl
-cause-same false true = refl
-cause-same false false = refl
+by-owner-same : (problem cause : ℕ) (o : Owner) (i : Option ℤ) → answerBy problem cause (ownerField o) (idField i) ≡ byOwner problem cause o i
+unfolding answerBy byOwner
+by-owner-same problem cause portion i = refl
+by-owner-same problem cause dialogue i = refl
+by-owner-same problem cause (component k) i = refl
 
-problem-same : (a b : Bool) → _≡_ {A = ℕ} (cond a 1 (cond b 1 2)) (cond (a || b) 1 2)
-problem-same true b = refl
-problem-same false b = refl
-
-by-owner-same : (n : ℕ) (o : Owner) (i : Option ℤ) → answerBy n (ownerField o) (idField i) ≡ byOwner n o i
-unfolding answerBy byOwner causeBy problemBy
-by-owner-same n portion i = cause-same (eqb n 10) (eqb n 11)
-by-owner-same n dialogue i = refl
-by-owner-same n (component k) i = ap (λ (p : ℕ). Answer.RejectProblem (cond (eqb n 13) 0 p) k (idField i)) (problem-same (eqb n 10) (eqb n 11))
+answer-same : (g : Ground) (o : Owner) (i : Option ℤ) → answerFrom g (ownerField o) (idField i) ≡ answerFor g o i
+unfolding answerFrom answerFor
+answer-same Ground.UnknownMessage o i = refl
+answer-same Ground.TooManyComponents o i = refl
+answer-same Ground.UnknownComponent o i = by-owner-same 0 2 o i
+answer-same Ground.WrongPart o i = by-owner-same 1 3 o i
+answer-same Ground.BadForm o i = by-owner-same 2 2 o i
 
 refused-same : (f : Fault) → refusedBy (faultField f) ≡ answered (bad f)
-unfolding refusedBy refusalFrom faultField answered refusalOf answerFrom answerFor
-refused-same (fault k p o i t) = rw (by-owner-same (numberOf k) o i)
+unfolding refusedBy refusalFrom faultField answered refusalOf
+refused-same (fault k p o i t) = rw (answer-same (groundOf k) o i)
 
 -- A message of one kind
 

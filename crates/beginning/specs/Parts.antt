@@ -3,8 +3,8 @@
 use Prim.Native.Nat.{ℕ, _+_, _-_}
 use mathlib.Core.{Bool.Bool, Bool.true, Bool.false, Bool.cond, List.List, List.[], Option.none, Option.Option·getD}
 use lib.{ListN.length, ListN.take, ListN.drop, ListN.getD, Dec.eqb, Dec.ltb}
-use Rattle.element.specs.{declared.FaultKind.FaultKind, declared.EndRead.EndRead, Fault.numberOf, Fault.Text, Fault.at, Ask.Got, Ask.got, Ask.bad, Ask.next, Ask.blamed, Ask.Body, Ask.ask, Parts.mapItem, Parts.orItem, Parts.onlyBody, Parts.lastBody, Parts.optBody}
-use Rattle.tcap.specs.{declared.MessageKind.MessageKind, declared.Record.Record, declared.InvokeId.InvokeId, declared.Answer.Answer, declared.Refusal.Refusal, declared.Outcome.Outcome, declared.Reading.Reading, Meaning.Component, Meaning.silent, Meaning.cause, Meaning.says, Meaning.Message, WellFormed.mostOctets, WellFormed.deepestLevel, Productions.octetItem, Productions.levelAt, Productions.componentsItem, Productions.dialogueItem, Productions.tailBody, Productions.uniBody, Productions.beginBody, Productions.endBody, Productions.continueBody, Productions.abortBody, Record.portionField, Record.endingField, Record.recordFrom, Record.blankRecord}
+use Rattle.element.specs.{declared.FaultKind.FaultKind, declared.EndRead.EndRead, Fault.Text, Fault.at, Ask.Got, Ask.got, Ask.bad, Ask.next, Ask.blamed, Ask.Body, Ask.ask, Parts.mapItem, Parts.orItem, Parts.onlyBody, Parts.lastBody, Parts.optBody}
+use Rattle.tcap.specs.{declared.MessageKind.MessageKind, declared.Record.Record, declared.InvokeId.InvokeId, declared.Answer.Answer, declared.Ground.Ground, declared.Refusal.Refusal, declared.Outcome.Outcome, declared.Reading.Reading, Meaning.Component, Meaning.silent, Meaning.cause, Meaning.says, Meaning.Message, WellFormed.mostOctets, WellFormed.deepestLevel, Productions.octetItem, Productions.levelAt, Productions.componentsItem, Productions.dialogueItem, Productions.tailBody, Productions.uniBody, Productions.beginBody, Productions.endBody, Productions.continueBody, Productions.abortBody, Record.portionField, Record.endingField, Record.recordFrom, Record.blankRecord, Reading.groundOf}
 use Rattle.tcap.specs.declared.Dialogue.{Dialogue}
 use Rattle.asking.specs.Asked.{faultField, innerOf, wholeOf, closeOf}
 use Rattle.asking.specs.declared.{Owner.Owner, Fault.Fault as FaultField, Entry.Entry, Closed.Closed}
@@ -41,22 +41,20 @@ recordRead k d p part =
     next (idsOf k d p part) (λ i n. blamed (carriedBy i) (next (restOf k d (p + n) (drop n part)) (λ r c. got (i, recordFrom k (origIn (i .0)) (destIn (i .1)) (r .0) (r .1)) (n + c))))
 
 -- the standard answer and the refusal of a fault as the code has it
-unfoldable pub causeBy : ℕ → ℕ
-causeBy n = cond (eqb n 10) 3 (cond (eqb n 11) 3 2)
+unfoldable pub answerBy : ℕ → ℕ → Owner → InvokeId → Answer
+answerBy problem cause Owner.Portion i = Answer.AbortCause cause
+answerBy problem cause Owner.Dialogue i = Answer.AbortCause 3
+answerBy problem cause (Owner.Component k) i = Answer.RejectProblem problem k i
 
-unfoldable pub problemBy : ℕ → ℕ
-problemBy n = cond (eqb n 13) 0 (cond (eqb n 10) 1 (cond (eqb n 11) 1 2))
-
-unfoldable pub answerBy : ℕ → Owner → InvokeId → Answer
-answerBy n Owner.Portion i = Answer.AbortCause (causeBy n)
-answerBy n Owner.Dialogue i = Answer.AbortCause 3
-answerBy n (Owner.Component k) i = Answer.RejectProblem (problemBy n) k i
-
-unfoldable pub answerFrom : ℕ → Owner → InvokeId → Answer
-answerFrom n o i = cond (eqb n 8) (Answer.AbortCause 0) (cond (eqb n 12) (Answer.AbortCause 4) (answerBy n o i))
+unfoldable pub answerFrom : Ground → Owner → InvokeId → Answer
+answerFrom Ground.UnknownMessage o i = Answer.AbortCause 0
+answerFrom Ground.TooManyComponents o i = Answer.AbortCause 4
+answerFrom Ground.UnknownComponent o i = answerBy 0 2 o i
+answerFrom Ground.WrongPart o i = answerBy 1 3 o i
+answerFrom Ground.BadForm o i = answerBy 2 2 o i
 
 unfoldable pub refusalFrom : FaultField → Refusal
-refusalFrom f = record { kind = f .kind; place = f .place; orig = f .orig; answer = answerFrom (numberOf (f .kind)) (f .owner) (f .id) }
+refusalFrom f = record { kind = f .kind; place = f .place; orig = f .orig; answer = answerFrom (groundOf (f .kind)) (f .owner) (f .id) }
 
 unfoldable pub refusedBy : FaultField → Reading
 refusedBy f = record { outcome = Outcome.Refused (refusalFrom f); message = blankRecord }

@@ -1,5 +1,5 @@
 -- The fields of an answer lie side by side in 64 bits, and are read back by division and remainder. Assumes nothing.
-use Prim.Native.Nat.{_+_, _-_, _*_, _%_, _^_, _≤_}
+use Prim.Native.Nat.{_+_, _-_, _*_, _%_, _^_, _≤_, _<_}
 use native.Mathlib.Omega.{arith}
 use Rattle.element.specs.Fault.{numberOf}
 use Rattle.tcap.specs.declared.{OptionalOrig.OptionalOrig, InvokeId.InvokeId, Answer.Answer, Refusal.Refusal}
@@ -24,5 +24,5 @@ unfolding sendBits
 send-small (Answer.AbortCause n) = omega arith
 send-small (Answer.RejectProblem n k i) = omega (arith, flag-small i)
 
-pub number-small : (f : Refusal) → numberOf (f .kind) ≤ 13
-number-small f = numbered (f .kind) .1
+pub number-small : (f : Refusal) → numberOf (f .kind) < 2 ^ 8
+number-small f = omega (arith, numbered (f .kind) .1)

@@ -40,7 +40,7 @@ upper-fields (Answer.AbortCause n) = let f = flag-small (idOf (Answer.AbortCause
 upper-fields (Answer.RejectProblem n k i) = let f = flag-small i in (omega arith, omega arith, omega arith, omega arith, omega arith)
 
 -- the lower 44, below t
-lower-fields : (n p q l t w : ℕ) → n ≤ 13 → p < 2 ^ 16 → q < 2 ^ 16 → l < 2 ^ 4 → w ≡ n + p * 2 ^ 8 + (q * 2 ^ 24 + l * 2 ^ 40) + t * 2 ^ 44
+lower-fields : (n p q l t w : ℕ) → n < 2 ^ 8 → p < 2 ^ 16 → q < 2 ^ 16 → l < 2 ^ 4 → w ≡ n + p * 2 ^ 8 + (q * 2 ^ 24 + l * 2 ^ 40) + t * 2 ^ 44
     → (w % 2 ^ 8 ≡ n) × (w / 2 ^ 8 % 2 ^ 16 ≡ p) × (w / 2 ^ 24 % 2 ^ 16 ≡ q) × (w / 2 ^ 40 % 2 ^ 4 ≡ l) × (w / 2 ^ 44 ≡ t)
 lower-fields n p q l t w a b c d e = (omega arith, omega arith, omega arith, omega arith, omega arith)
 

@@ -12,7 +12,7 @@ statusOf Steered.NoRule = noRule
 statusOf (Steered.Link n) = done
 statusOf (Steered.Refused f) = numberOf (f .kind)
 
--- a link is told by 0, no rule by 64, and a refusal by its number, 1 to 13: no answer stands for two
+-- a link is told by 0, no rule by 64, and a refusal by its number: no answer stands for two
 pub steered-status : (s : Steered) → steeredBits s % 2 ^ 8 ≡ statusOf s
 unfolding steeredBits
 steered-status Steered.NoRule = refl

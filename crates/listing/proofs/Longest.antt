@@ -2,28 +2,27 @@
 use Prim.Native.Nat.{ℕ, suc, _+_, _-_, _*_, _≤_, _<_}
 use native.Mathlib.Omega.{arith}
 use mathlib.Core.Path.{_≡_, refl, ap}
-use mathlib.Core.Bool.{Bool, true, false, _||_, and-eq-true-iff}
+use mathlib.Core.Bool.{Bool, true, false, and-eq-true-iff}
 use mathlib.Core.List.{List, [], _∷_, _++_, map}
 use mathlib.Core.Option.{Option·map, Option, none, some}
 use lib.ListN.{length, take, drop, replicate, length-append, length-map, length-take}
 use lib.Seq.{take-at}
-use lib.Dec.{leb, eqb}
+use lib.Dec.{leb}
 use lib.IntN.{ℤ}
 use borrow.Author.Tests.{leb-true}
 use Rattle.base.specs.Number.{topOf, holds}
 use Rattle.base.specs.Text.{text}
 use Rattle.base.specs.Value.{Every, Maybe}
 use Rattle.base.proofs.Numbers.{holds-small}
-use Rattle.base.proofs.Tests.{cond-all}
 use Rattle.base.proofs.Values.{every-parts}
 use Rattle.primitive.specs.Primitive.{between, identifierOk, numbers}
 use Rattle.element.specs.Fault.{numberOf, Text, Owner, portion, dialogue, component, Fault, fault}
 use Rattle.element.specs.Ask.{Got, got, bad, check}
-use Rattle.tcap.specs.declared.{OptionalOrig.OptionalOrig, OptionalDest.OptionalDest, InvokeId.InvokeId, Problem.Problem, Dialogue.Dialogue as DialogueField, MessageKind.MessageKind, ComponentKind.ComponentKind, Answer.Answer}
+use Rattle.tcap.specs.declared.{OptionalOrig.OptionalOrig, OptionalDest.OptionalDest, InvokeId.InvokeId, Problem.Problem, Dialogue.Dialogue as DialogueField, MessageKind.MessageKind, ComponentKind.ComponentKind, Answer.Answer, Ground.Ground}
 use Rattle.tcap.specs.Meaning.{Originating, orig, Destination, dest, Code, local, global, Component, invoke, last, notLast, error, reject, Dialogue, request, unidialogue, response, aborted, single, octets, Ending, silent, cause, says, Message, unidirectional, begin, finish, continue, abort}
 use Rattle.tcap.specs.WellFormed.{mostOctets, mostComponents, deepestLevel, idOk, InvokeIdOk, CodeOk, ProblemOk, ComponentOk, ComponentsOk, BothOk, EndingOk, OrigOk, DestOk, WellFormedUpTo}
 use Rattle.tcap.specs.Record.{spanOf, spanField, origField, destField, idField, linkedField, codeField, bothField, rowOf, dialogueField, endingField, portionField, blankRow, recordFrom, recordOf}
-use Rattle.tcap.specs.Reading.{locatedUpTo, byOwner, answerFor, refusalOf, answered, readingUpTo, reading}
+use Rattle.tcap.specs.Reading.{locatedUpTo, groundOf, byOwner, answerFor, refusalOf, answered, readingUpTo, reading}
 use Rattle.tcap.proofs.Strings.{octetsOf, codeAs, bothAs, componentAs, endingAs, origAs, destAs, forget, Strings, optionStrings, whole, seriesStrings, codeStrings, bothStrings, componentStrings, dialogueStrings, origStrings, destStrings, restStrings, strings}
 use Rattle.tcap.proofs.Records.{Sits}
 use Rattle.tcap.proofs.Places.{OwnerOk, placeOf, strings-sit, fault-placed}
@@ -263,19 +262,19 @@ answered-few : (n k : ℕ) (i : InvokeId) → n < 10 → k < mostComponents → 
 unfolding answerText
 answered-few n k i h l = word (text " problem") and spaced n (one-digit n h) and word (text " component") and spaced k (two-digits k (omega arith))
 
-owner-few : (n : ℕ) (o : Owner) (i : Option ℤ) → OwnerOk o → Within 23 (answerText (byOwner n o i))
+owner-few : (x y : ℕ) (o : Owner) (i : Option ℤ) → x < 10 → y < 10 → OwnerOk o → Within 23 (answerText (byOwner x y o i))
 unfolding byOwner
-owner-few n portion i k = cond-all (λ a. Within 23 (answerText a)) (eqb n 10 || eqb n 11) _ _ (λ e. cause-few 3 (omega arith)) (λ e. cause-few 2 (omega arith))
-owner-few n dialogue i k = cause-few 3 (omega arith)
-owner-few n (component c) i k =
-    cond-all (λ p. Within 23 (answerText (Answer.RejectProblem p c (idField i)))) (eqb n 13) _ _ (λ e. answered-few 0 c (idField i) (omega arith) k) λ e.
-    cond-all (λ p. Within 23 (answerText (Answer.RejectProblem p c (idField i)))) (eqb n 10 || eqb n 11) _ _ (λ f. answered-few 1 c (idField i) (omega arith) k) (λ f. answered-few 2 c (idField i) (omega arith) k)
+owner-few x y portion i p c k = cause-few y c
+owner-few x y dialogue i p c k = cause-few 3 (omega arith)
+owner-few x y (component n) i p c k = answered-few x n (idField i) p k
 
-answer-few : (n : ℕ) (o : Owner) (i : Option ℤ) → OwnerOk o → Within 23 (answerText (answerFor n o i))
+answer-few : (g : Ground) (o : Owner) (i : Option ℤ) → OwnerOk o → Within 23 (answerText (answerFor g o i))
 unfolding answerFor
-answer-few n o i k =
-    cond-all (λ a. Within 23 (answerText a)) (eqb n 8) _ _ (λ e. cause-few 0 (omega arith)) λ e.
-    cond-all (λ a. Within 23 (answerText a)) (eqb n 12) _ _ (λ f. cause-few 4 (omega arith)) (λ f. owner-few n o i k)
+answer-few Ground.UnknownMessage o i k = cause-few 0 (omega arith)
+answer-few Ground.TooManyComponents o i k = cause-few 4 (omega arith)
+answer-few Ground.UnknownComponent o i k = owner-few 0 2 o i (omega arith) (omega arith) k
+answer-few Ground.WrongPart o i k = owner-few 1 3 o i (omega arith) (omega arith) k
+answer-few Ground.BadForm o i k = owner-few 2 2 o i (omega arith) (omega arith) k
 
 same-place : (f g : Fault) → _≡_ {A = Got (Message Text)} (bad f) (bad g) → placeOf f ≡ placeOf g
 same-place f g e = let z : f ≡ g = cc in ap placeOf z
@@ -292,7 +291,7 @@ refusal-few : (m : List ℕ) (f : Fault) → locatedUpTo deepestLevel m ≡ bad 
 unfolding refusalText refusalOf
 refusal-few m (fault k p o i t) h =
     let n = numberOf k in
-    let l = word (text "refused") and spaced n (two-digits n (omega (arith, numbered k .1))) and spaced p (three-digits p (omega (arith, place-most m (fault k p o i t) h))) and answer-few n o i (fault-placed deepestLevel (omega arith) m (fault k p o i t) h .owner) and word (text "\n") in
+    let l = word (text "refused") and spaced n (two-digits n (omega (arith, numbered k .1))) and spaced p (three-digits p (omega (arith, place-most m (fault k p o i t) h))) and answer-few (groundOf k) o i (fault-placed deepestLevel (omega arith) m (fault k p o i t) h .owner) and word (text "\n") in
     omega (arith, l .most)
 
 by-located : (m : List ℕ) (x : Got (Message Text)) → locatedUpTo deepestLevel m ≡ x → length (listingOf m (answered x)) ≤ longestListing

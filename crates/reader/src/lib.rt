@@ -3,10 +3,10 @@ ghost use mathlib.Core.Path.{_≡_};
 ghost use Prim.Native.Nat.{_+_, _≤_};
 ghost use lib.ListN.{length, drop, take};
 ghost use Rattle.element.specs.Head.{endOf};
-ghost use Rattle.tcap.specs.Reading.{reading};
+ghost use Rattle.tcap.specs.Reading.{groundOf, reading};
 ghost use Rattle.asking.specs.Asked.{closeOf, wholeOf};
 ghost use Rattle.transaction.specs.Head.{carriedField};
-ghost use Rattle.beginning.specs.Parts.{causeBy, problemBy, answerFrom, refusalFrom, refusedBy, closingOf, gathered};
+ghost use Rattle.beginning.specs.Parts.{answerBy, answerFrom, refusalFrom, refusedBy, closingOf, gathered};
 ghost use Rattle.beginning.specs.Begun.{counted, rowsAt};
 ghost use Rattle.reader.specs.Outlines.{outlineOf, Laid, ownedIn, turnOf, acceptedAs};
 use asking::Closed;
@@ -23,10 +23,10 @@ use components::Opened;
 use contents::RowRead;
 use element::EndRead;
 use element::FaultKind;
-use element::number_of;
 use pack::row::put_row;
 use tcap::Answer;
 use tcap::Dialogue;
+use tcap::Ground;
 use tcap::InvokeId;
 use tcap::MessageKind;
 use tcap::OptionalDest;
@@ -55,53 +55,54 @@ pub struct Outline {
     pub count: usize,
 }
 
-// The general problem of a Reject, for a fault in a component.
-fn problem_of(number: u8) -> u8
-    ensures { λ r. ⌜ r ≡ problemBy number ⌝ }
+// The ground of a refusal.
+fn ground_of(kind: FaultKind) -> Ground
+    ensures { λ r. ⌜ r ≡ groundOf kind ⌝ }
 {
-    if number == 13 {
-        return 0;
+    match kind {
+        FaultKind::NoMessage => Ground::UnknownMessage,
+        FaultKind::Seventeenth => Ground::TooManyComponents,
+        FaultKind::UnknownComponent => Ground::UnknownComponent,
+        FaultKind::Missing => Ground::WrongPart,
+        FaultKind::Another => Ground::WrongPart,
+        FaultKind::TooMany => Ground::WrongPart,
+        FaultKind::BadContents => Ground::WrongPart,
+        FaultKind::CutOff => Ground::BadForm,
+        FaultKind::BadTag => Ground::BadForm,
+        FaultKind::BadLength => Ground::BadForm,
+        FaultKind::PassesEnd => Ground::BadForm,
+        FaultKind::TooDeep => Ground::BadForm,
+        FaultKind::CodeZero => Ground::BadForm,
+        FaultKind::Overlong => Ground::BadForm,
+        FaultKind::OctetsAfter => Ground::BadForm,
     }
-    if number == 10 {
-        return 1;
-    }
-    if number == 11 {
-        return 1;
-    }
-    2
 }
 
-// The P-Abort cause, for a fault in neither a component nor 6B.
-fn cause_of(number: u8) -> u8
-    ensures { λ r. ⌜ r ≡ causeBy number ⌝ }
+// The general problem of a Reject for a fault in a component, cause 3 inside 6B, the P-Abort cause everywhere else.
+fn answer_by(problem: u8, cause: u8, owner: Owner, id: InvokeId) -> Answer
+    ensures { λ r. ⌜ r ≡ answerBy problem cause owner id ⌝ }
 {
-    if number == 10 {
-        return 3;
-    }
-    if number == 11 {
-        return 3;
-    }
-    2
-}
-
-// The standard answer, by number and owner.
-fn answer_of(number: u8, owner: Owner, id: InvokeId) -> Answer
-    ensures { λ r. ⌜ r ≡ answerFrom number owner id ⌝ }
-{
-    if number == 8 {
-        return Answer::AbortCause(0);
-    }
-    if number == 12 {
-        return Answer::AbortCause(4);
-    }
     match owner {
-        Owner::Portion => Answer::AbortCause(cause_of(number)),
+        Owner::Portion => Answer::AbortCause(cause),
         Owner::Dialogue => Answer::AbortCause(3),
         Owner::Component(index) => Answer::RejectProblem {
-            problem: problem_of(number),
+            problem: problem,
             component: index,
             id: id,
         },
+    }
+}
+
+// The standard answer, by ground and owner.
+fn answer_of(ground: Ground, owner: Owner, id: InvokeId) -> Answer
+    ensures { λ r. ⌜ r ≡ answerFrom ground owner id ⌝ }
+{
+    match ground {
+        Ground::UnknownMessage => Answer::AbortCause(0),
+        Ground::TooManyComponents => Answer::AbortCause(4),
+        Ground::UnknownComponent => answer_by(0, 2, owner, id),
+        Ground::WrongPart => answer_by(1, 3, owner, id),
+        Ground::BadForm => answer_by(2, 2, owner, id),
     }
 }
 
@@ -113,7 +114,7 @@ fn refusal_of(fault: Fault) -> Refusal
     let owner = fault.owner;
     let id = fault.id;
     let orig = fault.orig;
-    let answer = answer_of(number_of(kind), owner, id);
+    let answer = answer_of(ground_of(kind), owner, id);
     Refusal {
         kind: kind,
         place: fault.place,

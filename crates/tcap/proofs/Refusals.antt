@@ -3,24 +3,22 @@
 use Prim.Native.Nat.{ℕ, _≤_}
 use mathlib.Core.Path.{_≡_, refl}
 use mathlib.Core.Logic.{_⊎_, inl, inr}
-use mathlib.Core.Bool.{true, _||_}
+use mathlib.Core.Bool.{true}
 use mathlib.Core.List.{List}
 use mathlib.Core.Option.{Option·map, Option·getD, Option, none, some}
 use native.Mathlib.Omega.{arith}
 use lib.ListN.{length}
-use lib.Dec.{eqb}
 use lib.IntN.{ℤ}
 use Rattle.base.specs.Value.{Maybe}
-use Rattle.base.proofs.Tests.{cond-all}
 use Rattle.element.specs.declared.{FaultKind.FaultKind}
 use Rattle.element.specs.Fault.{numberOf, Text, Owner, portion, dialogue, component, Fault, fault}
 use Rattle.element.specs.Ask.{Got, got, bad}
 use Rattle.element.proofs.Laid.{StandsAt}
-use Rattle.tcap.specs.declared.{OptionalOrig.OptionalOrig, InvokeId.InvokeId, Answer.Answer, Refusal.Refusal, Outcome.Outcome}
+use Rattle.tcap.specs.declared.{OptionalOrig.OptionalOrig, InvokeId.InvokeId, Answer.Answer, Ground.Ground, Refusal.Refusal, Outcome.Outcome}
 use Rattle.tcap.specs.Meaning.{Message, orig}
 use Rattle.tcap.specs.WellFormed.{mostOctets, deepestLevel, idOk, InvokeIdOk}
 use Rattle.tcap.specs.Record.{origField, blankRecord}
-use Rattle.tcap.specs.Reading.{locatedUpTo, byOwner, answerFor, refusalOf, answered, readingUpTo, reading}
+use Rattle.tcap.specs.Reading.{locatedUpTo, groundOf, byOwner, answerFor, refusalOf, answered, readingUpTo, reading}
 use Rattle.tcap.proofs.Places.{OrigHere, RefusedFor, fault-placed}
 
 -- every kind has a number of document 01's table
@@ -65,16 +63,20 @@ orig-read : (m : List ℕ) (t : Option Text) → Maybe (OrigHere m) t → OrigRe
 orig-read m none h = inl refl
 orig-read m (some t) h = inr (t, refl, h .0, h .1)
 
-owner-sends : (n : ℕ) (o : Owner) (i : Option ℤ) → Maybe InvokeIdOk i → SendOk (byOwner n o i)
+owner-sends : (problem cause : ℕ) (o : Owner) (i : Option ℤ) → Maybe InvokeIdOk i → SendOk (byOwner problem cause o i)
 unfolding byOwner
-owner-sends n portion i h = cond-all SendOk (eqb n 10 || eqb n 11) _ _ (λ _. tt) (λ _. tt)
-owner-sends n dialogue i h = tt
-owner-sends n (component k) none h = tt
-owner-sends n (component k) (some i) h = h
+owner-sends problem cause portion i h = tt
+owner-sends problem cause dialogue i h = tt
+owner-sends problem cause (component k) none h = tt
+owner-sends problem cause (component k) (some i) h = h
 
-answer-sends : (n : ℕ) (o : Owner) (i : Option ℤ) → Maybe InvokeIdOk i → SendOk (answerFor n o i)
+answer-sends : (g : Ground) (o : Owner) (i : Option ℤ) → Maybe InvokeIdOk i → SendOk (answerFor g o i)
 unfolding answerFor
-answer-sends n o i h = cond-all SendOk (eqb n 8) _ _ (λ _. tt) λ _. cond-all SendOk (eqb n 12) _ _ (λ _. tt) λ _. owner-sends n o i h
+answer-sends Ground.UnknownMessage o i h = tt
+answer-sends Ground.TooManyComponents o i h = tt
+answer-sends Ground.UnknownComponent o i h = owner-sends 0 2 o i h
+answer-sends Ground.WrongPart o i h = owner-sends 1 3 o i h
+answer-sends Ground.BadForm o i h = owner-sends 2 2 o i h
 
 carries : (m : List ℕ) (f : Fault) → RefusedFor m f → Carries m (refusalOf f)
 unfolding refusalOf
@@ -86,7 +88,7 @@ carries m (fault k p o i t) q =
       overlong = q .overlong;
       noMessage = q .noMessage;
       origId = orig-read m t (q .origId);
-      sent = answer-sends (numberOf k) o i (q .invokeId);
+      sent = answer-sends (groundOf k) o i (q .invokeId);
     }
 
 refusal-inj : (f g : Refusal) → Outcome.Refused f ≡ Outcome.Refused g → f ≡ g

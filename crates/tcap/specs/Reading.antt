@@ -1,10 +1,10 @@
 -- Reading one message: before all 7, 1 for no octets, 8 by the first octet; then the message; then 9. And what is answered to a message that is refused.
 -- Assumes nothing: these are definitions.
 use Prim.Native.Nat.{ℕ, _+_}
-use mathlib.Core.{Bool.Bool, Bool.true, Bool.false, Bool.cond, Bool._||_, List.List, List.[], List._∷_, Option.Option, Option.none, Option.Option·map, Option.Option·getD}
+use mathlib.Core.{Bool.true, List.List, List.[], List._∷_, Option.Option, Option.none, Option.Option·map, Option.Option·getD}
 use lib.{ListN.length, Dec.leb, Dec.eqb, IntN.ℤ}
-use Rattle.element.specs.{Fault.numberOf, Fault.Text, Fault.Owner, Fault.portion, Fault.dialogue, Fault.component, Fault.Fault, Fault.fault, Fault.at, Ask.Got, Ask.got, Ask.bad, Ask.next, Ask.check, Ask.blamed, Ask.Body, Ask.ask, Parts.Item, Parts.level, Parts.place, declared.FaultKind.FaultKind}
-use Rattle.tcap.specs.{declared.Answer.Answer, declared.OptionalOrig.OptionalOrig, declared.Refusal.Refusal, declared.Outcome.Outcome, declared.Reading.Reading, Meaning.orig, Meaning.Message, Meaning.unidirectional, Meaning.begin, Meaning.finish, Meaning.continue, Meaning.abort, WellFormed.mostOctets, WellFormed.deepestLevel, Productions.carried, Productions.messageItem, Record.origField, Record.idField, Record.recordOf, Record.blankRecord}
+use Rattle.element.specs.{Fault.Text, Fault.Owner, Fault.portion, Fault.dialogue, Fault.component, Fault.Fault, Fault.fault, Fault.at, Ask.Got, Ask.got, Ask.bad, Ask.next, Ask.check, Ask.blamed, Ask.Body, Ask.ask, Parts.Item, Parts.level, Parts.place, declared.FaultKind.FaultKind}
+use Rattle.tcap.specs.{declared.Answer.Answer, declared.Ground.Ground, declared.OptionalOrig.OptionalOrig, declared.Refusal.Refusal, declared.Outcome.Outcome, declared.Reading.Reading, Meaning.orig, Meaning.Message, Meaning.unidirectional, Meaning.begin, Meaning.finish, Meaning.continue, Meaning.abort, WellFormed.mostOctets, WellFormed.deepestLevel, Productions.carried, Productions.messageItem, Record.origField, Record.idField, Record.recordOf, Record.blankRecord}
 
 abbrev pub learnt : Message Text → Fault → Fault
 learnt (unidirectional d cs) = λ f. f
@@ -28,18 +28,40 @@ readFirst limit x (a ∷ r) = check (x .mine a) (at FaultKind.NoMessage 0) (ask 
 unfoldable pub locatedUpTo : ℕ → List ℕ → Got (Message Text)
 locatedUpTo limit m = check (leb (length m) mostOctets) (at FaultKind.Overlong mostOctets) (readFirst limit (messageItem limit) m)
 
--- The standard answer, by number and owner
+-- The standard answer, by the ground of the refusal and the owner
 
-unfoldable pub byOwner : ℕ → Owner → Option ℤ → Answer
-byOwner n portion i = cond (eqb n 10 || eqb n 11) (Answer.AbortCause 3) (Answer.AbortCause 2)
-byOwner n dialogue i = Answer.AbortCause 3
-byOwner n (component k) i = Answer.RejectProblem (cond (eqb n 13) 0 (cond (eqb n 10 || eqb n 11) 1 2)) k (idField i)
+unfoldable pub groundOf : FaultKind → Ground
+groundOf FaultKind.NoMessage = Ground.UnknownMessage
+groundOf FaultKind.Seventeenth = Ground.TooManyComponents
+groundOf FaultKind.UnknownComponent = Ground.UnknownComponent
+groundOf FaultKind.Missing = Ground.WrongPart
+groundOf FaultKind.Another = Ground.WrongPart
+groundOf FaultKind.TooMany = Ground.WrongPart
+groundOf FaultKind.BadContents = Ground.WrongPart
+groundOf FaultKind.CutOff = Ground.BadForm
+groundOf FaultKind.BadTag = Ground.BadForm
+groundOf FaultKind.BadLength = Ground.BadForm
+groundOf FaultKind.PassesEnd = Ground.BadForm
+groundOf FaultKind.TooDeep = Ground.BadForm
+groundOf FaultKind.CodeZero = Ground.BadForm
+groundOf FaultKind.Overlong = Ground.BadForm
+groundOf FaultKind.OctetsAfter = Ground.BadForm
 
-unfoldable pub answerFor : ℕ → Owner → Option ℤ → Answer
-answerFor n o i = cond (eqb n 8) (Answer.AbortCause 0) (cond (eqb n 12) (Answer.AbortCause 4) (byOwner n o i))
+-- a general problem in a component, cause 3 inside 6B, a cause everywhere else
+unfoldable pub byOwner : ℕ → ℕ → Owner → Option ℤ → Answer
+byOwner problem cause portion i = Answer.AbortCause cause
+byOwner problem cause dialogue i = Answer.AbortCause 3
+byOwner problem cause (component k) i = Answer.RejectProblem problem k (idField i)
+
+unfoldable pub answerFor : Ground → Owner → Option ℤ → Answer
+answerFor Ground.UnknownMessage o i = Answer.AbortCause 0
+answerFor Ground.TooManyComponents o i = Answer.AbortCause 4
+answerFor Ground.UnknownComponent o i = byOwner 0 2 o i
+answerFor Ground.WrongPart o i = byOwner 1 3 o i
+answerFor Ground.BadForm o i = byOwner 2 2 o i
 
 unfoldable pub refusalOf : Fault → Refusal
-refusalOf (fault k p o i t) = record { kind = k; place = p; orig = Option·getD (Option·map (λ t. origField (orig t)) t) OptionalOrig.NoOrig; answer = answerFor (numberOf k) o i }
+refusalOf (fault k p o i t) = record { kind = k; place = p; orig = Option·getD (Option·map (λ t. origField (orig t)) t) OptionalOrig.NoOrig; answer = answerFor (groundOf k) o i }
 
 -- a refusal hands back the blank record: no components
 unfoldable pub answered : Got (Message Text) → Reading

@@ -179,6 +179,15 @@ pub enum Answer {
     },
 }
 
+// On what ground a message is refused: the standard answer goes by it, and by whom the fault belongs to.
+pub enum Ground {
+    UnknownMessage,
+    TooManyComponents,
+    UnknownComponent,
+    WrongPart,
+    BadForm,
+}
+
 pub struct Refusal {
     pub kind: FaultKind,
     pub place: usize,
