@@ -13,7 +13,7 @@
 #include <stdlib.h>
 #include <string.h>
 
-enum { LINE_ROOM = 4096, TEXT_ROOM = 16384 };
+enum { LINE_ROOM = 16384, TEXT_ROOM = 16384 };
 
 struct text {
     size_t len;

@@ -8,7 +8,7 @@
  * Everywhere the order of questions is: end of the contents, 17th component,
  * tag, code 0, level, expected tag, length, contents. Where one certain tag is
  * wanted and stands there, the questions before it are answered by that; where
- * it does not, unexpected() asks them in order. The named elements lie at
+ * it does not, misplaced() asks them in order. The named elements lie at
  * level 8 at the most, so only read_head() has to ask for the level. */
 #include "plain.h"
 
@@ -24,10 +24,12 @@ enum {
     OVER_255 = 7,
     NO_MESSAGE = 8,
     OCTETS_AFTER = 9,
-    UNEXPECTED = 10,
     BAD_VALUE = 11,
     TOO_MANY = 12,
-    NO_COMPONENT = 13
+    NO_COMPONENT = 13,
+    MISSING = 14,                 /* the contents end where something is due */
+    ANOTHER = 15,                 /* an element where only others may stand */
+    ONE_MORE = 16                 /* an element where nothing more may */
 };
 
 enum { CONSTRUCTOR = 0x20, EXTENDED = 0x1F, MAX_LEVEL = 16 };
@@ -131,14 +133,16 @@ static size_t extended_tag(const uint8_t *p, const uint8_t *end, int *number)
     return 0;
 }
 
-/* What stands at p is not what is wanted there: which fault is it? */
-static const uint8_t *unexpected(const struct reader *r, const uint8_t *p,
-                                 const uint8_t *end, bool open)
+/* What stands at p is not what is wanted there: which fault is it? An element
+ * with a sound tag is number `other`. */
+static const uint8_t *misplaced(const struct reader *r, const uint8_t *p,
+                                const uint8_t *end, bool open, int other)
 {
-    int number = UNEXPECTED;
+    int number = other;
 
     switch (look(p, end, open)) {
     case ENDS:
+        number = MISSING;
         break;
     case PAIR_MISSING:
         number = CUT_OFF;
@@ -153,13 +157,20 @@ static const uint8_t *unexpected(const struct reader *r, const uint8_t *p,
     return fault(r, number, p);
 }
 
-/* Nothing more may come at p: the place behind the contents. */
+/* The same where something is due. */
+static const uint8_t *unexpected(const struct reader *r, const uint8_t *p,
+                                 const uint8_t *end, bool open)
+{
+    return misplaced(r, p, end, open, ANOTHER);
+}
+
+/* The contents have to end at p: the place behind them. */
 static inline const uint8_t *finish(const struct reader *r, const uint8_t *p,
-                                    const uint8_t *end, bool open)
+                                    const uint8_t *end, bool open, int other)
 {
     if (look(p, end, open) == ENDS)
         return behind_end(p, open);
-    return unexpected(r, p, end, open);
+    return misplaced(r, p, end, open, other);
 }
 
 static inline bool stands(const uint8_t *p, const uint8_t *end, uint8_t tag)
@@ -407,7 +418,7 @@ static const uint8_t *read_user_info(const struct reader *r, const uint8_t *p,
     }
     d->has_user_info = 1;
     d->user_info = span(r, c.at, p);
-    return finish(r, p, c.end, c.open);
+    return finish(r, p, c.end, c.open, ANOTHER);
 }
 
 /* [80 02 07 80] and A1 holding 06. */
@@ -429,7 +440,7 @@ static const uint8_t *read_context(const struct reader *r, const uint8_t *p,
     p = read_identifier(r, c.at, c.end, c.open, &r->out->dialogue.name);
     if (p == NULL)
         return NULL;
-    return finish(r, p, c.end, c.open);
+    return finish(r, p, c.end, c.open, ONE_MORE);
 }
 
 /* The constructor at p, its tag known, that holds 02 with 0 to most. */
@@ -445,7 +456,7 @@ static const uint8_t *read_held_number(const struct reader *r, const uint8_t *p,
     p = read_octet(r, c.at, c.end, most, to);
     if (p == NULL)
         return NULL;
-    return finish(r, p, c.end, c.open);
+    return finish(r, p, c.end, c.open, ONE_MORE);
 }
 
 /* A2 holding the result and A3 holding the diagnostic of a response. */
@@ -471,7 +482,7 @@ static const uint8_t *read_result(const struct reader *r, const uint8_t *p,
     p = read_held_number(r, c.at, c.end, 2, &d->diagnostic);
     if (p == NULL)
         return NULL;
-    return finish(r, p, c.end, c.open);
+    return finish(r, p, c.end, c.open, ONE_MORE);
 }
 
 /* The PDU that must stand at p. */
@@ -507,7 +518,7 @@ static const uint8_t *read_pdu(const struct reader *r, const uint8_t *p,
     p = read_user_info(r, p, c.end);
     if (p == NULL)
         return NULL;
-    return finish(r, p, c.end, c.open);
+    return finish(r, p, c.end, c.open, d->has_user_info ? ONE_MORE : ANOTHER);
 }
 
 /* Is it 00 11 86 05 01 01 01 (1), 00 11 86 05 01 02 01 (2) or another (0)? */
@@ -551,7 +562,7 @@ static const uint8_t *read_external(const struct reader *r, const uint8_t *p,
             d->form = TAG_SINGLE;
             d->octets = span(r, one.at, p);
         }
-        p = finish(r, p, one.end, one.open);
+        p = finish(r, p, one.end, one.open, ONE_MORE);
         if (p == NULL)
             return NULL;
     } else if (name == 0 && stands(p, c.end, TAG_OCTETS)) {
@@ -565,7 +576,7 @@ static const uint8_t *read_external(const struct reader *r, const uint8_t *p,
     } else {
         return unexpected(r, p, c.end, c.open);
     }
-    return finish(r, p, c.end, c.open);
+    return finish(r, p, c.end, c.open, ONE_MORE);
 }
 
 /* ---- components ---- */
@@ -609,7 +620,7 @@ static inline const uint8_t *read_parameter(const struct reader *r, const uint8_
         row->has_parameter = 1;
         row->parameter = span(r, from, p);
     }
-    return finish(r, p, end, open);
+    return finish(r, p, end, open, ONE_MORE);
 }
 
 /* [30 holding code and parameter], which ends the contents. */
@@ -618,20 +629,20 @@ static const uint8_t *read_return(const struct reader *r, const uint8_t *p,
 {
     struct contents c;
 
-    if (stands(p, end, TAG_SEQUENCE)) {
-        c = read_length(r, p, p + 1, end);
-        if (c.at == NULL)
-            return NULL;
-        p = read_code(r, c.at, c.end, c.open, row);
-        if (p == NULL)
-            return NULL;
-        if (look(p, c.end, c.open) != GOES_ON)
-            return unexpected(r, p, c.end, c.open);
-        p = read_parameter(r, p, c.end, c.open, 5, row);
-        if (p == NULL)
-            return NULL;
-    }
-    return finish(r, p, end, open);
+    if (!stands(p, end, TAG_SEQUENCE))
+        return finish(r, p, end, open, ANOTHER);
+    c = read_length(r, p, p + 1, end);
+    if (c.at == NULL)
+        return NULL;
+    p = read_code(r, c.at, c.end, c.open, row);
+    if (p == NULL)
+        return NULL;
+    if (look(p, c.end, c.open) != GOES_ON)
+        return unexpected(r, p, c.end, c.open);
+    p = read_parameter(r, p, c.end, c.open, 5, row);
+    if (p == NULL)
+        return NULL;
+    return finish(r, p, end, open, ONE_MORE);
 }
 
 /* The problem that must stand at p and ends the contents. */
@@ -646,7 +657,7 @@ static const uint8_t *read_problem(const struct reader *r, const uint8_t *p,
     p = read_octet(r, p, end, most[*p - 0x80], &row->problem);
     if (p == NULL)
         return NULL;
-    return finish(r, p, end, open);
+    return finish(r, p, end, open, ONE_MORE);
 }
 
 /* The component at p, its tag known. */
@@ -714,8 +725,10 @@ static const uint8_t *answer_message(const struct reader *r)
         return answer_cause(r, 0);
     case TOO_MANY:
         return answer_cause(r, 4);
-    case UNEXPECTED:
     case BAD_VALUE:
+    case MISSING:
+    case ANOTHER:
+    case ONE_MORE:
         return answer_cause(r, 3);
     default:
         return answer_cause(r, 2);
@@ -740,8 +753,10 @@ static const uint8_t *answer_component(const struct reader *r, unsigned index,
     case NO_COMPONENT:
         no->answer = 0;
         break;
-    case UNEXPECTED:
     case BAD_VALUE:
+    case MISSING:
+    case ANOTHER:
+    case ONE_MORE:
         no->answer = 1;
         break;
     default:
@@ -755,10 +770,10 @@ static const uint8_t *answer_component(const struct reader *r, unsigned index,
 
 /* What stands at p in 6B, or is missing there, is a fault in its contents,
  * except for the end pair of 6B itself. */
-static const uint8_t *dialogue_unexpected(const struct reader *r, const uint8_t *p,
-                                          const struct contents *c)
+static const uint8_t *dialogue_misplaced(const struct reader *r, const uint8_t *p,
+                                         const struct contents *c, int other)
 {
-    unexpected(r, p, c->end, c->open);
+    misplaced(r, p, c->end, c->open, other);
     return answer_cause(r, look(p, c->end, c->open) == PAIR_MISSING ? 2 : 3);
 }
 
@@ -772,12 +787,12 @@ static const uint8_t *read_dialogue(const struct reader *r, const uint8_t *p,
         return answer_message(r);
     p = c.at;
     if (!stands(p, c.end, TAG_EXTERNAL))
-        return dialogue_unexpected(r, p, &c);
+        return dialogue_misplaced(r, p, &c, ANOTHER);
     p = read_external(r, p, c.end);
     if (p == NULL)
         return answer_cause(r, 3);
     if (look(p, c.end, c.open) != ENDS)
-        return dialogue_unexpected(r, p, &c);
+        return dialogue_misplaced(r, p, &c, ONE_MORE);
     return behind_end(p, c.open);
 }
 
@@ -802,7 +817,7 @@ static const uint8_t *read_components(const struct reader *r, const uint8_t *p,
         switch (look(p, c.end, c.open)) {
         case ENDS:
             if (count == 0) {
-                fault(r, UNEXPECTED, p);
+                fault(r, MISSING, p);
                 return answer_message(r);
             }
             r->out->count = (uint8_t)count;
@@ -818,9 +833,7 @@ static const uint8_t *read_components(const struct reader *r, const uint8_t *p,
             return answer_message(r);
         }
         if (!is_component(*p)) {
-            unexpected(r, p, c.end, c.open);
-            if (r->no->number == UNEXPECTED)
-                r->no->number = NO_COMPONENT;
+            misplaced(r, p, c.end, c.open, NO_COMPONENT);
             return answer_component(r, count, NULL);
         }
         p = read_component(r, p, c.end, row);
@@ -839,6 +852,7 @@ static const uint8_t *read_parts(const struct reader *r, const uint8_t *end)
     const uint8_t *p = c.at;
     bool has_orig = out->kind == PLAIN_BEGIN || out->kind == PLAIN_CONTINUE;
     bool has_dest = out->kind != PLAIN_BEGIN && out->kind != PLAIN_UNIDIRECTIONAL;
+    int other = ANOTHER;          /* behind the last part: ONE_MORE */
 
     if (p != NULL && has_orig)
         p = read_transaction(r, p, c.end, c.open, TAG_ORIG, &out->orig);
@@ -851,23 +865,27 @@ static const uint8_t *read_parts(const struct reader *r, const uint8_t *end)
         p = read_dialogue(r, p, c.end);
         if (p == NULL)
             return NULL;
+        if (out->kind == PLAIN_ABORT)
+            other = ONE_MORE;
     } else if (out->kind == PLAIN_ABORT && stands(p, c.end, TAG_CAUSE)) {
         out->dialogue.kind = PLAIN_DIALOGUE_CAUSE;
         p = read_octet(r, p, c.end, 4, &out->dialogue.cause);
         if (p == NULL)
             return answer_message(r);
+        other = ONE_MORE;
     }
 
     if (out->kind != PLAIN_ABORT && stands(p, c.end, TAG_COMPONENTS)) {
         p = read_components(r, p, c.end);
         if (p == NULL)
             return NULL;
+        other = ONE_MORE;
     } else if (out->kind == PLAIN_UNIDIRECTIONAL) {
         unexpected(r, p, c.end, c.open);
         return answer_message(r);
     }
 
-    p = finish(r, p, c.end, c.open);
+    p = finish(r, p, c.end, c.open, other);
     if (p != NULL && p != end)
         p = fault(r, OCTETS_AFTER, p);
     if (p == NULL)

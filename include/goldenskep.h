@@ -106,7 +106,7 @@ extern "C" {
 /* Reads the message into the record.
  *
  * Done: the record's head and the rows of its components are written, the octets
- * behind them stay. Refused (1 to 13): the record stays as it was, and the
+ * behind them stay. Refused (1 to 16): the record stays as it was, and the
  * answer says where the fault is and what to send back. With room for less than
  * GOLDENSKEP_RECORD_SIZE octets it is 25, whatever the message. */
 uint64_t goldenskep_read(const uint8_t *message, size_t message_length,
@@ -203,10 +203,12 @@ enum goldenskep_status {
     GOLDENSKEP_STATUS_TOO_LONG = 7,       /* more octets than a message may have */
     GOLDENSKEP_STATUS_MESSAGE_TAG = 8,    /* not one of the five kinds */
     GOLDENSKEP_STATUS_OCTETS_AFTER = 9,   /* octets after the message */
-    GOLDENSKEP_STATUS_UNEXPECTED = 10,    /* element missing, or another than allowed */
     GOLDENSKEP_STATUS_CONTENTS = 11,      /* contents of wrong length, form or range */
     GOLDENSKEP_STATUS_TOO_MANY = 12,      /* more than 16 components */
     GOLDENSKEP_STATUS_COMPONENT_TAG = 13, /* component tag unknown */
+    GOLDENSKEP_STATUS_MISSING = 14,       /* contents end where something mandatory is due */
+    GOLDENSKEP_STATUS_ANOTHER = 15,       /* an element where only others may stand */
+    GOLDENSKEP_STATUS_NOTHING_MORE = 16,  /* an element where nothing more may come */
     /* writing */
     GOLDENSKEP_STATUS_PAST_MATERIAL = 21, /* a string past the end of the material */
     GOLDENSKEP_STATUS_MALFORMED = 22,     /* a string is not what must stand there */
@@ -350,10 +352,12 @@ static inline const char *goldenskep_status_words(int status)
     case GOLDENSKEP_STATUS_TOO_LONG: return "message too long";
     case GOLDENSKEP_STATUS_MESSAGE_TAG: return "unknown message tag";
     case GOLDENSKEP_STATUS_OCTETS_AFTER: return "octets after the message";
-    case GOLDENSKEP_STATUS_UNEXPECTED: return "element missing, or another than allowed";
     case GOLDENSKEP_STATUS_CONTENTS: return "contents of wrong length, form or range";
     case GOLDENSKEP_STATUS_TOO_MANY: return "too many components";
     case GOLDENSKEP_STATUS_COMPONENT_TAG: return "unknown component tag";
+    case GOLDENSKEP_STATUS_MISSING: return "mandatory element missing";
+    case GOLDENSKEP_STATUS_ANOTHER: return "another element than may stand there";
+    case GOLDENSKEP_STATUS_NOTHING_MORE: return "element where nothing more may come";
     case GOLDENSKEP_STATUS_PAST_MATERIAL: return "string past the end of the material";
     case GOLDENSKEP_STATUS_MALFORMED: return "malformed identifier or element, or reserved name";
     case GOLDENSKEP_STATUS_RANGE: return "count, value or length out of range";
@@ -578,12 +582,12 @@ static inline int goldenskep_answer_is_done(uint64_t answer)
     return goldenskep_answer_status(answer) == GOLDENSKEP_STATUS_DONE;
 }
 
-/* 1 if a message was refused as unreadable (1 to 13): only then have the
+/* 1 if a message was refused as unreadable (1 to 16): only then have the
  * accessors from the place to the invoke ID a meaning. */
 static inline int goldenskep_answer_is_unreadable(uint64_t answer)
 {
     return goldenskep_answer_status(answer) >= GOLDENSKEP_STATUS_CUT_OFF &&
-           goldenskep_answer_status(answer) <= GOLDENSKEP_STATUS_COMPONENT_TAG;
+           goldenskep_answer_status(answer) <= GOLDENSKEP_STATUS_NOTHING_MORE;
 }
 
 /* Done writing or listing: how many octets were written. */

@@ -71,9 +71,9 @@ static const struct string_and_fault strings[] = {
     { "30 80 00 05", 6 },
     { "30 80 20 00 00 00", 6 },
     { "30 80 04 00 00 05", 6 },
-    { "04 00 04 00", 10 },
-    { "04 00 04", 10 },
-    { "30 80 00 00 05 00", 10 },
+    { "04 00 04 00", 16 },
+    { "04 00 04", 16 },
+    { "30 80 00 00 05 00", 16 },
 };
 
 enum { INVOKE_HEAD = 15, RESULT_HEAD = 17 };
@@ -106,7 +106,7 @@ static void check_element(size_t n, int fault, int in_result)
         CHECK(goldenskep_component_parameter(&record, 0).length == n);
     } else {
         CHECK(goldenskep_answer_is_reject(answer) && goldenskep_answer_invoke_id(answer) == 1);
-        CHECK(goldenskep_answer_problem(answer) == (fault == 10 ? 1 : 2));
+        CHECK(goldenskep_answer_problem(answer) == (fault == 16 ? 1 : 2));
     }
 
     /* The material is the ID, then the element, and no octet more. */

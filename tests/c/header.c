@@ -114,7 +114,7 @@ static void check_answer(void)
     CHECK(goldenskep_answer_is_done(UINT64_C(0xFFFFFFFFFFFFFF00)));
     CHECK(!goldenskep_answer_is_done(GOLDENSKEP_STATUS_NO_RULE));
     CHECK(!goldenskep_answer_is_unreadable(0) && goldenskep_answer_is_unreadable(1));
-    CHECK(goldenskep_answer_is_unreadable(13) && !goldenskep_answer_is_unreadable(14));
+    CHECK(goldenskep_answer_is_unreadable(16) && !goldenskep_answer_is_unreadable(17));
     CHECK(!goldenskep_answer_is_unreadable(GOLDENSKEP_STATUS_ROOM));
     CHECK(!goldenskep_answer_is_unreadable(GOLDENSKEP_STATUS_NO_RULE));
 }
@@ -129,7 +129,7 @@ static void check_refusals(void)
     n = octets_of("62 00", octets, sizeof octets);
     memset(&record, 0xEE, sizeof record);
     answer = goldenskep_read_record(octets, n, &record);
-    CHECK(goldenskep_answer_status(answer) == GOLDENSKEP_STATUS_UNEXPECTED);
+    CHECK(goldenskep_answer_status(answer) == GOLDENSKEP_STATUS_MISSING);
     CHECK(goldenskep_answer_place(answer) == 2);
     CHECK(!goldenskep_answer_has_orig(answer));
     CHECK(!goldenskep_answer_is_reject(answer));
@@ -139,7 +139,7 @@ static void check_refusals(void)
     /* Component 1, whose code is missing, has invoke ID -2. */
     n = octets_of("62 13 48 02 05 06 6C 0D A1 06 02 01 01 02 01 2D A1 03 02 01 FE", octets, sizeof octets);
     answer = goldenskep_read_record(octets, n, &record);
-    CHECK(goldenskep_answer_status(answer) == GOLDENSKEP_STATUS_UNEXPECTED);
+    CHECK(goldenskep_answer_status(answer) == GOLDENSKEP_STATUS_MISSING);
     CHECK(goldenskep_answer_place(answer) == 21);
     CHECK(goldenskep_answer_has_orig(answer));
     CHECK(goldenskep_answer_orig(answer).place == 4 && goldenskep_answer_orig(answer).length == 2);
@@ -687,7 +687,8 @@ static void check_words(void)
               (i == 0xA1 || i == 0xA2 || i == 0xA3 || i == 0xA4 || i == 0xA7));
         CHECK((strcmp(goldenskep_code_kind_words(i), "unknown code") != 0) == (i == 0 || i == 2 || i == 6));
     }
-    CHECK(known == 20);
+    CHECK(known == 22);
+    CHECK(strcmp(goldenskep_status_words(10), "unknown status") == 0);
     CHECK(strcmp(goldenskep_message_kind_words(0x65), "Continue") == 0);
     CHECK(strcmp(goldenskep_component_kind_words(0xA7), "Return Result Not Last") == 0);
     CHECK(strcmp(goldenskep_problem_words(0x80, 2), "badly structured component") == 0);

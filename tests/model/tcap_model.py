@@ -106,6 +106,8 @@ def shortest_signed(number):
 # ---------------------------------------------------------------- reading: elements
 
 ELSEWHERE, IN_DIALOGUE = "elsewhere", "dialogue"     # or the index of a component
+MISSING, ANOTHER, TOO_MANY = 14, 15, 16              # in the place of 10, which is retired
+WRONG_PART = (11, MISSING, ANOTHER, TOO_MANY)        # standard answers: with 11, as 10 was
 
 
 class Fault(Exception):
@@ -124,14 +126,15 @@ class Contents:
     def __init__(self, place, end, indefinite, level, owner, inner):
         self.place, self.end, self.indefinite = place, end, indefinite
         self.level, self.owner, self.inner = level, owner, inner
+        self.asked = None       # where an element, mandatory or optional, was last asked for
 
     def fault(self, number):
         return Fault(number, self.place, self.inner)
 
 
 class ElementReader:
-    """At each place in this order: the end, tag (1, 2), code 0 (6), level (5), expected tag (10),
-    length (1, 3, 4), contents (11 or inner faults)."""
+    """At each place in this order: the end (1, 14), tag (1, 2), code 0 (6), level (5), expected tag
+    (15, 16), length (1, 3, 4), contents (11 or inner faults)."""
 
     def __init__(self, octets):
         self.octets = octets
@@ -168,11 +171,21 @@ class ElementReader:
         return tag
 
     def next_is(self, c, tag):
+        """Does this element, which may stand here, stand here?"""
+        c.asked = c.place
         return not self.ended(c) and self.tag(c) == bytes([tag])
+
+    def unexpected(self, c):
+        """None that may stand here does: the contents end where something mandatory is due (14), or
+        an element stands where only others may (15), or follows where nothing more may (16)."""
+        if self.ended(c):
+            return c.fault(MISSING)
+        self.tag(c)
+        return c.fault(ANOTHER if c.asked == c.place else TOO_MANY)
 
     def expect(self, c, tag):
         if not self.next_is(c, tag):
-            raise c.fault(10)
+            raise self.unexpected(c)
 
     def length(self, c):
         """Where the contents begin, and their length or None if indefinite. Moves nothing."""
@@ -213,8 +226,7 @@ class ElementReader:
     def leave(self, inside, c):
         """Nothing more may come inside; c goes on behind the constructor."""
         if not self.ended(inside):
-            self.tag(inside)
-            raise inside.fault(10)
+            raise self.unexpected(inside)
         c.place = inside.place + (2 if inside.indefinite else 0)
 
     def primitive(self, c, tag, good):
@@ -229,7 +241,7 @@ class ElementReader:
     def element(self, c):
         """Any one element, checked to the bottom: its whole span, end pair included."""
         if self.ended(c):
-            raise c.fault(10)
+            raise self.unexpected(c)
         begin = c.place
         if is_constructor(self.tag(c)):
             inside = self.enter_any(c)
@@ -374,7 +386,7 @@ class MessageReader(ElementReader):
     def component_portion(self, parts):
         portion = self.enter(parts, 0x6C)
         if self.ended(portion):
-            raise portion.fault(10)
+            raise self.unexpected(portion)
         rows = []
         while not self.ended(portion):
             portion.inner, self.invoke = len(rows), None
@@ -421,7 +433,7 @@ class MessageReader(ElementReader):
             if self.next_is(fields, type_tag):
                 contents = self.primitive(fields, type_tag, one_octet_up_to(highest))
                 return type_tag, self.number(contents)
-        raise fields.fault(10)
+        raise self.unexpected(fields)
 
 
 def read(octets):
@@ -444,9 +456,9 @@ def refusal(fault, reader):
     elif owner == IN_DIALOGUE:
         answer, value = "cause", 3
     elif owner == ELSEWHERE:
-        answer, value = "cause", 3 if number in (10, 11) else 2
+        answer, value = "cause", 3 if number in WRONG_PART else 2
     else:
-        answer, value = "problem", 0 if number == 13 else 1 if number in (10, 11) else 2
+        answer, value = "problem", 0 if number == 13 else 1 if number in WRONG_PART else 2
         component, invoke = owner, reader.invoke
     return Refusal(number, fault.place, reader.orig, answer, value, component, invoke)
 

@@ -55,7 +55,7 @@ module _ {A : Type 0} (b : Body A) (d : Bool) (p : ℕ) (part : List ℕ) where
   askLength a s (LengthRead.Definite k n) = b .goes d (head a (s + k) (definite n)) p part
   askLength a s LengthRead.Indefinite = b .goes d (head a (s + 1) indefinite) p part
 
-  -- the tag (1, 2), code 0 (6), the level (5), the expected tag (13, 10)
+  -- the tag (1, 2), code 0 (6), the level (5), the expected tag (13, 15, 16)
   unfoldable pub askTag : TagRead → Got A
   askTag (TagRead.Fault k) = bad (b .owner (at k p))
   askTag (TagRead.Tag a s) =
@@ -68,8 +68,8 @@ module _ {A : Type 0} (b : Body A) (d : Bool) (p : ℕ) (part : List ℕ) where
   atEnd none = bad (at FaultKind.Missing p)
   atEnd (some a) = got a 0
 
-  -- the end of the contents (a missing end pair is 1), a 17th component (12): no owner, for these belong to the constructor left open, and whoever asks
-  -- for its contents says whose it is
+  -- the end of the contents (a missing end pair is 1, something mandatory that is missing 14), a 17th component (12): no owner, for these belong to the
+  -- constructor left open, and whoever asks for its contents says whose it is
   unfoldable pub askEnd : EndRead → Got A
   askEnd EndRead.Ended = atEnd (b .ends)
   askEnd EndRead.Unfinished = bad (at FaultKind.CutOff p)

@@ -5,7 +5,8 @@ use mathlib.Core.{List.List, Option.Option, Option.none, Option.some}
 use lib.{IntN.ℤ}
 use Rattle.element.specs.{declared.FaultKind.FaultKind}
 
--- document 01's table: a missing element, another than the rules allow and one too many are all number 10
+-- document 01's table, where 10 is retired: the contents end where something mandatory is due (14), an element stands where only others may (15),
+-- or follows where nothing more may (16)
 unfoldable pub numberOf : FaultKind → ℕ
 numberOf FaultKind.CutOff = 1
 numberOf FaultKind.BadTag = 2
@@ -16,9 +17,9 @@ numberOf FaultKind.CodeZero = 6
 numberOf FaultKind.Overlong = 7
 numberOf FaultKind.NoMessage = 8
 numberOf FaultKind.OctetsAfter = 9
-numberOf FaultKind.Missing = 10
-numberOf FaultKind.Another = 10
-numberOf FaultKind.TooMany = 10
+numberOf FaultKind.Missing = 14
+numberOf FaultKind.Another = 15
+numberOf FaultKind.TooMany = 16
 numberOf FaultKind.BadContents = 11
 numberOf FaultKind.Seventeenth = 12
 numberOf FaultKind.UnknownComponent = 13

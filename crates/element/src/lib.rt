@@ -13,7 +13,7 @@ use base::after;
 use base::piece;
 use base::wide;
 
-// A fault by its kind; document 01 numbers them.
+// A fault by its kind; documents 01 and 02 number them.
 pub enum FaultKind {
     CutOff,
     BadTag,
@@ -58,7 +58,7 @@ pub enum Walk {
     Whole { size: usize },
 }
 
-// Document 01's number of a fault.
+// The number of a fault.
 pub fn number_of(kind: FaultKind) -> u8
     ensures { λ r. ⌜ r ≡ numberOf kind ⌝ }
 {
@@ -72,9 +72,9 @@ pub fn number_of(kind: FaultKind) -> u8
         FaultKind::Overlong => 7,
         FaultKind::NoMessage => 8,
         FaultKind::OctetsAfter => 9,
-        FaultKind::Missing => 10,
-        FaultKind::Another => 10,
-        FaultKind::TooMany => 10,
+        FaultKind::Missing => 14,
+        FaultKind::Another => 15,
+        FaultKind::TooMany => 16,
         FaultKind::BadContents => 11,
         FaultKind::Seventeenth => 12,
         FaultKind::UnknownComponent => 13,

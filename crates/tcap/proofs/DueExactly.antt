@@ -1,4 +1,4 @@
--- What each kind of number 10 means, by the table of what is due: missing exactly if .., another exactly if .., too many exactly if .. Assumes nothing.
+-- What 14, 15 and 16 mean, by the table of what is due: missing exactly if .., another exactly if .., too many exactly if .. Assumes nothing.
 use Prim.Native.Nat.{ℕ, _≤_}
 use mathlib.Core.Path.{_≡_, refl, sym, _∙_}
 use mathlib.Core.Logic.{_↔_}

@@ -1,4 +1,4 @@
--- What is known at a place, and what is not there: the IDs stand where they were due, and where they were due they are known; nothing of 10 or 13 is
+-- What is known at a place, and what is not there: the IDs stand where they were due, and where they were due they are known; nothing of 13 to 16 is
 -- at place 0, in any message. Assumes nothing.
 use Prim.Native.Nat.{ℕ, _≤_}
 use mathlib.Core.Path.{_≡_, refl, sym, ap, _∙_}
@@ -139,7 +139,7 @@ some-ends : (m : List ℕ) (a : ℕ) (q : List ℕ) → m ≡ a ∷ q → endOf 
 unfolding endOf
 some-ends m a q e h = let z : endOf true (a ∷ q) ≡ ended = rw e at h in let y : _≡_ {A = ℕ} 0 1 = cc in omega arith
 
--- no message is refused for 10 or 13 at place 0: there stands the message
+-- no message is refused for 13 to 16 at place 0: there stands the message
 pub never-at-0 : {limit : ℕ} {m : List ℕ} {p : ℕ} {k : FaultKind} {w : Owner} {i : Option ℤ} {t : Option Text} → p ≡ 0 → 1 ≤ rank k → Refuses limit m (fault k p w i t) → ⊥
 unfolding rank
 never-at-0 e h (overlong b) = omega arith

@@ -49,12 +49,12 @@ edges =
     ∷ (hex "62 19 48 01 05 6B 14 28 12 06 07 00 11 86 05 01 01 01 A0 07 64 05 80 01 00 BE 00", begun (Dialogue.DialogueAbort 0 (OptionalSpan.Present (spanAt 27 0))) [])
     -- the name of the unstructured dialogue, which has one PDU
     ∷ (hex "62 1F 48 01 05 6B 1A 28 18 06 07 00 11 86 05 01 02 01 A0 0D 60 0B 80 02 07 80 A1 03 06 01 2A BE 00", begun (Dialogue.Unidialogue (spanAt 30 1) (OptionalSpan.Present (spanAt 33 0))) [])
-    ∷ (hex "62 17 48 01 05 6B 12 28 10 06 07 00 11 86 05 01 02 01 A0 05 64 03 80 01 01", refuses 10 20 (origAt 4 1) (cause 3))
+    ∷ (hex "62 17 48 01 05 6B 12 28 10 06 07 00 11 86 05 01 02 01 A0 05 64 03 80 01 01", refuses 15 20 (origAt 4 1) (cause 3))
     -- a name that differs from the two in its last octet, or in the one that tells them apart, is another: any element, or 81
     ∷ (hex "62 19 48 01 05 6B 14 28 12 06 07 00 11 86 05 01 01 02 A0 07 60 05 A1 03 06 01 2A", begun (Dialogue.OutsideElement (spanAt 11 7) (spanAt 20 7)) [])
     ∷ (hex "62 12 48 01 05 6B 0D 28 0B 06 07 00 11 86 05 01 03 01 81 00", begun (Dialogue.OutsideOctets (spanAt 11 7) (spanAt 20 0)) [])
     -- neither of the two has 81
-    ∷ (hex "62 12 48 01 05 6B 0D 28 0B 06 07 00 11 86 05 01 02 01 81 00", refuses 10 18 (origAt 4 1) (cause 3))
+    ∷ (hex "62 12 48 01 05 6B 0D 28 0B 06 07 00 11 86 05 01 02 01 81 00", refuses 15 18 (origAt 4 1) (cause 3))
     ∷ []
 
 pub limited : AsTold edges
@@ -98,15 +98,15 @@ beyond =
     -- another version, or version 1 encoded otherwise
     ∷ (hex "62 23 48 01 05 6B 1E 28 1C 06 07 00 11 86 05 01 01 01 A0 11 60 0F 80 02 06 C0 A1 09 06 07 04 00 00 01 00 01 03", refuses 11 22 (origAt 4 1) (cause 3))
     -- another encoding than A0 or 81 in the EXTERNAL of 6B
-    ∷ (hex "62 0E 48 01 05 6B 09 28 07 06 01 2A A1 02 04 00", refuses 10 12 (origAt 4 1) (cause 3))
+    ∷ (hex "62 0E 48 01 05 6B 09 28 07 06 01 2A A1 02 04 00", refuses 15 12 (origAt 4 1) (cause 3))
     -- an indirect reference
-    ∷ (hex "62 0F 48 01 05 6B 0A 28 08 06 01 2A 02 01 01 81 00", refuses 10 12 (origAt 4 1) (cause 3))
+    ∷ (hex "62 0F 48 01 05 6B 0A 28 08 06 01 2A 02 01 01 81 00", refuses 15 12 (origAt 4 1) (cause 3))
     -- no direct reference
-    ∷ (hex "62 09 48 01 05 6B 04 28 02 81 00", refuses 10 9 (origAt 4 1) (cause 3))
+    ∷ (hex "62 09 48 01 05 6B 04 28 02 81 00", refuses 15 9 (origAt 4 1) (cause 3))
     -- 81 behind the structured name
-    ∷ (hex "62 12 48 01 05 6B 0D 28 0B 06 07 00 11 86 05 01 01 01 81 00", refuses 10 18 (origAt 4 1) (cause 3))
+    ∷ (hex "62 12 48 01 05 6B 0D 28 0B 06 07 00 11 86 05 01 01 01 81 00", refuses 15 18 (origAt 4 1) (cause 3))
     -- RLRQ
-    ∷ (hex "62 17 48 01 05 6B 12 28 10 06 07 00 11 86 05 01 01 01 A0 05 62 03 80 01 00", refuses 10 20 (origAt 4 1) (cause 3))
+    ∷ (hex "62 17 48 01 05 6B 12 28 10 06 07 00 11 86 05 01 01 01 A0 05 62 03 80 01 00", refuses 15 20 (origAt 4 1) (cause 3))
     ∷ []
 
 pub narrower : AsTold beyond

@@ -34,34 +34,34 @@ faults =
     -- code 0 before the expected tag and the length
     ∷ (hex "62 06 48 01 05 20 FF 01", refuses 6 5 (origAt 4 1) (cause 2))
     -- the expected tag before the length
-    ∷ (hex "62 06 48 01 05 04 FF 01", refuses 10 5 (origAt 4 1) (cause 3))
+    ∷ (hex "62 06 48 01 05 04 FF 01", refuses 15 5 (origAt 4 1) (cause 3))
     -- a known code with the other form bit is another tag
-    ∷ (hex "62 03 68 01 05", refuses 10 2 OptionalOrig.NoOrig (cause 3))
-    ∷ (hex "62 0B 48 01 05 6C 06 A2 04 22 02 05 00", refuses 10 9 (origAt 4 1) (problem 1 0 InvokeId.Null))
+    ∷ (hex "62 03 68 01 05", refuses 15 2 OptionalOrig.NoOrig (cause 3))
+    ∷ (hex "62 0B 48 01 05 6C 06 A2 04 22 02 05 00", refuses 15 9 (origAt 4 1) (problem 1 0 InvokeId.Null))
     -- what the sources allow beyond the page is another element
-    ∷ (hex "62 0E 48 01 05 6B 09 28 07 06 01 2A 82 02 00 FF", refuses 10 12 (origAt 4 1) (cause 3))
+    ∷ (hex "62 0E 48 01 05 6B 09 28 07 06 01 2A 82 02 00 FF", refuses 15 12 (origAt 4 1) (cause 3))
     -- code 0 directly in 6B is inside it
     ∷ (hex "62 07 48 01 05 6B 02 00 05", refuses 6 7 (origAt 4 1) (cause 3))
     -- an element that may not stand there is refused where it stands, and not skipped
-    ∷ (hex "62 0C 48 01 05 04 00 6C 05 A2 03 02 01 01", refuses 10 5 (origAt 4 1) (cause 3))
+    ∷ (hex "62 0C 48 01 05 04 00 6C 05 A2 03 02 01 01", refuses 15 5 (origAt 4 1) (cause 3))
     -- a part that may be left out comes once: 6B, 6C, cause, linked ID, parameter, 30, version, BE
-    ∷ (hex "62 15 48 01 05 6B 07 28 05 06 01 2A 81 00 6B 07 28 05 06 01 2A 81 00", refuses 10 14 (origAt 4 1) (cause 3))
-    ∷ (hex "62 11 48 01 05 6C 05 A2 03 02 01 01 6C 05 A2 03 02 01 01", refuses 10 12 (origAt 4 1) (cause 3))
-    ∷ (hex "62 13 48 01 05 6C 05 A2 03 02 01 01 6B 07 28 05 06 01 2A 81 00", refuses 10 12 (origAt 4 1) (cause 3))
-    ∷ (hex "67 09 49 01 05 4A 01 00 4A 01 00", refuses 10 8 OptionalOrig.NoOrig (cause 3))
-    ∷ (hex "62 13 48 01 05 6C 0E A1 0C 02 01 01 80 01 02 80 01 02 02 01 2D", refuses 10 15 (origAt 4 1) (problem 1 0 (id 1)))
-    ∷ (hex "62 11 48 01 05 6C 0C A1 0A 02 01 01 02 01 2D 04 00 04 00", refuses 10 17 (origAt 4 1) (problem 1 0 (id 1)))
-    ∷ (hex "62 18 48 01 05 6C 13 A7 11 02 01 01 30 05 02 01 2D 04 00 30 05 02 01 2D 04 00", refuses 10 19 (origAt 4 1) (problem 1 0 (id 1)))
-    ∷ (hex "62 21 48 01 05 6B 1C 28 1A 06 07 00 11 86 05 01 01 01 A0 0F 60 0D 80 02 07 80 80 02 07 80 A1 03 06 01 2A", refuses 10 26 (origAt 4 1) (cause 3))
-    ∷ (hex "62 1D 48 01 05 6B 18 28 16 06 07 00 11 86 05 01 01 01 A0 0B 60 09 A1 03 06 01 2A BE 00 BE 00", refuses 10 29 (origAt 4 1) (cause 3))
+    ∷ (hex "62 15 48 01 05 6B 07 28 05 06 01 2A 81 00 6B 07 28 05 06 01 2A 81 00", refuses 15 14 (origAt 4 1) (cause 3))
+    ∷ (hex "62 11 48 01 05 6C 05 A2 03 02 01 01 6C 05 A2 03 02 01 01", refuses 16 12 (origAt 4 1) (cause 3))
+    ∷ (hex "62 13 48 01 05 6C 05 A2 03 02 01 01 6B 07 28 05 06 01 2A 81 00", refuses 16 12 (origAt 4 1) (cause 3))
+    ∷ (hex "67 09 49 01 05 4A 01 00 4A 01 00", refuses 16 8 OptionalOrig.NoOrig (cause 3))
+    ∷ (hex "62 13 48 01 05 6C 0E A1 0C 02 01 01 80 01 02 80 01 02 02 01 2D", refuses 15 15 (origAt 4 1) (problem 1 0 (id 1)))
+    ∷ (hex "62 11 48 01 05 6C 0C A1 0A 02 01 01 02 01 2D 04 00 04 00", refuses 16 17 (origAt 4 1) (problem 1 0 (id 1)))
+    ∷ (hex "62 18 48 01 05 6C 13 A7 11 02 01 01 30 05 02 01 2D 04 00 30 05 02 01 2D 04 00", refuses 16 19 (origAt 4 1) (problem 1 0 (id 1)))
+    ∷ (hex "62 21 48 01 05 6B 1C 28 1A 06 07 00 11 86 05 01 01 01 A0 0F 60 0D 80 02 07 80 80 02 07 80 A1 03 06 01 2A", refuses 15 26 (origAt 4 1) (cause 3))
+    ∷ (hex "62 1D 48 01 05 6B 18 28 16 06 07 00 11 86 05 01 01 01 A0 0B 60 09 A1 03 06 01 2A BE 00 BE 00", refuses 16 29 (origAt 4 1) (cause 3))
     -- 3 even where the contents pass the end
     ∷ (hex "62 03 48 81 7F", refuses 3 2 OptionalOrig.NoOrig (cause 2))
     -- a length in four octets that passes the end
     ∷ (hex "62 06 48 84 01 00 00 00", refuses 4 2 OptionalOrig.NoOrig (cause 2))
     -- a code missing in a component, with its invoke ID
-    ∷ (hex "62 0A 48 01 05 6C 05 A1 03 02 01 01", refuses 10 12 (origAt 4 1) (problem 1 0 (id 1)))
+    ∷ (hex "62 0A 48 01 05 6C 05 A1 03 02 01 01", refuses 14 12 (origAt 4 1) (problem 1 0 (id 1)))
     -- never the invoke ID of another component
-    ∷ (hex "62 0C 48 01 05 6C 07 A2 03 02 01 01 A2 00", refuses 10 14 (origAt 4 1) (problem 1 1 InvokeId.Null))
+    ∷ (hex "62 0C 48 01 05 6C 07 A2 03 02 01 01 A2 00", refuses 14 14 (origAt 4 1) (problem 1 1 InvokeId.Null))
     -- a 17th component
     ∷ (hex "62 5A 48 01 05 6C 55" ++ times 17 (hex "A2 03 02 01 01"), refuses 12 87 (origAt 4 1) (cause 4))
     -- a 17th component is asked before its tag
@@ -91,18 +91,18 @@ abbrev pub carriers : List (List ℕ × Told)
 carriers =
     -- a refused Continue has its originating ID, at whatever later place the fault is: in the destination ID, behind it, in a component, behind the message
     (hex "65 05 48 01 05 49 00", refuses 11 5 (origAt 4 1) (cause 3))
-    ∷ (hex "65 08 48 01 05 49 01 06 04 00", refuses 10 8 (origAt 4 1) (cause 3))
-    ∷ (hex "65 0F 48 01 05 49 01 06 6C 07 A2 05 02 01 07 04 00", refuses 10 15 (origAt 4 1) (problem 1 0 (id 7)))
+    ∷ (hex "65 08 48 01 05 49 01 06 04 00", refuses 15 8 (origAt 4 1) (cause 3))
+    ∷ (hex "65 0F 48 01 05 49 01 06 6C 07 A2 05 02 01 07 04 00", refuses 15 15 (origAt 4 1) (problem 1 0 (id 7)))
     ∷ (hex "65 06 48 01 05 49 01 06 00", refuses 9 8 (origAt 4 1) (cause 2))
     -- but none before it was read whole
     ∷ (hex "65 07 48 05 01 02 03 04 05", refuses 11 2 OptionalOrig.NoOrig (cause 3))
     -- a refused End has none, nor has an Abort, nor a Unidirectional
     ∷ (hex "64 02 49 00", refuses 11 2 OptionalOrig.NoOrig (cause 3))
-    ∷ (hex "64 05 49 01 05 04 00", refuses 10 5 OptionalOrig.NoOrig (cause 3))
+    ∷ (hex "64 05 49 01 05 04 00", refuses 15 5 OptionalOrig.NoOrig (cause 3))
     ∷ (hex "64 03 49 01 05 00", refuses 9 5 OptionalOrig.NoOrig (cause 2))
-    ∷ (hex "67 05 49 01 05 6C 00", refuses 10 5 OptionalOrig.NoOrig (cause 3))
-    ∷ (hex "61 02 04 00", refuses 10 2 OptionalOrig.NoOrig (cause 3))
-    ∷ (hex "61 09 6C 07 A2 05 02 01 07 04 00", refuses 10 9 OptionalOrig.NoOrig (problem 1 0 (id 7)))
+    ∷ (hex "67 05 49 01 05 6C 00", refuses 15 5 OptionalOrig.NoOrig (cause 3))
+    ∷ (hex "61 02 04 00", refuses 15 2 OptionalOrig.NoOrig (cause 3))
+    ∷ (hex "61 09 6C 07 A2 05 02 01 07 04 00", refuses 15 9 OptionalOrig.NoOrig (problem 1 0 (id 7)))
     -- 11 in each kind of component, with its index and its invoke ID: in the linked ID and the code of an Invoke
     ∷ (hex "62 11 48 01 05 6C 0C A1 0A 02 01 07 80 02 00 01 02 01 2D", refuses 11 12 (origAt 4 1) (problem 1 0 (id 7)))
     ∷ (hex "62 0E 48 01 05 6C 09 A1 07 02 01 07 02 02 00 7F", refuses 11 12 (origAt 4 1) (problem 1 0 (id 7)))
@@ -123,7 +123,7 @@ carriers =
     ∷ (hex "62 0E 48 01 05 6C 09 A1 07 02 02 00 01 02 01 2D", refuses 11 9 (origAt 4 1) (problem 1 0 InvokeId.Null))
     ∷ (hex "62 0A 48 01 05 6C 05 A4 03 05 01 00", refuses 11 9 (origAt 4 1) (problem 1 0 InvokeId.Null))
     -- the invoke ID is signed; it and the index are those of the component at fault
-    ∷ (hex "62 11 48 01 05 6C 0C A2 03 02 01 01 A3 05 02 01 80 04 00", refuses 10 17 (origAt 4 1) (problem 1 1 (InvokeId.Id (negsuc 127))))
+    ∷ (hex "62 11 48 01 05 6C 0C A2 03 02 01 01 A3 05 02 01 80 04 00", refuses 15 17 (origAt 4 1) (problem 1 1 (InvokeId.Id (negsuc 127))))
     ∷ []
 
 pub carried-along : AsTold carriers

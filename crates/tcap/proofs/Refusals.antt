@@ -1,5 +1,5 @@
--- What every refusal carries, for those who lay it out: a number from 1 to 13, a place in the message, the originating ID, of 1 to 4 octets, where 48
--- stands before it, and an invoke ID of one octet. Assumes nothing.
+-- What every refusal carries, for those who lay it out: a number from 1 to 16 that is not 10, a place in the message, the originating ID, of 1 to 4 octets,
+-- where 48 stands before it, and an invoke ID of one octet. Assumes nothing.
 use Prim.Native.Nat.{ℕ, _≤_}
 use mathlib.Core.Path.{_≡_, refl}
 use mathlib.Core.Logic.{_⊎_, inl, inr}
@@ -21,24 +21,24 @@ use Rattle.tcap.specs.Record.{origField, blankRecord}
 use Rattle.tcap.specs.Reading.{locatedUpTo, groundOf, byOwner, answerFor, refusalOf, answered, readingUpTo, reading}
 use Rattle.tcap.proofs.Places.{OrigHere, RefusedFor, fault-placed}
 
--- every kind has a number of document 01's table
-pub numbered : (k : FaultKind) → (1 ≤ numberOf k) × (numberOf k ≤ 13)
+-- every kind has a number of the table, and 10 is retired
+pub numbered : (k : FaultKind) → (1 ≤ numberOf k) × (numberOf k ≤ 16) × (numberOf k ≡ 10 → ⊥)
 unfolding numberOf
-numbered FaultKind.CutOff = omega arith
-numbered FaultKind.BadTag = omega arith
-numbered FaultKind.BadLength = omega arith
-numbered FaultKind.PassesEnd = omega arith
-numbered FaultKind.TooDeep = omega arith
-numbered FaultKind.CodeZero = omega arith
-numbered FaultKind.Overlong = omega arith
-numbered FaultKind.NoMessage = omega arith
-numbered FaultKind.OctetsAfter = omega arith
-numbered FaultKind.Missing = omega arith
-numbered FaultKind.Another = omega arith
-numbered FaultKind.TooMany = omega arith
-numbered FaultKind.BadContents = omega arith
-numbered FaultKind.Seventeenth = omega arith
-numbered FaultKind.UnknownComponent = omega arith
+numbered FaultKind.CutOff = (omega arith, omega arith, λ e. omega arith)
+numbered FaultKind.BadTag = (omega arith, omega arith, λ e. omega arith)
+numbered FaultKind.BadLength = (omega arith, omega arith, λ e. omega arith)
+numbered FaultKind.PassesEnd = (omega arith, omega arith, λ e. omega arith)
+numbered FaultKind.TooDeep = (omega arith, omega arith, λ e. omega arith)
+numbered FaultKind.CodeZero = (omega arith, omega arith, λ e. omega arith)
+numbered FaultKind.Overlong = (omega arith, omega arith, λ e. omega arith)
+numbered FaultKind.NoMessage = (omega arith, omega arith, λ e. omega arith)
+numbered FaultKind.OctetsAfter = (omega arith, omega arith, λ e. omega arith)
+numbered FaultKind.Missing = (omega arith, omega arith, λ e. omega arith)
+numbered FaultKind.Another = (omega arith, omega arith, λ e. omega arith)
+numbered FaultKind.TooMany = (omega arith, omega arith, λ e. omega arith)
+numbered FaultKind.BadContents = (omega arith, omega arith, λ e. omega arith)
+numbered FaultKind.Seventeenth = (omega arith, omega arith, λ e. omega arith)
+numbered FaultKind.UnknownComponent = (omega arith, omega arith, λ e. omega arith)
 
 -- the originating ID stands in m, 48 and its length before it, and has 1 to 4 octets
 abbrev pub OrigRead : List ℕ → OptionalOrig → Type 0
@@ -52,7 +52,8 @@ SendOk (Answer.RejectProblem n k (InvokeId.Id i)) = InvokeIdOk i
 
 pub record Carries (m : List ℕ) (f : Refusal) : Type 0 where
   pub low : 1 ≤ numberOf (f .kind)
-  pub high : numberOf (f .kind) ≤ 13
+  pub high : numberOf (f .kind) ≤ 16
+  pub notTen : numberOf (f .kind) ≡ 10 → ⊥
   pub place : f .place ≤ length m
   pub overlong : f .kind ≡ FaultKind.Overlong → f .place ≡ mostOctets
   pub noMessage : f .kind ≡ FaultKind.NoMessage → f .place ≡ 0
@@ -84,6 +85,7 @@ carries m (fault k p o i t) q =
     record {
       low = numbered k .0;
       high = numbered k .1;
+      notTen = numbered k .2;
       place = q .place;
       overlong = q .overlong;
       noMessage = q .noMessage;

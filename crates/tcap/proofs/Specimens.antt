@@ -96,16 +96,16 @@ specimens =
     ∷ unread [] (refuses 1 0 OptionalOrig.NoOrig (cause 2))
     -- G: 8 at 0, cause 0
     ∷ unread (hex "63 00") (refuses 8 0 OptionalOrig.NoOrig (cause 0))
-    -- H: 10 at 2, cause 3
-    ∷ unread (hex "62 00") (refuses 10 2 OptionalOrig.NoOrig (cause 3))
+    -- H: 14 at 2, cause 3
+    ∷ unread (hex "62 00") (refuses 14 2 OptionalOrig.NoOrig (cause 3))
     -- I: 11 at 2
     ∷ unread (hex "62 02 48 00") (refuses 11 2 OptionalOrig.NoOrig (cause 3))
     -- J: 3 at 2, cause 2
     ∷ unread (hex "62 04 48 81 01 05") (refuses 3 2 OptionalOrig.NoOrig (cause 2))
     -- K: 4 at 2
     ∷ unread (hex "62 03 48 02 05") (refuses 4 2 OptionalOrig.NoOrig (cause 2))
-    -- L: 10 at 7, cause 3
-    ∷ unread (hex "62 05 48 01 05 6C 00") (refuses 10 7 (origAt 4 1) (cause 3))
+    -- L: 14 at 7, cause 3
+    ∷ unread (hex "62 05 48 01 05 6C 00") (refuses 14 7 (origAt 4 1) (cause 3))
     -- M: 13 at 7, component 0, problem 0
     ∷ unread (hex "62 07 48 01 05 6C 02 A5 00") (refuses 13 7 (origAt 4 1) (problem 0 0 InvokeId.Null))
     -- N: 9 at 5

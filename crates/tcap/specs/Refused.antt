@@ -124,7 +124,7 @@ pub data Faulty (limit l : ℕ) (r : Parts) (part : List ℕ) : FaultKind → Ty
   zeroCode : {a : ℕ} {q : List ℕ} → part ≡ a ∷ q → codeZero a ≡ true → Faulty limit l r part FaultKind.CodeZero
   -- the level (5)
   tooDeep : {a : ℕ} {q : List ℕ} → Tagged part a q → limit < l → Faulty limit l r part FaultKind.TooDeep
-  -- the expected tag (13, 10)
+  -- the expected tag (13, 15, 16)
   unfit : {a : ℕ} {q : List ℕ} {k : FaultKind} → Tagged part a q → l ≤ limit → due r a ≡ none → Unfit r k → Faulty limit l r part k
   -- the length (1, 3, 4)
   lengthWrong : {a : ℕ} {q : List ℕ} {h : Holds} {k : FaultKind} → Tagged part a q → l ≤ limit → due r a ≡ some h → LengthWrong (constructorOf a) q k → Faulty limit l r part k
@@ -133,7 +133,7 @@ pub data Faulty (limit l : ℕ) (r : Parts) (part : List ℕ) : FaultKind → Ty
 
 -- at a place in contents of c, where an element belongs to o: a fault's kind, and whom it belongs to
 pub data Wrong (limit l : ℕ) (d : Bool) (r : Parts) (part : List ℕ) (c o : Owner) : FaultKind → Owner → Type 0 where
-  -- the end of the contents: a missing end pair (1), something missing (10)
+  -- the end of the contents: a missing end pair (1), something missing (14)
   noPair : endOf d part ≡ EndRead.Unfinished → Wrong limit l d r part c o FaultKind.CutOff c
   missing : endOf d part ≡ EndRead.Ended → mayEnd r ≡ false → Wrong limit l d r part c o FaultKind.Missing c
   -- a 17th component (12)

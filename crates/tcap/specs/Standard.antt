@@ -15,7 +15,7 @@ pub data Structure : FaultKind → Type 0 where
   tooDeep : Structure FaultKind.TooDeep
   codeZero : Structure FaultKind.CodeZero
 
--- 10 and 11
+-- 11 and 14 to 16
 pub data Mistyped : FaultKind → Type 0 where
   missing : Mistyped FaultKind.Missing
   another : Mistyped FaultKind.Another
@@ -29,11 +29,11 @@ pub data Standard : FaultKind → Owner → Option ℤ → Answer → Type 0 whe
   seventeenth : {o : Owner} {i : Option ℤ} → Standard FaultKind.Seventeenth o i (Answer.AbortCause 4)
   -- a fault inside 6B's contents cause 3
   inside6B : {k : FaultKind} {i : Option ℤ} → Structure k ⊎ Mistyped k → Standard k dialogue i (Answer.AbortCause 3)
-  -- a fault in a component, with its index and its invoke ID if read: general problem 0 for 13, 1 for 10 and 11, 2 for 1 to 6
+  -- a fault in a component, with its index and its invoke ID if read: general problem 0 for 13, 1 for 11 and 14 to 16, 2 for 1 to 6
   unknownComponent : {n : ℕ} {i : Option ℤ} → n < 16 → Standard FaultKind.UnknownComponent (component n) i (Answer.RejectProblem 0 n (idField i))
   mistypedComponent : {k : FaultKind} {n : ℕ} {i : Option ℤ} → Mistyped k → n < 16 → Standard k (component n) i (Answer.RejectProblem 1 n (idField i))
   badComponent : {k : FaultKind} {n : ℕ} {i : Option ℤ} → Structure k → n < 16 → Standard k (component n) i (Answer.RejectProblem 2 n (idField i))
-  -- everywhere else cause 3 for 10 and 11, otherwise cause 2
+  -- everywhere else cause 3 for 11 and 14 to 16, otherwise cause 2
   mistypedElsewhere : {k : FaultKind} {i : Option ℤ} → Mistyped k → Standard k portion i (Answer.AbortCause 3)
   badElsewhere : {k : FaultKind} {i : Option ℤ} → Structure k → Standard k portion i (Answer.AbortCause 2)
   overlong : {i : Option ℤ} → Standard FaultKind.Overlong portion i (Answer.AbortCause 2)

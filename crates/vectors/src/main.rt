@@ -72,7 +72,7 @@ fn same_reading(
 
 // Reads the next case and compares it: where its last two octets came, all of it did.
 fn compare_next(fd: i32) -> Verdict {
-    let mut message = [0u8; 512];
+    let mut message = [0u8; 4096];
     let size = next_string(fd, &mut message);
     let mut text = [0u8; 4096];
     let length = next_string(fd, &mut text);
