@@ -1,0 +1,55 @@
+-- `are_separate` meets its contract. Assumes nothing.
+use Rattle.base.proofs.Tests.{tests}
+use borrow.Author.Tests.{not-true, not-false}
+use mathlib.Core.Path.{sym, _∙_}
+use Rattle.sccp.specs.Unitdata.{separate}
+use borrow.Author.Needs.{needs}
+use Rattle.sccp.proofs.are_separate.Statement.{statement}
+use Rattle.sccp.proofs.are_separate.Tie as tie
+
+returns : tie.Need-returns
+unfolding separate
+returns c = search tests
+
+returns-2 : tie.Need-returns-2
+unfolding separate
+returns-2 c = search tests
+
+returns-3 : tie.Need-returns-3
+unfolding separate
+returns-3 c = search tests
+
+are-apart-requires : tie.Need-are-apart-requires
+are-apart-requires c κs = search needs
+
+returns-4 : tie.Need-returns-4
+unfolding separate
+returns-4 c = search (tests, sym (c .before .are-apart .ensures) ∙ not-true (c .before .are-apart .result) (c .if4 .taken))
+
+are-apart-requires-2 : tie.Need-are-apart-requires-2
+are-apart-requires-2 c κs = search needs
+
+returns-5 : tie.Need-returns-5
+unfolding separate
+returns-5 c = search (tests, sym (c .before .before .before .are-apart .ensures) ∙ not-false (c .before .before .before .are-apart .result) (c .before .before .if4 .left), sym (c .before .are-apart2 .ensures) ∙ not-true (c .before .are-apart2 .result) (c .if5 .taken))
+
+are-apart-requires-3 : tie.Need-are-apart-requires-3
+are-apart-requires-3 c κs = search needs
+
+returns-6 : tie.Need-returns-6
+unfolding separate
+returns-6 c = rw (c .are-apart3 .ensures) (search (tests, sym (c .before .before .before .before .are-apart .ensures) ∙ not-false (c .before .before .before .before .are-apart .result) (c .before .before .before .if4 .left), sym (c .before .before .are-apart2 .ensures) ∙ not-false (c .before .before .are-apart2 .result) (c .before .if5 .left)))
+
+pub are-separate-spec : {M : Type 1} → statement M
+are-separate-spec =
+    tie.close
+    (tie.spec
+    returns
+    returns-2
+    returns-3
+    are-apart-requires
+    returns-4
+    are-apart-requires-2
+    returns-5
+    are-apart-requires-3
+    returns-6)

@@ -1,0 +1,3 @@
+pub mod Unitdata
+pub mod Standing
+pub mod Writing
