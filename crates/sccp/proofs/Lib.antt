@@ -1,2 +1,6 @@
 pub mod Reading
 pub mod Ranges
+pub mod Standing
+pub mod Promises
+pub mod Written
+pub mod Specimens

@@ -1,8 +1,9 @@
 -- What a unitdata is, in the page's words and with no order of questions: document 02, §6. Assumes nothing: these are definitions.
 use Prim.Native.Nat.{ℕ, suc, _+_, _≤_, _<_}
 use mathlib.Core.{Path._≡_, List.List}
-use lib.{ListN.length, ListN.getD}
+use lib.{ListN.length, ListN.getD, ListN.take, ListN.drop}
 use Rattle.sccp.specs.declared.{Part.Part, Unitdata.Unitdata}
+use Rattle.sccp.specs.Unitdata.{partAt}
 
 -- octet k belongs to the part, whose length octet stands just before its place
 unfoldable pub Covers : Part → ℕ → Type 0
@@ -43,6 +44,10 @@ pub record Addressed (u : Unitdata) : Type 0 where
   pub called-some : 0 < u .called .len
   pub calling-some : 0 < u .calling .len
 
+-- what the pointers of a message name, whether or not it lies there
+abbrev pub unitdataAt : List ℕ → Unitdata
+unitdataAt m = record { class = getD m 1 0; called = partAt m 2; calling = partAt m 3; userdata = partAt m 4 }
+
 -- the octets m are the unitdata u
 pub record Stands (m : List ℕ) (u : Unitdata) : Type 0 where
   pub typed : getD m 0 0 ≡ 9
@@ -50,6 +55,19 @@ pub record Stands (m : List ℕ) (u : Unitdata) : Type 0 where
   pub lies : Inside m u
   pub separate : Separate u
   pub addressed : Addressed u
+
+-- a part's octets, without its length octet
+abbrev pub octetsOf : List ℕ → Part → List ℕ
+octetsOf m p = take (p .len) (drop (p .place) m)
+
+-- where the parts of a written unitdata stand: called address, calling address and data, each behind its length octet, without gaps
+abbrev pub laidOut : ℕ → List ℕ → List ℕ → List ℕ → Unitdata
+laidOut c a b d = record {
+  class = c;
+  called = record { place = 6; len = length a };
+  calling = record { place = 7 + length a; len = length b };
+  userdata = record { place = 8 + (length a + length b); len = length d };
+}
 
 -- what can be written, by the lengths of called address, calling address and data
 pub record Ranged (a b d : ℕ) : Type 0 where

@@ -43,15 +43,15 @@ separate a b d = clear a && (clear b && (clear d && (apart a b && (apart a d && 
 abbrev pub addressed : Part → Part → Bool
 addressed a b = leb 1 (a .len) && leb 1 (b .len)
 
--- refused, unless the test holds
-abbrev pub unless : Bool → UnitdataFault → UnitdataRead → UnitdataRead
-unless b f r = cond b r (UnitdataRead.Refused f)
+-- this answer, unless the test holds
+abbrev pub unless : {A : Type 0} → Bool → A → A → A
+unless b this otherwise = cond b otherwise this
 
 -- parts that lie in the message: 33, then 34
 unfoldable pub judged : ℕ → Part → Part → Part → UnitdataRead
 judged c a b d =
-    unless (separate a b d) UnitdataFault.Overlap
-    (unless (addressed a b) UnitdataFault.EmptyAddress
+    unless (separate a b d) (UnitdataRead.Refused UnitdataFault.Overlap)
+    (unless (addressed a b) (UnitdataRead.Refused UnitdataFault.EmptyAddress)
     (UnitdataRead.Read (record { class = c; called = a; calling = b; userdata = d })))
 
 -- each number over all three parts before the next; no octets are not type 09
@@ -60,9 +60,14 @@ readUnitdata m =
     let a = partAt m 2 in
     let b = partAt m 3 in
     let d = partAt m 4 in
-    unless (eqb (getD m 0 0) typeOctet) UnitdataFault.OtherType
-    (unless (inside m a && (inside m b && inside m d)) UnitdataFault.PastEnd
+    unless (eqb (getD m 0 0) typeOctet) (UnitdataRead.Refused UnitdataFault.OtherType)
+    (unless (inside m a && (inside m b && inside m d)) (UnitdataRead.Refused UnitdataFault.PastEnd)
     (judged (getD m 1 0) a b d))
+
+-- the answer as a number: 0 for a unitdata that was read
+unfoldable pub unitdataStatus : UnitdataRead → ℕ
+unitdataStatus (UnitdataRead.Read u) = 0
+unitdataStatus (UnitdataRead.Refused f) = unitdataNumber f
 
 -- one part, cited by an inner contract
 unfoldable pub partRead : List ℕ → ℕ → PartRead

@@ -1,9 +1,9 @@
 -- Writing SCCP unitdata: document 02, §6. Room is the number of octets there are. Assumes nothing: these are definitions.
 use Prim.Native.Nat.{ℕ, suc, _+_}
-use mathlib.Core.{Bool.Bool, Bool._&&_, Bool.cond, List.List, List._∷_, List._++_}
+use mathlib.Core.{Bool.Bool, Bool._&&_, List.List, List._∷_, List._++_}
 use lib.{ListN.length, ListN.drop, Dec.leb}
 use Rattle.sccp.specs.declared.{writing.UnitdataWriteFault.UnitdataWriteFault, writing.UnitdataWritten.UnitdataWritten}
-use Rattle.sccp.specs.Unitdata.{typeOctet}
+use Rattle.sccp.specs.Unitdata.{typeOctet, unless}
 
 -- the numbers of document 02
 unfoldable pub unitdataWriteNumber : UnitdataWriteFault → ℕ
@@ -28,16 +28,12 @@ unitdataOctets c a b d = typeOctet ∷ c ∷ 3 ∷ (3 + length a) ∷ (3 + (leng
 unfoldable pub inRange : ℕ → ℕ → ℕ → Bool
 inRange a b d = leb 1 a && (leb 1 b && (leb (a + b) mostAddressed && leb d mostData))
 
--- refused, unless the test holds
-abbrev pub unless : Bool → UnitdataWriteFault → UnitdataWritten → UnitdataWritten
-unless b f w = cond b w (UnitdataWritten.Refused f)
-
 -- 35 of any part, then 25
 unfoldable pub writingUnitdata : ℕ → List ℕ → List ℕ → List ℕ → ℕ → UnitdataWritten
 writingUnitdata c a b d room =
     let n = length (unitdataOctets c a b d) in
-    unless (inRange (length a) (length b) (length d)) UnitdataWriteFault.OutOfRange
-    (unless (leb n room) UnitdataWriteFault.NoRoom
+    unless (inRange (length a) (length b) (length d)) (UnitdataWritten.Refused UnitdataWriteFault.OutOfRange)
+    (unless (leb n room) (UnitdataWritten.Refused UnitdataWriteFault.NoRoom)
     (UnitdataWritten.Length n))
 
 -- octets past the unitdata stay; a refusal leaves all as it was
@@ -47,3 +43,8 @@ behind (UnitdataWritten.Refused f) s out = out
 
 unfoldable pub leavesUnitdata : ℕ → List ℕ → List ℕ → List ℕ → List ℕ → List ℕ
 leavesUnitdata c a b d out = behind (writingUnitdata c a b d (length out)) (unitdataOctets c a b d) out
+
+-- the answer as a number: 0 for a unitdata that was written
+unfoldable pub unitdataWriteStatus : UnitdataWritten → ℕ
+unitdataWriteStatus (UnitdataWritten.Length n) = 0
+unitdataWriteStatus (UnitdataWritten.Refused f) = unitdataWriteNumber f
