@@ -3,6 +3,7 @@ pub mod Few
 pub mod Fields
 pub mod Kept
 pub mod Listed
+pub mod Parts
 pub mod Sent
 pub mod Shortest
 pub mod Steered

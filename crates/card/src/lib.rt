@@ -1,4 +1,6 @@
 // The calls for C, on octets and numbers: docs/LAYOUT.md.
+pub mod unitdata;
+
 ghost use mathlib.Core.Path.{_≡_};
 ghost use Rattle.card.specs.Answer.{origBits, sendBits, refusalBits, listedBits, readAnswer, readRoom, writtenBits, writeAnswer, steeredBits, steerAnswer, listAnswer, listRoom, layoutBits};
 ghost use Rattle.tcap.specs.Reading.{reading};

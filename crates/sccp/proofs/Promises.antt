@@ -1,18 +1,18 @@
 -- What reading and writing a unitdata promise: document 02, §6. Assumes nothing.
-use Prim.Native.Nat.{ℕ, suc, _+_, _≤_, _<_}
+use Prim.Native.Nat.{ℕ, _≤_, _<_}
 use native.Mathlib.Omega.{arith}
 use mathlib.Core.Path.{_≡_, refl, sym, ap, _∙_}
 use mathlib.Core.Logic.{_↔_}
 use mathlib.Core.Bool.{Bool, true, false, _&&_, cond, false≢true}
-use mathlib.Core.List.{List, [], _∷_, _++_, append-assoc}
-use lib.ListN.{length, getD, take, drop, length-append}
-use lib.Dec.{ltb, leb, eqb}
+use mathlib.Core.List.{List}
+use lib.ListN.{length, getD, drop}
+use lib.Dec.{leb, eqb}
 use borrow.Author.Tests.{eqb-true, eq-eqb, leb-true, leb-false, le-leb, lt-leb}
-use Rattle.sccp.specs.declared.{Part.Part, Unitdata.Unitdata, UnitdataFault.UnitdataFault, UnitdataRead.UnitdataRead, writing.UnitdataWriteFault.UnitdataWriteFault, writing.UnitdataWritten.UnitdataWritten}
+use Rattle.sccp.specs.declared.{Unitdata.Unitdata, UnitdataFault.UnitdataFault, UnitdataRead.UnitdataRead, writing.UnitdataWriteFault.UnitdataWriteFault, writing.UnitdataWritten.UnitdataWritten}
 use Rattle.sccp.specs.Unitdata.{partAt, inside, separate, addressed, unless, judged, readUnitdata, unitdataNumber, unitdataStatus}
 use Rattle.sccp.specs.Standing.{Inside, Separate, Addressed, unitdataAt, Stands, Ranged, laidOut, octetsOf}
 use Rattle.sccp.specs.Writing.{unitdataOctets, inRange, writingUnitdata, behind, leavesUnitdata, unitdataWriteNumber, unitdataWriteStatus}
-use Rattle.sccp.proofs.Ranges.{ranged, in-range, octets-length}
+use Rattle.sccp.proofs.Ranges.{ranged, in-range}
 use Rattle.sccp.proofs.Written.{reads-back, parts-stand}
 use Rattle.sccp.proofs.Standing.{named-is, inside-exactly, separate-exactly, addressed-exactly}
 

@@ -1,11 +1,11 @@
 -- What the tests of the reader's code say of the definitions. Assumes nothing.
 use Prim.Native.Nat.{ℕ, suc, _+_, _-_, _≤_, _<_}
 use native.Mathlib.Omega.{arith}
-use mathlib.Core.Path.{_≡_, refl, sym}
-use mathlib.Core.Bool.{Bool, true, false, _||_, cond}
+use mathlib.Core.Path.{_≡_, refl}
+use mathlib.Core.Bool.{Bool, true, false, _||_}
 use mathlib.Core.List.{List}
 use lib.ListN.{length, getD, List·getD-eq-default}
-use lib.Dec.{ltb, leb}
+use lib.Dec.{ltb}
 use borrow.Author.Tests.{ltb-true, ltb-false, leb-true, lt-ltb, le-ltb, le-leb, lt-leb, eq-eqb, ne-eqb}
 use Rattle.sccp.specs.declared.{Part.Part, PartRead.PartRead, UnitdataFault.UnitdataFault, UnitdataRead.UnitdataRead}
 use Rattle.sccp.specs.Unitdata.{namedBy, partAt, inside, apart, judged, readUnitdata, partRead}

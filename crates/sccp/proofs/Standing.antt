@@ -1,14 +1,14 @@
 -- The tests of the definition, and the page's words: each holds exactly if the other does. Assumes nothing.
-use Prim.Native.Nat.{ℕ, suc, _+_, _-_, _≤_, _<_}
+use Prim.Native.Nat.{ℕ, suc, _+_, _-_, _≤_}
 use native.Mathlib.Omega.{arith}
-use mathlib.Core.Path.{_≡_, refl, sym}
+use mathlib.Core.Path.{_≡_, refl}
 use mathlib.Core.Logic.{_↔_}
-use mathlib.Core.Bool.{Bool, true, false, _&&_, _||_, cond, and-eq-true-iff}
+use mathlib.Core.Bool.{Bool, true, false, _&&_, _||_, and-eq-true-iff}
 use mathlib.Core.List.{List}
 use lib.ListN.{length, getD}
 use lib.Dec.{ltb, leb}
-use borrow.Author.Tests.{ltb-true, ltb-false, leb-true, leb-false, lt-ltb, le-ltb, le-leb}
-use Rattle.sccp.specs.declared.{Part.Part, Unitdata.Unitdata}
+use borrow.Author.Tests.{ltb-true, ltb-false, leb-true, leb-false, lt-ltb, le-leb}
+use Rattle.sccp.specs.declared.{Part.Part}
 use Rattle.sccp.specs.Unitdata.{namedBy, partAt, inside, clear, apart, separate, addressed}
 use Rattle.sccp.specs.Standing.{Covers, Disjoint, Named, Clear, Inside, Separate, Addressed, unitdataAt}
 

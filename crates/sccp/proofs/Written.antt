@@ -4,17 +4,16 @@ use native.Mathlib.Omega.{arith}
 use native.Mathlib.Nat.{add-zero}
 use mathlib.Core.Path.{_≡_, refl, sym, ap, _∙_}
 use mathlib.Core.Logic.{_↔_}
-use mathlib.Core.Bool.{Bool, true, false, _&&_, cond}
+use mathlib.Core.Bool.{true, _&&_}
 use mathlib.Core.List.{List, [], _∷_, _++_, append-assoc}
-use lib.ListN.{length, getD, take, drop, length-append}
+use lib.ListN.{length, getD, drop, length-append}
 use lib.Seq.{getD-drop, drop-drop, drop-append-seam, take-append-seam}
-use lib.Dec.{ltb, leb, eqb}
 use borrow.Author.Tests.{lt-ltb, le-leb, eq-eqb}
 use Rattle.base.specs.Value.{Every}
 use Rattle.base.proofs.Numbers.{Octets, octets-append}
-use Rattle.sccp.specs.declared.{Part.Part, Unitdata.Unitdata, UnitdataRead.UnitdataRead, writing.UnitdataWriteFault.UnitdataWriteFault, writing.UnitdataWritten.UnitdataWritten}
+use Rattle.sccp.specs.declared.{Part.Part, Unitdata.Unitdata, UnitdataRead.UnitdataRead}
 use Rattle.sccp.specs.Unitdata.{partAt, inside, addressed, apart, separate, judged, readUnitdata}
-use Rattle.sccp.specs.Standing.{laidOut, octetsOf, Ranged}
+use Rattle.sccp.specs.Standing.{laidOut, octetsOf}
 use Rattle.sccp.specs.Writing.{mostAddressed, counted, unitdataOctets, inRange}
 use Rattle.sccp.proofs.Ranges.{ranged, octets-length}
 use Rattle.sccp.proofs.Standing.{both}

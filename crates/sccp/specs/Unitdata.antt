@@ -2,7 +2,7 @@
 use Prim.Native.Nat.{ℕ, suc, _+_}
 use mathlib.Core.{Bool.Bool, Bool._&&_, Bool._||_, Bool.cond, List.List}
 use lib.{ListN.length, ListN.getD, Dec.leb, Dec.ltb, Dec.eqb}
-use Rattle.sccp.specs.declared.{Part.Part, Unitdata.Unitdata, UnitdataFault.UnitdataFault, UnitdataRead.UnitdataRead, PartRead.PartRead}
+use Rattle.sccp.specs.declared.{Part.Part, UnitdataFault.UnitdataFault, UnitdataRead.UnitdataRead, PartRead.PartRead}
 
 -- the numbers of document 02
 unfoldable pub unitdataNumber : UnitdataFault → ℕ

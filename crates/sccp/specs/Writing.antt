@@ -1,5 +1,5 @@
 -- Writing SCCP unitdata: document 02, §6. Room is the number of octets there are. Assumes nothing: these are definitions.
-use Prim.Native.Nat.{ℕ, suc, _+_}
+use Prim.Native.Nat.{ℕ, _+_}
 use mathlib.Core.{Bool.Bool, Bool._&&_, List.List, List._∷_, List._++_}
 use lib.{ListN.length, ListN.drop, Dec.leb}
 use Rattle.sccp.specs.declared.{writing.UnitdataWriteFault.UnitdataWriteFault, writing.UnitdataWritten.UnitdataWritten}
