@@ -1,13 +1,14 @@
-/* The loop whose instructions are counted, for reading, writing and steering.
+/* The loop whose instructions are counted, for reading, writing and steering, and for unitdata.
  *
  *   PROGRAM CASES ROUNDS CALL [CLASS]
  *
- * The cases of that call (r, w, s) whose message is readable or was written, all
+ * The cases of that call (r, w, s, u, v) whose message is readable or was written, all
  * or those whose message is nearest to CLASS octets among 20, 60, 120 and 250, are
  * called ROUNDS times. The buffers are not cleared in between. Prints how many
  * calls and octets of message one round has, and how many differ in their answer.
  *
- * READ, WRITE and STEER name the functions; with NOTHING they only return. */
+ * READ, WRITE, STEER, READ_UNITDATA and WRITE_UNITDATA name the functions; with
+ * NOTHING they only return. */
 #include "cases.h"
 
 #ifdef NOTHING
@@ -28,19 +29,40 @@ static uint64_t nothing_steer(const uint8_t *a, size_t n, const uint8_t *b, size
     (void)a, (void)n, (void)b, (void)m;
     return 0;
 }
+
+static uint64_t nothing_read_unitdata(const uint8_t *a, size_t n)
+{
+    (void)a, (void)n;
+    return 0;
+}
+
+static uint64_t nothing_write_unitdata(uint8_t o, const uint8_t *a, size_t n, const uint8_t *b, size_t m,
+                                       const uint8_t *d, size_t k, uint8_t *c, size_t l)
+{
+    (void)o, (void)a, (void)n, (void)b, (void)m, (void)d, (void)k, (void)c, (void)l;
+    return 0;
+}
 #define READ nothing_read
 #define WRITE nothing_write
 #define STEER nothing_steer
+#define READ_UNITDATA nothing_read_unitdata
+#define WRITE_UNITDATA nothing_write_unitdata
 #endif
 
 uint64_t READ(const uint8_t *, size_t, uint8_t *, size_t);
 uint64_t WRITE(const uint8_t *, size_t, const uint8_t *, size_t, uint8_t *, size_t);
 uint64_t STEER(const uint8_t *, size_t, const uint8_t *, size_t);
+uint64_t READ_UNITDATA(const uint8_t *, size_t);
+uint64_t WRITE_UNITDATA(uint8_t, const uint8_t *, size_t, const uint8_t *, size_t, const uint8_t *, size_t, uint8_t *,
+                        size_t);
 
 /* Volatile, so that the calls can be neither merged nor left out. */
 static uint64_t (*volatile read_call)(const uint8_t *, size_t, uint8_t *, size_t) = READ;
 static uint64_t (*volatile write_call)(const uint8_t *, size_t, const uint8_t *, size_t, uint8_t *, size_t) = WRITE;
 static uint64_t (*volatile steer_call)(const uint8_t *, size_t, const uint8_t *, size_t) = STEER;
+static uint64_t (*volatile read_unitdata_call)(const uint8_t *, size_t) = READ_UNITDATA;
+static uint64_t (*volatile write_unitdata_call)(uint8_t, const uint8_t *, size_t, const uint8_t *, size_t,
+                                                const uint8_t *, size_t, uint8_t *, size_t) = WRITE_UNITDATA;
 
 enum { MAX_CASES = 100000, ROOM = 65536 };
 
@@ -77,7 +99,7 @@ int main(int argc, char **argv)
     class = argc == 5 ? atol(argv[4]) : 0;
     while (next_case(&file, &the)) {
         int status = goldenskep_answer_status(the.answer);
-        size_t len = the.call == 'w' ? goldenskep_answer_length(the.answer) : the.a.len;
+        size_t len = the.call == 'w' || the.call == 'v' ? goldenskep_answer_length(the.answer) : the.a.len;
 
         if (the.call != call || (status != GOLDENSKEP_STATUS_DONE && status != GOLDENSKEP_STATUS_NO_RULE) ||
             (class != 0 && class != nearest_class(len)) || the.c.len > ROOM || count == MAX_CASES)
@@ -95,8 +117,13 @@ int main(int argc, char **argv)
                 answer = read_call(p->a.at, p->a.len, room, p->c.len);
             else if (call == 'w')
                 answer = write_call(p->a.at, p->a.len, p->b.at, p->b.len, room, p->c.len);
-            else
+            else if (call == 's')
                 answer = steer_call(p->a.at, p->a.len, p->b.at, p->b.len);
+            else if (call == 'u')
+                answer = read_unitdata_call(p->a.at, p->a.len);
+            else
+                answer = write_unitdata_call(p->a.at[0], p->b.at, p->b.len, p->d.at, p->d.len, p->e.at, p->e.len,
+                                             room, p->c.len);
             differ += answer != p->answer;
         }
 

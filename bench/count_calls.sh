@@ -1,6 +1,6 @@
 #!/bin/sh
-# Counts the instructions of a call of read, write and steer: the library's beside
-# those of plain C.
+# Counts the instructions of a call of read, write and steer, and of those for
+# unitdata: the library's beside those of plain C.
 #
 #   count_calls.sh ARCHIVE CASES
 #
@@ -10,7 +10,7 @@
 # return, over n and the calls. Counted by qemu-x86_64 with the plug-in icount.c,
 # or on an x86-64 machine without that by valgrind.
 #
-# ROUNDS (4) and LEVELS (-O2 -O3) of plain C may be set.
+# ROUNDS (4), LEVELS (-O2 -O3) of plain C and CALLS may be set.
 set -eu
 
 if [ $# -ne 2 ]; then
@@ -33,15 +33,17 @@ build() {
 # The loop is the same under every implementation.
 build -O2 -DNOTHING -o "$tmp/nothing" "$here/count_calls.c"
 build -O2 -DREAD=goldenskep_read -DWRITE=goldenskep_write -DSTEER=goldenskep_steer \
+    -DREAD_UNITDATA=goldenskep_unitdata_read -DWRITE_UNITDATA=goldenskep_unitdata_write \
     -o "$tmp/library" "$here/count_calls.c" "$archive"
 programs=library
 for level in $levels; do
-    for name in plain plain_read plain_write plain_steer; do
+    for name in plain plain_read plain_write plain_steer plain_unitdata; do
         build "$level" -c -o "$tmp/$name$level.o" "$here/$name.c"
     done
     build -O2 -DREAD=plain_read_layout -DWRITE=plain_write_layout -DSTEER=plain_steer_layout \
+        -DREAD_UNITDATA=plain_unitdata_read -DWRITE_UNITDATA=plain_unitdata_write \
         -o "$tmp/plain$level" "$here/count_calls.c" "$tmp/plain$level.o" "$tmp/plain_read$level.o" \
-        "$tmp/plain_write$level.o" "$tmp/plain_steer$level.o"
+        "$tmp/plain_write$level.o" "$tmp/plain_steer$level.o" "$tmp/plain_unitdata$level.o"
     programs="$programs plain$level"
 done
 
@@ -86,12 +88,12 @@ difference() {
     echo $((twice - once))
 }
 
-printf '%-6s %6s %7s %7s' call octets calls mean
+printf '%-8s %6s %7s %7s' call octets calls mean
 for program in $programs; do
     printf ' %10s' "$program"
 done
 echo "  library / plain"
-for call in r:read w:write s:steer; do
+for call in ${CALLS:-r:read w:write s:steer u:ud-read v:ud-write}; do
     for class in 20 60 120 250 all; do
         if [ $class = all ]; then
             arguments=${call%%:*}
@@ -109,10 +111,10 @@ for call in r:read w:write s:steer; do
         awk -v call="${call##*:}" -v class=$class -v count="$count" -v octets="$octets" -v differ=$differ \
             -v none="$none" -v rounds="$rounds" -v all="$*" 'BEGIN {
             if (count == 0) {
-                printf "%-6s %6s no calls\n", call, class
+                printf "%-8s %6s no calls\n", call, class
                 exit
             }
-            printf "%-6s %6s %7d %7.1f", call, class, count, octets / count
+            printf "%-8s %6s %7d %7.1f", call, class, count, octets / count
             n = split(all, each, " ")
             for (i = 1; i <= n; i++)
                 printf " %10.1f", (each[i] - none) / rounds / count

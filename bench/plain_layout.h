@@ -1,5 +1,5 @@
 /* Reading, writing, steering and listing in plain C on the octets of the
- * library's layout: the same signatures and the same answers. */
+ * library's layout, and unitdata: the same signatures and the same answers. */
 #ifndef PLAIN_LAYOUT_H
 #define PLAIN_LAYOUT_H
 
@@ -37,6 +37,10 @@ uint64_t plain_steer_layout(const uint8_t *message, size_t message_len,
 uint64_t plain_list_layout(const uint8_t *message, size_t message_len,
                            uint8_t *out, size_t out_len);
 uint32_t plain_layout(void);
+uint64_t plain_unitdata_read(const uint8_t *message, size_t message_len);
+uint64_t plain_unitdata_write(uint8_t protocol_class, const uint8_t *called, size_t called_len,
+                              const uint8_t *calling, size_t calling_len, const uint8_t *data, size_t data_len,
+                              uint8_t *out, size_t out_len);
 
 /* A refused reading as an answer. */
 static inline uint64_t refused_answer(const struct plain_refusal *no)

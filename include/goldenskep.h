@@ -10,6 +10,8 @@
  *   - writes a record as a message          goldenskep_write_record
  *   - picks a link for a message by rules   goldenskep_steer_rules
  *   - lists a message as text               goldenskep_list
+ *   - reads and writes the SCCP unitdata    goldenskep_unitdata_read,
+ *     that messages come in                 goldenskep_unitdata_write
  *
  * Each call answers one number of 64 bits: done, that no rule fits, or a refusal
  * with all that belongs to it. The accessors below take answers and records
@@ -32,7 +34,7 @@
  * octets that the caller lends. A message that was read is good material for
  * its own record.
  *
- * The library itself is five functions on octets and lengths. They are proved:
+ * The library itself is seven functions on octets and lengths. They are proved:
  * for every input each of them gives the answer that the rules give, and writes
  * just what they say. All else in this header is inline C around them, which is
  * not proved, but tested.
@@ -43,8 +45,8 @@
  *     stay as they are during the call. With length 0 it may be NULL.
  *   - What is lent to be written overlaps nothing else that is lent in the same
  *     call: not the record of a reading and its message, not the output of a
- *     writing and its record or material, not a listing and its message. What
- *     is only read may overlap.
+ *     writing and its record or material, not a listing and its message, not a
+ *     unitdata and the parts written into it. What is only read may overlap.
  *   - The machine is x86-64 and the calling convention System V (Linux, BSD).
  *
  * And what a host sees to, so that what it reads means something:
@@ -73,6 +75,7 @@
 #define GOLDENSKEP_MAX_MESSAGE 255   /* octets of a message */
 #define GOLDENSKEP_MAX_COMPONENTS 16 /* of a message */
 #define GOLDENSKEP_LISTING_SIZE 1153 /* octets; no listing is longer */
+#define GOLDENSKEP_UNITDATA_SIZE 515 /* octets; no unitdata that is written is longer */
 
 /* What goldenskep_layout() answers if the library is of this header's layout. */
 #define GOLDENSKEP_LAYOUT \
@@ -137,6 +140,25 @@ uint64_t goldenskep_steer(const uint8_t *message, size_t message_length,
  * with 25: it does not fit, and the output stays as it was. */
 uint64_t goldenskep_list(const uint8_t *message, size_t message_length,
                          uint8_t *out, size_t out_length);
+
+/* Finds the parts of a unitdata: SCCP's message type 09 (ITU-T Q.713), with the
+ * called address, the calling address and the data that it carries.
+ *
+ * Done: the answer has the place and length of each. Refused (31 to 34): it is
+ * no unitdata. The parts may stand in any order, with gaps and octets behind. */
+uint64_t goldenskep_unitdata_read(const uint8_t *message, size_t message_length);
+
+/* Writes a unitdata: called address, calling address and data in this order,
+ * without gaps. The protocol class is any octet, an address has at least one
+ * octet, both together at most 252, data at most 255.
+ *
+ * Done: the answer has its length, the octets behind it stay. Refused (35 for a
+ * length out of range, then 25): all of the output stays as it was. */
+uint64_t goldenskep_unitdata_write(uint8_t protocol_class,
+                                   const uint8_t *called, size_t called_length,
+                                   const uint8_t *calling, size_t calling_length,
+                                   const uint8_t *data, size_t data_length,
+                                   uint8_t *out, size_t out_length);
 
 /* The library's layout: its version, the size of a rule, the size of a record. */
 uint32_t goldenskep_layout(void);
@@ -214,7 +236,13 @@ enum goldenskep_status {
     GOLDENSKEP_STATUS_MALFORMED = 22,     /* a string is not what must stand there */
     GOLDENSKEP_STATUS_RANGE = 23,         /* count, value or length out of range */
     GOLDENSKEP_STATUS_PARTS = 24,         /* no record, or a part too many or too few */
-    GOLDENSKEP_STATUS_ROOM = 25,          /* does not fit; also of reading and listing */
+    GOLDENSKEP_STATUS_ROOM = 25,          /* does not fit; also of reading, listing and unitdata */
+    /* unitdata: the last when writing, the others when reading */
+    GOLDENSKEP_STATUS_UNITDATA_TYPE = 31,     /* not message type 09, or no octets */
+    GOLDENSKEP_STATUS_UNITDATA_PAST_END = 32, /* a pointer or a part past the end */
+    GOLDENSKEP_STATUS_UNITDATA_OVERLAP = 33,  /* parts on one another, or on the first five octets */
+    GOLDENSKEP_STATUS_UNITDATA_ADDRESS = 34,  /* an address without octets */
+    GOLDENSKEP_STATUS_UNITDATA_RANGE = 35,    /* a part's length, or the addresses' sum, out of range */
     /* steering */
     GOLDENSKEP_STATUS_NO_RULE = 64        /* readable, but no rule fits */
 };
@@ -363,6 +391,11 @@ static inline const char *goldenskep_status_words(int status)
     case GOLDENSKEP_STATUS_RANGE: return "count, value or length out of range";
     case GOLDENSKEP_STATUS_PARTS: return "not a record, or a part that its kind lacks or may not have";
     case GOLDENSKEP_STATUS_ROOM: return "too little room";
+    case GOLDENSKEP_STATUS_UNITDATA_TYPE: return "not a unitdata";
+    case GOLDENSKEP_STATUS_UNITDATA_PAST_END: return "pointer or part of a unitdata past its end";
+    case GOLDENSKEP_STATUS_UNITDATA_OVERLAP: return "parts of a unitdata overlap";
+    case GOLDENSKEP_STATUS_UNITDATA_ADDRESS: return "empty address in a unitdata";
+    case GOLDENSKEP_STATUS_UNITDATA_RANGE: return "address or data of a unitdata of wrong length";
     case GOLDENSKEP_STATUS_NO_RULE: return "no rule";
     default: return "unknown status";
     }
@@ -590,7 +623,7 @@ static inline int goldenskep_answer_is_unreadable(uint64_t answer)
            goldenskep_answer_status(answer) <= GOLDENSKEP_STATUS_NOTHING_MORE;
 }
 
-/* Done writing or listing: how many octets were written. */
+/* Done writing, a unitdata too, or listing: how many octets were written. */
 static inline size_t goldenskep_answer_length(uint64_t answer)
 {
     return goldenskep_bits_(answer, 8, 16);
@@ -1300,6 +1333,57 @@ static inline int32_t goldenskep_rule_code(const goldenskep_rule *rule)
 static inline uint32_t goldenskep_rule_link(const goldenskep_rule *rule)
 {
     return goldenskep_number_(rule->octets + 8);
+}
+
+/* ---- unitdata ----
+ *
+ * Of an answer that is done: where the parts stand in the unitdata that was
+ * read, each without its length octet. Data may be empty. */
+
+/* Of no use to a host: a part in an answer. */
+static inline goldenskep_span goldenskep_unitdata_part_(uint64_t answer, int from)
+{
+    return goldenskep_span_at(goldenskep_bits_(answer, from, 9), goldenskep_bits_(answer, from + 9, 8));
+}
+
+/* Whom it is for. */
+static inline goldenskep_span goldenskep_unitdata_called(uint64_t answer)
+{
+    return goldenskep_unitdata_part_(answer, 8);
+}
+
+/* Whom it is from. */
+static inline goldenskep_span goldenskep_unitdata_calling(uint64_t answer)
+{
+    return goldenskep_unitdata_part_(answer, 25);
+}
+
+/* What it carries: a TCAP message, where the hosts speak TCAP. */
+static inline goldenskep_span goldenskep_unitdata_data(uint64_t answer)
+{
+    return goldenskep_unitdata_part_(answer, 42);
+}
+
+/* The protocol class of a unitdata that was read: any octet. */
+static inline uint8_t goldenskep_unitdata_class(const uint8_t *message)
+{
+    return message[1];
+}
+
+/* Writes a unitdata with this data back to where one that was read came from: of
+ * its class, called and calling address swapped. The answer is that of reading it,
+ * which is done. */
+static inline uint64_t goldenskep_unitdata_write_back(const uint8_t *message, uint64_t answer,
+                                                      const uint8_t *data, size_t data_length,
+                                                      uint8_t *out, size_t out_length)
+{
+    goldenskep_span called = goldenskep_unitdata_called(answer);
+    goldenskep_span calling = goldenskep_unitdata_calling(answer);
+
+    return goldenskep_unitdata_write(goldenskep_unitdata_class(message),
+                                     message + calling.place, calling.length,
+                                     message + called.place, called.length,
+                                     data, data_length, out, out_length);
 }
 
 #undef GOLDENSKEP_AS_

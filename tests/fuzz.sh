@@ -25,7 +25,7 @@ build() {
     sh "$tools" cc -std=gnu99 -Wall -Wextra -O2 -I"$root/include" -I"$root/bench" "$@"
 }
 
-plain="$root/bench/plain.c $root/bench/plain_read.c $root/bench/plain_write.c $root/bench/plain_steer.c $root/bench/plain_list.c"
+plain="$root/bench/plain.c $root/bench/plain_read.c $root/bench/plain_write.c $root/bench/plain_steer.c $root/bench/plain_list.c $root/bench/plain_unitdata.c"
 build -o "$tmp/harness" "$here/c/harness.c" "$archive" || exit 2
 build -o "$tmp/fuzz" "$here/c/fuzz.c" $plain "$archive" || exit 2
 

@@ -2,14 +2,17 @@
  *
  * The file begins with "GSKCASE1". Then each case, numbers with the most
  * significant octet first: the call (one octet: r read, w write, s steer, l
- * list); three strings a, b and c, each as its length (4 octets) and its octets;
- * the answer (8 octets); c as it must be afterwards, as many octets as c.
+ * list, u read a unitdata, v write one); three strings a, b and c, of v also d
+ * and e, each as its length (4 octets) and its octets; the answer (8 octets); c
+ * as it must be afterwards, as many octets as c.
  *
- *        a        b         c
+ *        a        b         c       d        e
  *   r    message            record
  *   w    record   material  output
  *   s    message  rules
- *   l    message            output */
+ *   l    message            output
+ *   u    message
+ *   v    class    called    output  calling  data */
 #ifndef CASES_H
 #define CASES_H
 
@@ -20,6 +23,10 @@
 
 #include "goldenskep.h"
 
+enum { STRINGS = 5 };
+
+#define CALLS "rwsluv"
+
 struct string {
     const uint8_t *at;
     size_t len;
@@ -27,7 +34,7 @@ struct string {
 
 struct one_case {
     char call;
-    struct string a, b, c, after;
+    struct string a, b, c, d, e, after;
     uint64_t answer;
 };
 
@@ -96,19 +103,24 @@ static int next_case(struct case_file *f, struct one_case *to)
     if (f->at == f->size)
         return 0;
     to->call = (char)take_number(f, 1);
-    if (to->call == '\0' || strchr("rwsl", to->call) == NULL)
+    if (to->call == '\0' || strchr(CALLS, to->call) == NULL)
         case_file_broken(f, "no such call");
     to->a = take_octets(f, (size_t)take_number(f, 4));
     to->b = take_octets(f, (size_t)take_number(f, 4));
     to->c = take_octets(f, (size_t)take_number(f, 4));
+    to->d = take_octets(f, to->call == 'v' ? (size_t)take_number(f, 4) : 0);
+    to->e = take_octets(f, to->call == 'v' ? (size_t)take_number(f, 4) : 0);
     to->answer = take_number(f, 8);
     to->after = take_octets(f, to->c.len);
     return 1;
 }
 
 /* Makes the call of a case with its strings at these places. */
-static inline uint64_t make_call(const struct one_case *the, const uint8_t *a, const uint8_t *b, uint8_t *c)
+static inline uint64_t make_call(const struct one_case *the, uint8_t *const at[STRINGS])
 {
+    const uint8_t *a = at[0], *b = at[1];
+    uint8_t *c = at[2];
+
     switch (the->call) {
     case 'r':
         return goldenskep_read(a, the->a.len, c, the->c.len);
@@ -116,6 +128,11 @@ static inline uint64_t make_call(const struct one_case *the, const uint8_t *a, c
         return goldenskep_write(a, the->a.len, b, the->b.len, c, the->c.len);
     case 's':
         return goldenskep_steer(a, the->a.len, b, the->b.len);
+    case 'u':
+        return goldenskep_unitdata_read(a, the->a.len);
+    case 'v':
+        return goldenskep_unitdata_write(a[0], b, the->b.len, at[3], the->d.len, at[4], the->e.len, c,
+                                         the->c.len);
     default:
         return goldenskep_list(a, the->a.len, c, the->c.len);
     }
@@ -127,6 +144,8 @@ static inline const char *call_name(char call)
     case 'r': return "read";
     case 'w': return "write";
     case 's': return "steer";
+    case 'u': return "unitdata read";
+    case 'v': return "unitdata write";
     default: return "list";
     }
 }

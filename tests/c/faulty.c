@@ -9,10 +9,16 @@ uint64_t __real_goldenskep_read(const uint8_t *, size_t, uint8_t *, size_t);
 uint64_t __real_goldenskep_write(const uint8_t *, size_t, const uint8_t *, size_t, uint8_t *, size_t);
 uint64_t __real_goldenskep_steer(const uint8_t *, size_t, const uint8_t *, size_t);
 uint64_t __real_goldenskep_list(const uint8_t *, size_t, uint8_t *, size_t);
+uint64_t __real_goldenskep_unitdata_read(const uint8_t *, size_t);
+uint64_t __real_goldenskep_unitdata_write(uint8_t, const uint8_t *, size_t, const uint8_t *, size_t, const uint8_t *,
+                                          size_t, uint8_t *, size_t);
 uint64_t __wrap_goldenskep_read(const uint8_t *, size_t, uint8_t *, size_t);
 uint64_t __wrap_goldenskep_write(const uint8_t *, size_t, const uint8_t *, size_t, uint8_t *, size_t);
 uint64_t __wrap_goldenskep_steer(const uint8_t *, size_t, const uint8_t *, size_t);
 uint64_t __wrap_goldenskep_list(const uint8_t *, size_t, uint8_t *, size_t);
+uint64_t __wrap_goldenskep_unitdata_read(const uint8_t *, size_t);
+uint64_t __wrap_goldenskep_unitdata_write(uint8_t, const uint8_t *, size_t, const uint8_t *, size_t, const uint8_t *,
+                                          size_t, uint8_t *, size_t);
 
 static int is(const char *fault)
 {
@@ -90,5 +96,34 @@ uint64_t __wrap_goldenskep_list(const uint8_t *message, size_t message_len, uint
 
     if (is("listing") && goldenskep_answer_is_done(answer))
         out[0] ^= 0x20;
+    return answer;
+}
+
+uint64_t __wrap_goldenskep_unitdata_read(const uint8_t *message, size_t message_len)
+{
+    uint64_t answer = __real_goldenskep_unitdata_read(message, message_len);
+
+    if (is("unitdata-place") && goldenskep_answer_is_done(answer))
+        answer ^= (uint64_t)1 << 42;
+    if (is("unitdata-order") && goldenskep_answer_status(answer) == GOLDENSKEP_STATUS_UNITDATA_OVERLAP)
+        answer ^= GOLDENSKEP_STATUS_UNITDATA_OVERLAP ^ GOLDENSKEP_STATUS_UNITDATA_PAST_END;
+    if (is("unitdata-behind"))
+        look(message + message_len);
+    return answer;
+}
+
+uint64_t __wrap_goldenskep_unitdata_write(uint8_t protocol_class, const uint8_t *called, size_t called_len,
+                                          const uint8_t *calling, size_t calling_len, const uint8_t *data,
+                                          size_t data_len, uint8_t *out, size_t out_len)
+{
+    uint64_t answer = __real_goldenskep_unitdata_write(protocol_class, called, called_len, calling, calling_len,
+                                                       data, data_len, out, out_len);
+
+    if (is("unitdata-class") && goldenskep_answer_is_done(answer))
+        out[1] ^= 1;
+    if (is("unitdata-refusal-writes") && !goldenskep_answer_is_done(answer) && out_len > 0)
+        out[0] ^= 1;
+    if (is("unitdata-calling"))
+        look(calling + calling_len);
     return answer;
 }

@@ -187,8 +187,54 @@ static void alter_rules(struct altered *r)
         r->len = below(r->len + 1);
 }
 
-static uint64_t call_plain(char call, const struct altered *a, const struct altered *b, struct altered *c)
+/* Pointers and length octets of a unitdata, one at a time. */
+static void alter_unitdata(struct altered *m)
 {
+    for (size_t times = below(3); times > 0 && m->len > 0; times--) {
+        size_t pointer = 2 + below(3);
+        size_t place = below(m->len);
+
+        if (below(3) != 0 && pointer < m->len) {
+            place = pointer;
+            if (below(2) && pointer + m->at[pointer] < m->len)
+                place = pointer + m->at[pointer];
+        }
+        switch (below(4)) {
+        case 0:
+            m->at[place] = (uint8_t)below(12);
+            break;
+        case 1:
+            m->at[place] = some_octet();
+            break;
+        case 2:
+            m->at[place] = (uint8_t)(m->at[place] + below(5) - 2);
+            break;
+        default:
+            if (below(4) == 0)
+                m->len = below(m->len + 1);
+            break;
+        }
+    }
+}
+
+/* Its length near a bound. */
+static void alter_length(struct altered *s)
+{
+    static const size_t bounds[] = { 0, 1, 125, 126, 127, 251, 252, 253, 255, 256 };
+
+    if (below(4) == 0) {
+        size_t len = bounds[below(sizeof bounds / sizeof *bounds)];
+
+        for (size_t i = s->len; i < len; i++)
+            s->at[i] = (uint8_t)next_random();
+        s->len = len;
+    }
+}
+
+static uint64_t call_plain(char call, const struct altered strings[STRINGS], struct altered *c)
+{
+    const struct altered *a = &strings[0], *b = &strings[1];
+
     switch (call) {
     case 'r':
         return plain_read_layout(a->at, a->len, c->at, c->len);
@@ -196,16 +242,21 @@ static uint64_t call_plain(char call, const struct altered *a, const struct alte
         return plain_write_layout(a->at, a->len, b->at, b->len, c->at, c->len);
     case 's':
         return plain_steer_layout(a->at, a->len, b->at, b->len);
+    case 'u':
+        return plain_unitdata_read(a->at, a->len);
+    case 'v':
+        return plain_unitdata_write(a->at[0], b->at, b->len, strings[3].at, strings[3].len, strings[4].at,
+                                    strings[4].len, c->at, c->len);
     default:
         return plain_list_layout(a->at, a->len, c->at, c->len);
     }
 }
 
-static int guarded_call(const struct one_case *the, uint8_t *const at[3], uint64_t *answer)
+static int guarded_call(const struct one_case *the, uint8_t *const at[STRINGS], uint64_t *answer)
 {
     if (sigsetjmp(guard_touched, 1) != 0)
         return 0;
-    *answer = make_call(the, at[0], at[1], at[2]);
+    *answer = make_call(the, at);
     return 1;
 }
 
@@ -220,30 +271,32 @@ static void print_hex(const char *name, const struct altered *s)
 static unsigned long done, refused;
 
 /* One round: 1 if the two agree. */
-static int compare(char call, const struct arena arenas[3], struct altered strings[3])
+static int compare(char call, const struct arena arenas[STRINGS], struct altered strings[STRINGS])
 {
     static struct altered plain;
     struct one_case the;
     enum side side = below(2) ? AT_END : AT_START;
-    uint8_t *at[3];
+    uint8_t *at[STRINGS];
     uint64_t answer = 0, wanted;
-    int untouched;
+    int untouched, same = 1;
 
     plain = strings[2];
-    wanted = call_plain(call, &strings[0], &strings[1], &plain);
+    wanted = call_plain(call, strings, &plain);
     the.call = call;
     the.a.len = strings[0].len;
     the.b.len = strings[1].len;
     the.c.len = strings[2].len;
-    for (int i = 0; i < 3; i++) {
+    the.d.len = strings[3].len;
+    the.e.len = strings[4].len;
+    for (int i = 0; i < STRINGS; i++) {
         at[i] = place_in(&arenas[i], side, strings[i].len);
         memcpy(at[i], strings[i].at, strings[i].len);
     }
     memset(margin_of(&arenas[2], side, strings[2].len), MARGIN_OCTET, MARGIN);
     untouched = guarded_call(&the, at, &answer);
-    if (untouched && answer == wanted && memcmp(at[2], plain.at, plain.len) == 0 &&
-        memcmp(at[0], strings[0].at, strings[0].len) == 0 &&
-        memcmp(at[1], strings[1].at, strings[1].len) == 0) {
+    for (int i = 0; i < STRINGS; i++)
+        same &= memcmp(at[i], i == 2 ? plain.at : strings[i].at, strings[i].len) == 0;
+    if (untouched && answer == wanted && same) {
         const uint8_t *margin = margin_of(&arenas[2], side, strings[2].len);
         int clean = 1;
 
@@ -257,18 +310,19 @@ static int compare(char call, const struct arena arenas[3], struct altered strin
     printf("%s: %s, answer %016llX, plain %016llX\n", call_name(call),
            untouched ? "differs" : "touched what was not lent", (unsigned long long)answer,
            (unsigned long long)wanted);
-    print_hex("a", &strings[0]);
-    print_hex("b", &strings[1]);
+    for (int i = 0; i < STRINGS; i++)
+        if (i != 2)
+            print_hex((const char *[STRINGS]){ "a", "b", "c", "d", "e" }[i], &strings[i]);
     return 0;
 }
 
 int main(int argc, char **argv)
 {
-    static struct altered strings[3];
+    static struct altered strings[STRINGS];
     unsigned long rounds, differ = 0;
     struct one_case *cases = NULL;
     size_t count = 0, space = 0;
-    struct arena arenas[3];
+    struct arena arenas[STRINGS];
 
     if (argc < 4) {
         fprintf(stderr, "usage: fuzz SEED ROUNDS FILE...\n");
@@ -296,7 +350,7 @@ int main(int argc, char **argv)
         fprintf(stderr, "no cases\n");
         return 2;
     }
-    for (int i = 0; i < 3; i++)
+    for (int i = 0; i < STRINGS; i++)
         arenas[i] = make_arena(ROOM);
     catch_touches();
 
@@ -307,7 +361,15 @@ int main(int argc, char **argv)
         take(&strings[0], from->a);
         take(&strings[1], from->b);
         take(&strings[2], from->c);
-        if (call == 'w') {
+        take(&strings[3], from->d);
+        take(&strings[4], from->e);
+        if (call == 'u') {
+            alter_unitdata(&strings[0]);
+        } else if (call == 'v') {
+            alter_length(&strings[1]);
+            alter_length(&strings[3]);
+            alter_length(&strings[4]);
+        } else if (call == 'w') {
             if (below(3) == 0)
                 alter_message(&strings[1]);
             alter_record(&strings[0], strings[1].len);

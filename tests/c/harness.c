@@ -23,27 +23,27 @@ static void report(const char *file, unsigned long number, const struct one_case
 }
 
 /* Makes the call; 0 if it touched what was not lent. */
-static int guarded_call(const struct one_case *the, uint8_t *const at[3], uint64_t *answer)
+static int guarded_call(const struct one_case *the, uint8_t *const at[STRINGS], uint64_t *answer)
 {
     if (sigsetjmp(guard_touched, 1) != 0)
         return 0;
-    *answer = make_call(the, at[0], at[1], at[2]);
+    *answer = make_call(the, at);
     return 1;
 }
 
 static void compare(const char *file, unsigned long number, const struct one_case *the,
-                    struct arena arenas[3], enum side side, int null_empty)
+                    struct arena arenas[STRINGS], enum side side, int null_empty)
 {
     static const char *const names[2] = { "ending at a guard", "behind a guard" };
     const char *placed = null_empty ? "empty as NULL" : names[side];
-    const struct string *strings[3] = { &the->a, &the->b, &the->c };
-    uint8_t *at[3];
+    const struct string *strings[STRINGS] = { &the->a, &the->b, &the->c, &the->d, &the->e };
+    uint8_t *at[STRINGS];
     uint8_t *margin = margin_of(&arenas[2], side, the->c.len);
     uint64_t answer;
     char text[160];
     int untouched;
 
-    for (int i = 0; i < 3; i++) {
+    for (int i = 0; i < STRINGS; i++) {
         at[i] = place_in(&arenas[i], side, strings[i]->len);
         if (strings[i]->len > 0)
             memcpy(at[i], strings[i]->at, strings[i]->len);
@@ -51,12 +51,13 @@ static void compare(const char *file, unsigned long number, const struct one_cas
             at[i] = NULL;
     }
     memset(margin, MARGIN_OCTET, MARGIN);
-    protect(&arenas[0], PROT_READ);
-    protect(&arenas[1], PROT_READ);
+    for (int i = 0; i < STRINGS; i++)
+        if (i != 2)
+            protect(&arenas[i], PROT_READ);
     calls++;
     untouched = guarded_call(the, at, &answer);
-    protect(&arenas[0], PROT_READ | PROT_WRITE);
-    protect(&arenas[1], PROT_READ | PROT_WRITE);
+    for (int i = 0; i < STRINGS; i++)
+        protect(&arenas[i], PROT_READ | PROT_WRITE);
 
     if (!untouched) {
         report(file, number, the, placed, "touched what was not lent");
@@ -83,26 +84,26 @@ static void compare(const char *file, unsigned long number, const struct one_cas
 }
 
 /* Arenas that every string of the file fits. */
-static void make_arenas(const char *name, struct arena arenas[3])
+static void make_arenas(const char *name, struct arena arenas[STRINGS])
 {
     struct case_file f = open_cases(name);
     struct one_case the;
-    size_t most[3] = { 0, 0, 0 };
+    size_t most[STRINGS] = { 0 };
 
     while (next_case(&f, &the)) {
-        most[0] = the.a.len > most[0] ? the.a.len : most[0];
-        most[1] = the.b.len > most[1] ? the.b.len : most[1];
-        most[2] = the.c.len > most[2] ? the.c.len : most[2];
+        size_t lengths[STRINGS] = { the.a.len, the.b.len, the.c.len, the.d.len, the.e.len };
+
+        for (int i = 0; i < STRINGS; i++)
+            most[i] = lengths[i] > most[i] ? lengths[i] : most[i];
     }
     free(f.octets);
-    for (int i = 0; i < 3; i++)
+    for (int i = 0; i < STRINGS; i++)
         arenas[i] = make_arena(most[i]);
 }
 
 int main(int argc, char **argv)
 {
-    static const char functions[4] = { 'r', 'w', 's', 'l' };
-    unsigned long cases = 0, of[4] = { 0 };
+    unsigned long cases = 0, of[sizeof CALLS] = { 0 };
 
     if (argc < 2) {
         fprintf(stderr, "usage: harness FILE...\n");
@@ -110,7 +111,7 @@ int main(int argc, char **argv)
     }
     catch_touches();
     for (int i = 1; i < argc; i++) {
-        struct arena arenas[3];
+        struct arena arenas[STRINGS];
         struct case_file f;
         struct one_case the;
         unsigned long number = 0;
@@ -120,16 +121,18 @@ int main(int argc, char **argv)
         while (next_case(&f, &the)) {
             compare(argv[i], number, &the, arenas, AT_END, 0);
             compare(argv[i], number, &the, arenas, AT_START, 0);
-            if (the.a.len == 0 || the.b.len == 0 || the.c.len == 0)
+            if (the.a.len == 0 || the.b.len == 0 || the.c.len == 0 || the.d.len == 0 || the.e.len == 0)
                 compare(argv[i], number, &the, arenas, AT_END, 1);
-            for (int function = 0; function < 4; function++)
-                of[function] += the.call == functions[function];
+            of[strchr(CALLS, the.call) - CALLS]++;
             number++;
         }
         free(f.octets);
         cases += number;
     }
-    printf("cases of read %lu, write %lu, steer %lu, list %lu\n", of[0], of[1], of[2], of[3]);
+    printf("cases of");
+    for (size_t call = 0; CALLS[call] != '\0'; call++)
+        printf("%s %s %lu", call == 0 ? "" : ",", call_name(CALLS[call]), of[call]);
+    printf("\n");
     printf("%lu cases, %lu calls compared, %lu differ\n", cases, calls, differ);
     return differ != 0 || cases == 0;
 }

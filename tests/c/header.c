@@ -649,6 +649,59 @@ static void check_parts(void)
 }
 
 /* The words of the values from 0 or `from` on: known for so many, none like another. */
+/* A unitdata: what the answer tells of it, and one written back. */
+static void check_unitdata(void)
+{
+    uint8_t octets[GOLDENSKEP_UNITDATA_SIZE], out[GOLDENSKEP_UNITDATA_SIZE + 1];
+    uint64_t answer;
+    size_t n;
+
+    /* Every field at its largest, and all others 0. */
+    CHECK(goldenskep_unitdata_called(UINT64_C(0x1FF) << 8).place == 511);
+    CHECK(goldenskep_unitdata_called(UINT64_C(0x1FF) << 8).length == 0);
+    CHECK(goldenskep_unitdata_called(UINT64_C(0xFF) << 17).length == 255);
+    CHECK(goldenskep_unitdata_calling(UINT64_C(0x1FF) << 25).place == 511);
+    CHECK(goldenskep_unitdata_calling(UINT64_C(0xFF) << 34).length == 255);
+    CHECK(goldenskep_unitdata_calling(~(UINT64_C(0x1FFFF) << 25)).place == 0);
+    CHECK(goldenskep_unitdata_data(UINT64_C(0x1FF) << 42).place == 511);
+    CHECK(goldenskep_unitdata_data(UINT64_C(0xFF) << 51).length == 255);
+    CHECK(goldenskep_unitdata_data(~(UINT64_C(0x1FFFF) << 42)).length == 0);
+
+    /* calling address first, a gap, called address, data, an octet behind */
+    n = octets_of("09 81 06 02 06 01 BB FF 01 AA 00 FF", octets, sizeof octets);
+    answer = goldenskep_unitdata_read(octets, n);
+    CHECK(goldenskep_answer_is_done(answer));
+    CHECK(goldenskep_unitdata_class(octets) == 0x81);
+    CHECK(goldenskep_unitdata_called(answer).place == 9 && goldenskep_unitdata_called(answer).length == 1);
+    CHECK(goldenskep_unitdata_calling(answer).place == 6 && goldenskep_unitdata_calling(answer).length == 1);
+    CHECK(goldenskep_unitdata_data(answer).place == 11 && goldenskep_unitdata_data(answer).length == 0);
+    memset(out, 0xEE, sizeof out);
+    answer = goldenskep_unitdata_write_back(octets, answer, octets, 2, out, sizeof out);
+    CHECK(goldenskep_answer_is_done(answer) && goldenskep_answer_length(answer) == 12);
+    n = octets_of("09 81 03 04 05 01 BB 01 AA 02 09 81", octets, sizeof octets);
+    CHECK(memcmp(out, octets, n) == 0 && out[n] == 0xEE);
+
+    /* the longest, and what is refused */
+    memset(octets, 0x5A, sizeof octets);
+    answer = goldenskep_unitdata_write(0xFF, octets, 251, octets, 1, octets, 255, out, sizeof out);
+    CHECK(goldenskep_answer_length(answer) == GOLDENSKEP_UNITDATA_SIZE && out[GOLDENSKEP_UNITDATA_SIZE] == 0xEE);
+    answer = goldenskep_unitdata_read(out, GOLDENSKEP_UNITDATA_SIZE);
+    CHECK(goldenskep_unitdata_called(answer).place == 6 && goldenskep_unitdata_called(answer).length == 251);
+    CHECK(goldenskep_unitdata_calling(answer).place == 258 && goldenskep_unitdata_calling(answer).length == 1);
+    CHECK(goldenskep_unitdata_data(answer).place == 260 && goldenskep_unitdata_data(answer).length == 255);
+    CHECK(goldenskep_unitdata_write(0, octets, 1, octets, 1, NULL, 0, out, 9) == GOLDENSKEP_STATUS_ROOM);
+    CHECK(goldenskep_unitdata_write(0, octets, 252, octets, 1, NULL, 0, out, 9) == GOLDENSKEP_STATUS_UNITDATA_RANGE);
+    CHECK(goldenskep_unitdata_write(0, NULL, 0, NULL, 0, NULL, 0, NULL, 0) == GOLDENSKEP_STATUS_UNITDATA_RANGE);
+    CHECK(goldenskep_unitdata_read(NULL, 0) == GOLDENSKEP_STATUS_UNITDATA_TYPE);
+    n = octets_of("09 00 00 00 FF", octets, sizeof octets);
+    CHECK(goldenskep_unitdata_read(octets, n) == GOLDENSKEP_STATUS_UNITDATA_PAST_END);
+    n = octets_of("09 00 03 02 02 00 00", octets, sizeof octets);
+    CHECK(goldenskep_unitdata_read(octets, n) == GOLDENSKEP_STATUS_UNITDATA_OVERLAP);
+    n = octets_of("09 00 03 03 04 00 01 BB 00", octets, sizeof octets);
+    CHECK(goldenskep_unitdata_read(octets, n) == GOLDENSKEP_STATUS_UNITDATA_ADDRESS);
+    CHECK(!goldenskep_answer_is_unreadable(GOLDENSKEP_STATUS_UNITDATA_TYPE));
+}
+
 static void check_known(const char *(*words)(int), int from, int count, const char *unknown)
 {
     CHECK(strcmp(words(from - 1), unknown) == 0 && strcmp(words(from + count), unknown) == 0);
@@ -687,7 +740,7 @@ static void check_words(void)
               (i == 0xA1 || i == 0xA2 || i == 0xA3 || i == 0xA4 || i == 0xA7));
         CHECK((strcmp(goldenskep_code_kind_words(i), "unknown code") != 0) == (i == 0 || i == 2 || i == 6));
     }
-    CHECK(known == 22);
+    CHECK(known == 27);
     CHECK(strcmp(goldenskep_status_words(10), "unknown status") == 0);
     CHECK(strcmp(goldenskep_message_kind_words(0x65), "Continue") == 0);
     CHECK(strcmp(goldenskep_component_kind_words(0xA7), "Return Result Not Last") == 0);
@@ -715,6 +768,7 @@ int main(void)
     check_out_of_range();
     check_parts();
     check_rules();
+    check_unitdata();
     check_words();
     return checks_end();
 }

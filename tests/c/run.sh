@@ -69,7 +69,7 @@ strict="-std=c99 $warnings -O2"
 plus="-std=c++11 $warnings -Wold-style-cast -O2 -fno-exceptions -fno-rtti"
 # unsafe-buffer-usage is of later clangs, and is about every C that takes pointers; clang 14 does not know it
 everything="-Weverything -Wno-unknown-warning-option -Wno-unsafe-buffer-usage -Werror"
-wrap="-Wl,--wrap=goldenskep_read,--wrap=goldenskep_write,--wrap=goldenskep_steer,--wrap=goldenskep_list"
+wrap="-Wl,--wrap=goldenskep_read,--wrap=goldenskep_write,--wrap=goldenskep_steer,--wrap=goldenskep_list,--wrap=goldenskep_unitdata_read,--wrap=goldenskep_unitdata_write"
 
 cc() {
     sh "$tools" cc -I"$root/include" -I"$root/bench" "$@"
@@ -164,7 +164,7 @@ example() {
     count "example $name" $?
 }
 
-for name in steer answer change; do
+for name in steer answer change sccp; do
     builds "example $name" cc $strict -o "$tmp/$name" "$root/examples/$name.c" "$archive"
 done
 example steer "$root/examples/rules.txt" "$root/examples/messages.hex"
@@ -173,6 +173,10 @@ sed -n 's/^[0-9]* send //p' "$tmp/written" >"$tmp/sent"
 run "$tmp/answer" "$tmp/sent" >"$tmp/out" 2>&1 && [ -s "$tmp/out" ] && ! grep -v ' readable$' "$tmp/out" >/dev/null
 count "what example answer sends is readable" $?
 example change 0 "30 03 04 01 08" "$root/examples/messages.hex"
+example sccp "$root/examples/unitdata.hex"
+sed -n 's/^.*; send //p' "$tmp/written" >"$tmp/sent"
+run "$tmp/sccp" "$tmp/sent" >"$tmp/out" 2>&1 && [ -s "$tmp/out" ] && ! grep -v 'link 9; nothing is sent$' "$tmp/out" >/dev/null
+count "what example sccp sends is readable" $?
 echo "begin 45 3" >"$tmp/rules"
 echo "64 0A 49 01 05 6C 05 A2 03 02 01 01" >"$tmp/message"
 [ "$(run "$tmp/steer" "$tmp/rules" <"$tmp/message" 2>"$tmp/out")" = "1 no rule" ]
@@ -222,7 +226,7 @@ fi
 builds harness cc $calls -o "$tmp/harness" "$here/harness.c" "$archive"
 # -z now: looking up a name at its first call needs stack too
 builds stack cc $calls -Wl,-z,now -o "$tmp/stack" "$here/stack.c" "$archive"
-plain="$root/bench/plain.c $root/bench/plain_read.c $root/bench/plain_write.c $root/bench/plain_steer.c $root/bench/plain_list.c"
+plain="$root/bench/plain.c $root/bench/plain_read.c $root/bench/plain_write.c $root/bench/plain_steer.c $root/bench/plain_list.c $root/bench/plain_unitdata.c"
 builds fuzz cc $calls -o "$tmp/fuzz" "$here/fuzz.c" $plain "$archive"
 for cases in "$@"; do
     one "calls between guard pages, $(basename "$cases")" run "$tmp/harness" "$cases"
@@ -239,9 +243,11 @@ if [ $vectors = yes ]; then
     read=$(grep -c '^>' "$VECTORS/read.txt")
     write=$(grep -c . "$VECTORS/write.jsonl")
     steer=$(grep -c . "$VECTORS/steer.jsonl")
-    echo "vectors: $read to read, $write to write, $steer to steer"
+    unitdata_read=$(grep -c . "$VECTORS/06-unitdata/read.jsonl")
+    unitdata_write=$(grep -c . "$VECTORS/06-unitdata/write.jsonl")
+    echo "vectors: $read to read, $write to write, $steer to steer, unitdata $unitdata_read to read, $unitdata_write to write"
     cp "$tmp/compared" "$tmp/out"
-    [ "$(cat "$tmp/out")" = "cases of read $read, write $write, steer $steer, list $read" ]
+    [ "$(cat "$tmp/out")" = "cases of read $read, write $write, steer $steer, list $read, unitdata read $unitdata_read, unitdata write $unitdata_write" ]
     count "every vector was compared" $?
 fi
 one "calls on a small stack" run "$tmp/stack" "$@"
@@ -270,7 +276,8 @@ builds "harness with faults" cc $calls $wrap -o "$tmp/faulty_harness" "$here/har
 builds "stack with faults" cc $calls -Wl,-z,now $wrap -o "$tmp/faulty_stack" "$here/stack.c" "$here/faulty.c" "$archive"
 one "harness over what faults are laid on, with none" run "$tmp/faulty_harness" "$@"
 for fault in place refusal-writes rest-of-room reads-behind reads-before writes-message null past-length unwritten \
-    writes-behind writes-before link listing; do
+    writes-behind writes-before link listing unitdata-place unitdata-order unitdata-behind unitdata-class \
+    unitdata-refusal-writes unitdata-calling; do
     notices harness $fault "$@"
 done
 notices stack deep "$@"
@@ -281,7 +288,7 @@ notices host reads-before start "$here/host.hex"
 notices host writes-message end "$here/host.hex"
 notices host writes-behind start "$here/host.hex"
 builds "fuzz with faults" cc $calls $wrap -o "$tmp/faulty_fuzz" "$here/fuzz.c" "$here/faulty.c" $plain "$archive"
-for fault in place rest-of-room past-length link listing; do
+for fault in place rest-of-room past-length link listing unitdata-place unitdata-class; do
     notices fuzz $fault 1 2000 "$@"
 done
 

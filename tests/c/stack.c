@@ -3,7 +3,7 @@
  *   stack FILE...
  *
  * The stack is painted before each call; how much of it the call used, return
- * address included, is seen by where the paint is gone. Prints the deepest use of
+ * address and arguments included, is seen by where the paint is gone. Prints the deepest use of
  * each call; the exit status is 1 if one does not fit, or an answer differs. */
 #include "guarded.h"
 #include "cases.h"
@@ -14,7 +14,10 @@ enum { STACK_SIZE = 16384, PAINT = 0xC5 };
 #error "the library is x86-64"
 #endif
 
-/* Calls function with six arguments in registers, the stack pointer at `top`. */
+enum { IN_REGISTERS = 6, ON_STACK = 4 };
+
+/* Calls function with six arguments in registers, the stack pointer at `top`;
+ * further ones stand there. */
 static uint64_t call_on(void *top, void *function, const uint64_t arguments[6])
 {
     register uint64_t r8 __asm__("r8") = arguments[4];
@@ -36,12 +39,14 @@ static uint64_t call_on(void *top, void *function, const uint64_t arguments[6])
 
 #define ADDRESS(p) ((uint64_t)(uintptr_t)(p))
 
-static uint64_t call_case(void *top, const struct one_case *the, uint8_t *c)
+static uint64_t call_case(uint8_t *top, const struct one_case *the, uint8_t *c)
 {
     const struct string a = the->a, b = the->b;
     uint64_t read[6] = { ADDRESS(a.at), a.len, ADDRESS(c), the->c.len, 0, 0 };
     uint64_t write[6] = { ADDRESS(a.at), a.len, ADDRESS(b.at), b.len, ADDRESS(c), the->c.len };
     uint64_t steer[6] = { ADDRESS(a.at), a.len, ADDRESS(b.at), b.len, 0, 0 };
+    uint64_t unitdata[IN_REGISTERS + ON_STACK] = { 0, ADDRESS(b.at), b.len, ADDRESS(the->d.at), the->d.len,
+                                                   ADDRESS(the->e.at), the->e.len, ADDRESS(c), the->c.len, 0 };
 
     switch (the->call) {
     case 'r':
@@ -50,13 +55,19 @@ static uint64_t call_case(void *top, const struct one_case *the, uint8_t *c)
         return call_on(top, (void *)goldenskep_write, write);
     case 's':
         return call_on(top, (void *)goldenskep_steer, steer);
+    case 'u':
+        return call_on(top, (void *)goldenskep_unitdata_read, read);
+    case 'v':
+        unitdata[0] = a.at[0];
+        memcpy(top - ON_STACK * 8, unitdata + IN_REGISTERS, ON_STACK * 8);
+        return call_on(top - ON_STACK * 8, (void *)goldenskep_unitdata_write, unitdata);
     default:
         return call_on(top, (void *)goldenskep_list, read);
     }
 }
 
 /* The same; 0 if the stack was too small. */
-static int guarded_call(void *top, const struct one_case *the, uint8_t *c, uint64_t *answer)
+static int guarded_call(uint8_t *top, const struct one_case *the, uint8_t *c, uint64_t *answer)
 {
     if (sigsetjmp(guard_touched, 1) != 0)
         return 0;
@@ -81,9 +92,8 @@ static size_t used(const uint8_t *from, const uint8_t *top)
 
 int main(int argc, char **argv)
 {
-    static const char names[4] = { 'r', 'w', 's', 'l' };
-    unsigned long count[4] = { 0 }, deepest_case[4] = { 0 }, differ = 0;
-    size_t deepest[4] = { 0 };
+    unsigned long count[sizeof CALLS] = { 0 }, deepest_case[sizeof CALLS] = { 0 }, differ = 0;
+    size_t deepest[sizeof CALLS] = { 0 };
     struct arena arena = make_arena(STACK_SIZE);
     uint8_t *from, *top;
     unsigned long number = 0;
@@ -103,7 +113,7 @@ int main(int argc, char **argv)
 
         while (next_case(&f, &the)) {
             uint8_t *c = malloc(the.c.len + 1);
-            int call = 0;
+            size_t call = (size_t)(strchr(CALLS, the.call) - CALLS);
             uint64_t answer;
             size_t depth;
 
@@ -112,8 +122,6 @@ int main(int argc, char **argv)
                 return 2;
             }
             memcpy(c, the.c.at, the.c.len);
-            while (names[call] != the.call)
-                call++;
             if (!guarded_call(top, &the, c, &answer)) {
                 printf("case %lu (%s): more than %d octets of stack\n", number, call_name(the.call),
                        STACK_SIZE);
@@ -135,9 +143,9 @@ int main(int argc, char **argv)
         }
         free(f.octets);
     }
-    for (int call = 0; call < 4; call++)
+    for (size_t call = 0; CALLS[call] != '\0'; call++)
         if (count[call] > 0)
-            printf("%-5s %7lu calls, at most %5lu octets of stack (case %lu)\n", call_name(names[call]),
+            printf("%-14s %7lu calls, at most %5lu octets of stack (case %lu)\n", call_name(CALLS[call]),
                    count[call], (unsigned long)deepest[call], deepest_case[call]);
     printf("%lu calls on a stack of %d octets, %lu differ\n", number, STACK_SIZE, differ);
     return differ != 0 || number == 0;

@@ -23,6 +23,19 @@ uint64_t goldenskep_list(const uint8_t *message, size_t message_len, uint8_t *ou
     return plain_list_layout(message, message_len, out, out_len);
 }
 
+uint64_t goldenskep_unitdata_read(const uint8_t *message, size_t message_len)
+{
+    return plain_unitdata_read(message, message_len);
+}
+
+uint64_t goldenskep_unitdata_write(uint8_t protocol_class, const uint8_t *called, size_t called_len,
+                                   const uint8_t *calling, size_t calling_len, const uint8_t *data, size_t data_len,
+                                   uint8_t *out, size_t out_len)
+{
+    return plain_unitdata_write(protocol_class, called, called_len, calling, calling_len, data, data_len, out,
+                                out_len);
+}
+
 uint32_t goldenskep_layout(void)
 {
     return plain_layout();

@@ -6,13 +6,14 @@ from collections import namedtuple
 MAGIC = b"GSKCASE1"
 
 # op: b"r" read (a message, c room), b"w" write (a record, b material, c out),
-# b"s" steer (a message, b rules), b"l" list (a message, c out). c_after is as long as c.
-Case = namedtuple("Case", "op a b c answer c_after")
+# b"s" steer (a message, b rules), b"l" list (a message, c out), b"u" read a unitdata (a octets),
+# b"v" write one (a class, b called, d calling, e data, c out). c_after is as long as c.
+Case = namedtuple("Case", "op a b c answer c_after d e", defaults=(b"", b""))
 
 
 def case_octets(case):
     octets = case.op
-    for part in (case.a, case.b, case.c):
+    for part in (case.a, case.b, case.c) + ((case.d, case.e) if case.op == b"v" else ()):
         octets += len(part).to_bytes(4, "big") + part
     assert len(case.c_after) == len(case.c)
     return octets + case.answer.to_bytes(8, "big") + case.c_after

@@ -1,8 +1,9 @@
-"""Usage: cases.py SEED COUNT OUT. Random, damaged and hostile cases of the four calls, by the model.
+"""Usage: cases.py SEED COUNT OUT. Random, damaged and hostile cases of the calls, by the model.
 The same seed and count give the same file everywhere; a count of the answers is printed."""
 
 import sys
 
+import sccp_cases
 import tcap_model as tcap
 from case_file import Case, Random, write_cases
 from vector_cases import (KINDS, RECORD_SIZE, laid_material, laid_record, noted_strings,
@@ -771,7 +772,8 @@ def all_cases(seed, count, answers):
     random = Random(seed)
     for _ in range(count):
         way = random.below(100)
-        make = read_case if way < 50 else write_case if way < 80 else steer_case if way < 90 else list_case
+        make = read_case if way < 45 else write_case if way < 70 else steer_case if way < 80 else \
+            list_case if way < 90 else sccp_cases.read_case if way < 95 else sccp_cases.write_case
         case = make(random)
         key = (case.op.decode(), case.answer & 0xFF)
         answers[key] = answers.get(key, 0) + 1
@@ -781,9 +783,9 @@ def all_cases(seed, count, answers):
 def main(seed, count, path):
     answers = {}
     write_cases(path, all_cases(seed, count, answers))
-    print("answer   read  write  steer   list")
+    print("answer   read  write  steer   list  unitdata read  write")
     for status in sorted({status for op, status in answers}):
-        print("%6d %6s %6s %6s %6s" % ((status,) + tuple(answers.get((op, status), "") for op in "rwsl")))
+        print("%6d %6s %6s %6s %6s %14s %6s" % ((status,) + tuple(answers.get((op, status), "") for op in "rwsluv")))
 
 
 if __name__ == "__main__":

@@ -1,8 +1,9 @@
 """Usage: selfcheck.py VECTORS_DIR. Runs the model on all vector files: how many compared, how many differ.
-The same vectors as cases of the four calls (vector_cases.py) are compared as well."""
+The same vectors as cases of the calls (vector_cases.py) are compared as well."""
 
 import sys
 
+import sccp_model as sccp
 import tcap_model as tcap
 import vector_cases
 from vector_files import json_lines, read_vectors
@@ -158,20 +159,39 @@ def compare_steer(directory):
         yield vector["expect"], got
 
 
+def compare_unitdata_read(directory):
+    for vector in json_lines(directory, "06-unitdata/read.jsonl"):
+        answer = sccp.read(bytes.fromhex(vector["octets"]))
+        yield vector["expect"], ({"no": answer} if isinstance(answer, int) else
+                                 {"ok": {"class": answer.protocol_class, "called": list(answer.called),
+                                         "calling": list(answer.calling), "data": list(answer.data)}})
+
+
+def compare_unitdata_write(directory):
+    for vector in json_lines(directory, "06-unitdata/write.jsonl"):
+        answer = sccp.write(vector["class"], vector["called"], vector["calling"], vector["data"], vector["room"])
+        yield vector["expect"], ({"no": answer} if isinstance(answer, int) else {"ok": answer.hex().upper()})
+
+
 def compare_calls(directory):
     calls = {b"r": lambda a, b, c: tcap.read_call(a, c),
              b"w": tcap.write_call,
              b"s": lambda a, b, c: (tcap.steer_call(a, b), c),
-             b"l": lambda a, b, c: tcap.list_call(a, c)}
+             b"l": lambda a, b, c: tcap.list_call(a, c),
+             b"u": lambda a, b, c: (sccp.read_call(a), c)}
     for case in vector_cases.all_cases(directory):
-        yield (case.answer, case.c_after), calls[case.op](case.a, case.b, case.c)
+        yield (case.answer, case.c_after), (
+            sccp.write_call(case.a[0], case.b, case.d, case.e, case.c) if case.op == b"v"
+            else calls[case.op](case.a, case.b, case.c))
 
 
 def main(directory):
     total = 0
     for name, comparison in (("read.txt", compare_read), ("records.jsonl", compare_records),
                              ("write.jsonl", compare_write), ("steer.jsonl", compare_steer),
-                             ("cases of the four calls", compare_calls)):
+                             ("06-unitdata/read.jsonl", compare_unitdata_read),
+                             ("06-unitdata/write.jsonl", compare_unitdata_write),
+                             ("cases of the calls", compare_calls)):
         compared = differ = 0
         for expected, got in comparison(directory):
             compared += 1

@@ -1,4 +1,4 @@
-"""Usage: vector_cases.py VECTORS_DIR OUT. Turns the vector files into cases of the four calls.
+"""Usage: vector_cases.py VECTORS_DIR OUT. Turns the vector files into cases of the calls.
 Expected answers and records come from the vectors' own values; places are found in the messages."""
 
 import sys
@@ -283,8 +283,31 @@ def steer_cases(directory):
         yield Case(b"s", message, rules, b"", answer, b"")
 
 
+def unitdata_read_cases(directory):
+    for vector in json_lines(directory, "06-unitdata/read.jsonl"):
+        expect = vector["expect"]
+        answer = expect["no"] if "no" in expect else 0
+        if "ok" in expect:
+            for name, bit in (("called", 8), ("calling", 25), ("data", 42)):
+                place, length = expect["ok"][name]
+                answer |= place << bit | length << bit + 9
+        yield Case(b"u", bytes.fromhex(vector["octets"]), b"", b"", answer, b"")
+
+
+def unitdata_write_cases(directory):
+    random = Random(6)
+    for vector in json_lines(directory, "06-unitdata/write.jsonl"):
+        expect, out = vector["expect"], random.nonzero(vector["room"])
+        answer, after = expect.get("no"), out
+        if "ok" in expect:
+            octets = bytes.fromhex(expect["ok"])
+            answer, after = len(octets) << 8, octets + out[len(octets):]
+        yield Case(b"v", bytes([vector["class"]]), vector["called"], out, answer, after,
+                   vector["calling"], vector["data"])
+
+
 def all_cases(directory):
-    for cases in (read_cases, list_cases, write_cases_of_vectors, steer_cases):
+    for cases in (read_cases, list_cases, write_cases_of_vectors, steer_cases, unitdata_read_cases, unitdata_write_cases):
         yield from cases(directory)
 
 
