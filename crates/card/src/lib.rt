@@ -3,6 +3,7 @@ pub mod unitdata;
 
 ghost use mathlib.Core.Path.{_≡_};
 ghost use Rattle.card.specs.Answer.{origBits, sendBits, refusalBits, listedBits, readAnswer, readRoom, writtenBits, writeAnswer, steeredBits, steerAnswer, listAnswer, listRoom, layoutBits};
+ghost use Rattle.table_octets.specs.Octets.{replying, leaving, replyNumber};
 ghost use Rattle.tcap.specs.Reading.{reading};
 ghost use Rattle.writer.specs.Octets.{leavesOctets};
 ghost use Rattle.writer.specs.Writing.{writeNumber};
@@ -204,6 +205,20 @@ pub extern "C" fn goldenskep_list(message: &[u8], out: &mut [u8]) -> u64
     let reading = reading_of(message);
     let listed = listing::list_reading(message, reading, out);
     listed_bits(listed)
+}
+
+// An event of an open transaction, by its number, in the table that octets hold and that is changed in place: what was done in which entry, or the refusal and the table left alone.
+#[no_mangle]
+pub extern "C" fn goldenskep_transaction(
+    table: &mut [u8],
+    event: u8,
+    ours: &[u8],
+    partner: &[u8],
+) -> u64
+    ensures { λ r. ⌜ r ≡ replyNumber (replying (now (table .entry)) event (now (ours .entry)) (now (partner .entry))) ⌝ }
+    ensures { λ _. ⌜ now (table .exit) ≡ leaving (now (table .entry)) event (now (ours .entry)) (now (partner .entry)) ⌝ }
+{
+    table_octets::step_number(table, event, ours, partner)
 }
 
 // Version, rule size and record size, to be held against the header.

@@ -1,0 +1,171 @@
+-- A step answers and changes what the page says of its ID; and the page's table, computed. Assumes nothing.
+use Prim.Native.Nat.{ℕ, _<_}
+use native.Mathlib.Omega.{arith}
+use mathlib.Core.Path.{_≡_, refl, ap, _∙_}
+use mathlib.Core.Logic.{_↔_}
+use mathlib.Core.Bool.{Bool, true, false}
+use mathlib.Core.List.{List, [], _∷_, map}
+use mathlib.Core.Option.{Option, none, some}
+use lib.ListN.{length, getD, set}
+use lib.Seq.{getD-set-same}
+use lib.Dec.{eqb}
+use borrow.Author.Tests.{eq-eqb, ne-eqb}
+use Rattle.open_transactions.specs.declared.{State.State, Event.Event, Move.Move, Entry.Entry, Table.Table, Room.Room, TableRefusal.TableRefusal, Begins.Begins, Deed.Deed}
+use Rattle.tcap.specs.WellFormed.{idOk}
+use Rattle.open_transactions.specs.Table.{blankEntry, isOpen, isFree, holds, findFrom, entryFor, activeNow, refusalNumber, moveOf, beginsOf, toldBy, idsOk, opening, moving, beginDeed, otherDeed, foundDeed, deedOf, takenOf, withEntry, done, stepped}
+use Rattle.open_transactions.specs.History.{one, countIn, isOpenEntry, openIn, Known, knownEntry, knownAt, knownOf, Answer, refused, opened, kept, closed, answerOf, given, pageMoves, pageOpens, pageKnows, pageSays}
+use Rattle.open_transactions.proofs.Doing.{ids-short}
+use Rattle.open_transactions.proofs.Counting.{first-of, set-count, none-count, count-none, passes-counted, set-found, count-both, Late}
+use Rattle.open_transactions.proofs.Holding.{blank-holds, made-holds, active-holds, partner-stands}
+use Rattle.open_transactions.proofs.Happening.{begins-open, Sound}
+
+-- what is known of an entry that was made
+known-made : (s : State) (o p : List ℕ) → length p < 5 → knownEntry (entryFor s o p) ≡ record { state = s; partner = given p }
+unfolding entryFor
+known-made s o p h = ap (λ (x : Option (List ℕ)). record { state = s; partner = x }) (partner-stands s o p h)
+
+-- no room is free where 64 are open, and only there
+module _ (es : List Entry) (size : length es ≡ 64) where
+  all-open : findFrom isFree 0 es ≡ Room.Nowhere → countIn isOpenEntry es ≡ 64
+  unfolding isFree
+  all-open f = omega (arith, size, count-both isOpenEntry es, none-count isFree 0 es f)
+
+  some-free : (i : ℕ) → findFrom isFree 0 es ≡ Room.At i → countIn isOpenEntry es < 64
+  unfolding isFree
+  some-free i f = let g = first-of isFree i es f in omega (arith, size, count-both isOpenEntry es, passes-counted isFree es i (g .within) (g .passes))
+
+module _ (t : Table) (z : Sound (t .entries)) (o p : List ℕ) (short : length o < 5) (told : length p < 5) where
+  -- what the page says, and what is done
+  abbrev Says : Answer × Option Known → Deed → Type 0
+  Says a d = (answerOf (takenOf d), knownOf (done t o p d) o) ≡ a
+
+  known-stored : (i : ℕ) (e : Entry) → i < length (t .entries) → holds o e ≡ true → Late (holds o) i (findFrom (holds o) 0 (t .entries)) → knownOf (withEntry t i e) o ≡ some (knownEntry e)
+  unfolding knownOf
+  known-stored i e l h f = rw (set-found (holds o) (t .entries) i e l h f, getD-set-same (t .entries) i e blankEntry l)
+
+  known-shut : (i : ℕ) → findFrom (holds o) 0 (t .entries) ≡ Room.At i → knownOf (withEntry t i blankEntry) o ≡ none
+  unfolding knownOf
+  known-shut i f =
+      let g = first-of (holds o) i (t .entries) f in
+      let c = set-count (holds o) (t .entries) i blankEntry (g .within) in
+      let a : one (holds o (getD (t .entries) i blankEntry)) ≡ 1 = rw (g .passes) in
+      let b : one (holds o blankEntry) ≡ 0 = rw (blank-holds o) in
+      rw (count-none (holds o) 0 (set (t .entries) i blankEntry) (omega (arith, c, a, b, z .unique o)))
+
+  open-says : (s : State) → isOpen s ≡ true → findFrom (holds o) 0 (t .entries) ≡ Room.Nowhere → (r : Room) → findFrom isFree 0 (t .entries) ≡ r → Says (pageOpens (eqb (openIn t) 64) s (given p)) (opening s r)
+  unfolding done knownOf
+  open-says s w n Room.Nowhere f = rw (eq-eqb (openIn t) 64 (all-open (t .entries) (z .size) f), n)
+  open-says s w n (Room.At i) f =
+      let less = some-free (t .entries) (z .size) i f in
+      let k : knownOf (withEntry t i (entryFor s o p)) o ≡ some (knownEntry (entryFor s o p)) =
+      known-stored i (entryFor s o p) (first-of isFree i (t .entries) f .within) (made-holds s o p w) (rw n tt) in
+      rw (ne-eqb (openIn t) 64 (λ q. omega (arith, less, q)), k, known-made s o p told)
+
+  begin-says : (e : Event) (s : State) → isOpen s ≡ true → (r : Room) → findFrom (holds o) 0 (t .entries) ≡ r → Says (pageKnows (eqb (openIn t) 64) e (given p) (Begins.In s) (knownAt (t .entries) r)) (beginDeed (t .entries) s r)
+  unfolding done knownOf beginDeed
+  begin-says e s w (Room.At i) f = rw f
+  begin-says e s w Room.Nowhere f = open-says s w f (findFrom isFree 0 (t .entries)) refl
+
+  move-says : (i : ℕ) → findFrom (holds o) 0 (t .entries) ≡ Room.At i → (v : Move) → Says (pageMoves (knownEntry (getD (t .entries) i blankEntry)) (given p) v) (moving i v)
+  unfolding done knownOf
+  move-says i f Move.Barred = rw f
+  move-says i f Move.Stay = rw f
+  move-says i f Move.Activate =
+      let g = first-of (holds o) i (t .entries) f in
+      let k = known-stored i (activeNow (getD (t .entries) i blankEntry)) (g .within) (active-holds o (getD (t .entries) i blankEntry) (g .passes)) (rw f (omega arith)) in
+      ap (λ (x : Option Known). (kept, x)) k
+  move-says i f Move.Learn =
+      let g = first-of (holds o) i (t .entries) f in
+      let k = known-stored i (entryFor State.Active o p) (g .within) (made-holds State.Active o p refl) (rw f (omega arith)) in
+      ap (λ (x : Option Known). (kept, x)) (k ∙ ap some (known-made State.Active o p told))
+  move-says i f Move.Close = ap (λ (x : Option Known). (closed, x)) (known-shut i f)
+
+  found-says : (e : Event) (b : Begins) → beginsOf e ≡ b → (r : Room) → findFrom (holds o) 0 (t .entries) ≡ r → Says (pageKnows (eqb (openIn t) 64) e (given p) b (knownAt (t .entries) r)) (foundDeed (t .entries) e b r)
+  unfolding done knownOf foundDeed otherDeed
+  found-says e (Begins.In s) q r f = begin-says e s (begins-open e s q) r f
+  found-says e Begins.Never q Room.Nowhere f = rw f
+  found-says e Begins.Never q (Room.At i) f = move-says i f (moveOf e (getD (t .entries) i blankEntry .state))
+
+pub step-says : (t : Table) → Sound (t .entries) → (e : Event) (o p : List ℕ) → (answerOf (stepped t e o p .taken), knownOf (stepped t e o p .table) o) ≡ pageSays (eqb (openIn t) 64) e o p (knownOf t o)
+unfolding stepped deedOf done pageSays knownOf
+step-says t z e o p = by-ids (idsOk e o p) refl
+  where
+    by-ids : (b : Bool) → idsOk e o p ≡ b → (answerOf (stepped t e o p .taken), knownOf (stepped t e o p .table) o) ≡ pageSays (eqb (openIn t) 64) e o p (knownOf t o)
+    by-ids true q =
+        let s = ids-short e o p q in
+        rw q (found-says t z o (toldBy e p) (s .ours) (s .partner) e (beginsOf e) refl (findFrom (holds o) 0 (t .entries)) refl)
+    by-ids false q = rw q
+
+-- 43, over what the page says
+
+abbrev pub begins : Begins → Bool
+begins (Begins.In s) = true
+begins Begins.Never = false
+
+-- the IDs are sound, ours is not known, and 64 are open
+pub record FullFor (full : Bool) (e : Event) (o p : List ℕ) (k : Option Known) : Type 0 where
+  pub opens : begins (beginsOf e) ≡ true
+  pub sound : idsOk e o p ≡ true
+  pub unknown : k ≡ none
+  pub all : full ≡ true
+
+moves-not-full : (k : Known) (p : Option (List ℕ)) (v : Move) → pageMoves k p v .0 ≡ refused TableRefusal.Full → ⊥
+moves-not-full k p Move.Barred h = let z : _≡_ {A = ℕ} 0 1 = cc in omega arith
+moves-not-full k p Move.Stay h = let z : _≡_ {A = ℕ} 0 1 = cc in omega arith
+moves-not-full k p Move.Activate h = let z : _≡_ {A = ℕ} 0 1 = cc in omega arith
+moves-not-full k p Move.Learn h = let z : _≡_ {A = ℕ} 0 1 = cc in omega arith
+moves-not-full k p Move.Close h = let z : _≡_ {A = ℕ} 0 1 = cc in omega arith
+
+pub full-says : (full : Bool) (e : Event) (o p : List ℕ) (k : Option Known) → (pageSays full e o p k .0 ≡ refused TableRefusal.Full) ↔ FullFor full e o p k
+unfolding pageSays
+full-says full e o p k = (λ h. by-ids h (idsOk e o p) refl (beginsOf e) refl k refl full refl, λ f. back f (beginsOf e) refl)
+  where
+    by-ids : pageSays full e o p k .0 ≡ refused TableRefusal.Full → (b : Bool) → idsOk e o p ≡ b → (c : Begins) → beginsOf e ≡ c → (m : Option Known) → k ≡ m → (g : Bool) → full ≡ g → FullFor full e o p k
+    by-ids h false q c r m n g w = let y : refused TableRefusal.BadId ≡ refused TableRefusal.Full = (rw q at h) in let z : _≡_ {A = ℕ} 0 1 = cc in absurd (omega arith)
+    by-ids h true q (Begins.In s) r (some m) n g w = let y : refused TableRefusal.InUse ≡ refused TableRefusal.Full = (rw (q, r, n) at h) in let z : _≡_ {A = ℕ} 0 1 = cc in absurd (omega arith)
+    by-ids h true q (Begins.In s) r none n true w = record { opens = rw r; sound = q; unknown = n; all = w }
+    by-ids h true q (Begins.In s) r none n false w = let y : opened ≡ refused TableRefusal.Full = (rw (q, r, n, w) at h) in let z : _≡_ {A = ℕ} 0 1 = cc in absurd (omega arith)
+    by-ids h true q Begins.Never r none n g w = let y : refused TableRefusal.Unknown ≡ refused TableRefusal.Full = (rw (q, r, n) at h) in let z : _≡_ {A = ℕ} 0 1 = cc in absurd (omega arith)
+    by-ids h true q Begins.Never r (some m) n g w = absurd (moves-not-full m (given (toldBy e p)) (moveOf e (m .state)) (rw (q, r, n) at h))
+
+    back : FullFor full e o p k → (c : Begins) → beginsOf e ≡ c → pageSays full e o p k .0 ≡ refused TableRefusal.Full
+    back f (Begins.In s) r = rw (f .sound, r, f .unknown, f .all)
+    back f Begins.Never r = let y : false ≡ true = (rw r at (f .opens)) in let z : _≡_ {A = ℕ} 0 1 = cc in absurd (omega arith)
+
+-- The page's table, computed: each event in each state, the number of its refusal (0: taken) and the state after it
+
+abbrev numberOf : Answer → ℕ
+numberOf (refused k) = refusalNumber k
+numberOf opened = 0
+numberOf kept = 0
+numberOf closed = 0
+
+abbrev inState : State → Option Known
+inState State.Idle = none
+inState State.InitiationSent = some (record { state = State.InitiationSent; partner = none })
+inState State.InitiationReceived = some (record { state = State.InitiationReceived; partner = some (0x50 ∷ []) })
+inState State.Active = some (record { state = State.Active; partner = some (0x50 ∷ []) })
+
+abbrev stateAfter : Option Known → State
+stateAfter none = State.Idle
+stateAfter (some k) = k .state
+
+abbrev told : Answer × Option Known → ℕ × State
+told a = (numberOf (a .0), stateAfter (a .1))
+
+abbrev inEach : Event → List (ℕ × State)
+inEach e = map (λ s. told (pageSays false e (0x41 ∷ []) (0x50 ∷ []) (inState s))) (State.Idle ∷ State.InitiationSent ∷ State.InitiationReceived ∷ State.Active ∷ [])
+
+pub page : map inEach (Event.BeginSent ∷ Event.BeginReceived ∷ Event.ContinueSent ∷ Event.ContinueReceived ∷ Event.EndSent ∷ Event.EndReceived ∷ Event.AbortSent ∷ Event.AbortReceived ∷ Event.LocalClose ∷ Event.Other ∷ []) ≡
+    ((0, State.InitiationSent) ∷ (41, State.InitiationSent) ∷ (41, State.InitiationReceived) ∷ (41, State.Active) ∷ []) ∷
+    ((0, State.InitiationReceived) ∷ (41, State.InitiationSent) ∷ (41, State.InitiationReceived) ∷ (41, State.Active) ∷ []) ∷
+    ((41, State.Idle) ∷ (42, State.InitiationSent) ∷ (0, State.Active) ∷ (0, State.Active) ∷ []) ∷
+    ((41, State.Idle) ∷ (0, State.Active) ∷ (42, State.InitiationReceived) ∷ (0, State.Active) ∷ []) ∷
+    ((41, State.Idle) ∷ (42, State.InitiationSent) ∷ (0, State.Idle) ∷ (0, State.Idle) ∷ []) ∷
+    ((41, State.Idle) ∷ (0, State.Idle) ∷ (42, State.InitiationReceived) ∷ (0, State.Idle) ∷ []) ∷
+    ((41, State.Idle) ∷ (42, State.InitiationSent) ∷ (0, State.Idle) ∷ (0, State.Idle) ∷ []) ∷
+    ((41, State.Idle) ∷ (0, State.Idle) ∷ (42, State.InitiationReceived) ∷ (0, State.Idle) ∷ []) ∷
+    ((41, State.Idle) ∷ (0, State.Idle) ∷ (0, State.Idle) ∷ (0, State.Idle) ∷ []) ∷
+    ((41, State.Idle) ∷ (42, State.InitiationSent) ∷ (42, State.InitiationReceived) ∷ (42, State.Active) ∷ []) ∷ []
+unfolding pageSays idsOk idOk
+page = refl

@@ -1,0 +1,60 @@
+-- The loop has passed no entry that is free. Assumes nothing.
+use Rattle.open_transactions.proofs.Typed.{table-typed}
+use Prim.Native.Nat.{_-_, _≤_}
+use native.Mathlib.Omega.{arith}
+use borrow.Author.Needs.{needs}
+use mathlib.Core.Path.{_≡_, refl, sym, _∙_}
+use lib.ListN.{drop}
+use Rattle.open_transactions.specs.Table.{blankEntry, isFree, findFrom}
+use Rattle.open_transactions.proofs.Finding.{find-here, find-next, find-none}
+use Rattle.open_transactions.proofs.Table.free.Statement.{statement}
+use Rattle.open_transactions.proofs.Table.free.Tie as tie
+
+abbrev Inv-loop : tie.InvT-loop
+Inv-loop self i₀ i = (i ≤ 64) × (findFrom isFree 0 (self .entries) ≡ findFrom isFree i (drop i (self .entries)))
+
+abbrev μ-loop : tie.MeasureT-loop
+μ-loop self i₀ i = 64 - i
+
+loop-holds : tie.Need-loop-holds Inv-loop μ-loop
+loop-holds c = (omega arith, refl)
+
+mul-entry : tie.Need-mul-entry Inv-loop μ-loop
+mul-entry c = omega arith
+
+element-copy-out-entry : tie.Need-element-copy-out-entry Inv-loop μ-loop
+element-copy-out-entry c = omega arith
+
+is-free-requires : tie.Need-is-free-requires Inv-loop μ-loop
+is-free-requires c κs = search needs
+
+returns : tie.Need-returns Inv-loop μ-loop
+returns c = let h = table-typed (c .before .before .before .before .before .args .t1) _ (c .before .before .before .before .before .good .0) in sym (c .before .before .before .before .loop .inv .1 ∙ find-here isFree (c .before .before .before .before .before .args .t1 .entries) (c .before .before .before .before .loop .i) _ (omega (arith, h)) (sym (c .before .is-free .ensures) ∙ c .if1 .taken))
+
+add-i : tie.Need-add-i Inv-loop μ-loop
+add-i c = omega arith
+
+loop-less : tie.Need-loop-less Inv-loop μ-loop
+loop-less c = omega arith
+
+loop-again : tie.Need-loop-again Inv-loop μ-loop
+loop-again c = let h = table-typed (c .before .before .before .before .before .args .t1) _ (c .before .before .before .before .before .good .0) in (omega arith, c .before .before .before .before .loop .inv .1 ∙ find-next isFree (c .before .before .before .before .before .args .t1 .entries) (c .before .before .before .before .loop .i) _ (omega (arith, h)) (sym (c .before .is-free .ensures) ∙ c .if1 .left))
+
+returns-2 : tie.Need-returns-2 Inv-loop μ-loop
+returns-2 c = let h = table-typed (c .before .before .args .t1) _ (c .before .before .good .0) in sym (c .before .loop .inv .1 ∙ find-none isFree (c .before .before .args .t1 .entries) (c .before .loop .i) blankEntry (omega (arith, h)))
+
+pub free-spec : {M : Type 1} → statement M
+free-spec =
+    tie.close
+    (tie.spec
+    Inv-loop
+    μ-loop
+    loop-holds
+    mul-entry
+    element-copy-out-entry
+    is-free-requires
+    returns
+    add-i
+    loop-less
+    loop-again
+    returns-2)

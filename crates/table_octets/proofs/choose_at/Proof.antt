@@ -1,0 +1,40 @@
+-- By whether the event is a Begin. Assumes nothing.
+use Rattle.open_transactions.specs.Table.{foundDeed}
+use borrow.Author.Needs.{needs}
+use Rattle.table_octets.proofs.choose_at.Statement.{statement}
+use Rattle.table_octets.proofs.choose_at.Tie as tie
+
+begins-by-requires : tie.Need-begins-by-requires
+begins-by-requires c κs = search needs
+
+enum-known-state : tie.Need-enum-known-state
+enum-known-state c = search needs
+
+choose-begin-requires : tie.Need-choose-begin-requires
+choose-begin-requires c κs = search needs
+
+enum-told : tie.Need-enum-told
+enum-told c = search needs
+
+choose-other-requires : tie.Need-choose-other-requires
+choose-other-requires c κs = search needs
+
+returns : tie.Need-returns
+unfolding foundDeed
+returns c = rw (← c .before .before .before .before .begins-by .ensures, c .before .before .state .given .1) (c .choose-begin .ensures)
+
+returns-2 : tie.Need-returns-2
+unfolding foundDeed
+returns-2 c = rw (← c .before .before .before .begins-by .ensures, c .before .enum-told .given .1) (c .choose-other .ensures)
+
+pub choose-at-spec : {M : Type 1} → statement M
+choose-at-spec =
+    tie.close
+    (tie.spec
+    begins-by-requires
+    enum-known-state
+    choose-begin-requires
+    enum-told
+    choose-other-requires
+    returns
+    returns-2)

@@ -1,0 +1,46 @@
+-- The room is asked first; what is chosen is carried out. Assumes nothing.
+use native.Mathlib.Omega.{arith}
+use mathlib.Core.Path.{ap}
+use borrow.Author.Tests.{lt-ltb, le-ltb}
+use Rattle.table_octets.specs.declared.{Reply.Reply}
+use Rattle.table_octets.specs.Octets.{replying, leaving}
+use Rattle.open_transactions.proofs.Doing.{deed-doable}
+use Rattle.table_octets.proofs.Entries.{length-entries}
+use borrow.Author.Needs.{needs}
+use Rattle.table_octets.proofs.step_octets.Statement.{statement}
+use Rattle.table_octets.proofs.step_octets.Tie as tie
+
+returns : tie.Need-returns
+unfolding replying leaving
+returns c = (rw (lt-ltb _ _ (c .if1 .taken)), rw (lt-ltb _ _ (c .if1 .taken)))
+
+event-in-requires : tie.Need-event-in-requires
+event-in-requires c κs = search needs
+
+choose-in-requires : tie.Need-choose-in-requires
+choose-in-requires c κs = search needs
+
+told-by-requires : tie.Need-told-by-requires
+told-by-requires c κs = search needs
+
+carry-out-in-requires : tie.Need-carry-out-in-requires
+carry-out-in-requires c κs = (omega arith, rw (c .before .before .choose-in .ensures, c .before .told-by .ensures) (deed-doable _ _ _ _ (length-entries (c .before .before .before .before .before .before .before .before .before .args .table .now) 64 0)))
+
+same-length : tie.Need-same-length
+same-length c = search needs
+
+returns-2 : tie.Need-returns-2
+unfolding replying leaving
+returns-2 c = (rw (le-ltb _ _ (c .before .before .before .before .before .before .before .before .if1 .left), ← c .before .before .before .before .before .before .before .event-in .ensures, ← c .before .before .before .before .before .choose-in .ensures) (ap Reply.Answer (c .before .before .carry-out-in .ensures .0)), rw (le-ltb _ _ (c .before .before .before .before .before .before .before .before .if1 .left), ← c .before .before .before .before .before .before .before .event-in .ensures, ← c .before .before .before .before .before .choose-in .ensures, ← c .before .before .before .before .told-by .ensures) (c .before .before .carry-out-in .ensures .1))
+
+pub step-octets-spec : {M : Type 1} → statement M
+step-octets-spec =
+    tie.close
+    (tie.spec
+    returns
+    event-in-requires
+    choose-in-requires
+    told-by-requires
+    carry-out-in-requires
+    same-length
+    returns-2)
