@@ -34,6 +34,10 @@ echo "Instructions of reader::read, as one record, on the same messages:"
 sh "$here/count_read.sh" "$readings" "$root/tests/vectors/read.txt"
 
 echo
+echo "Instructions of an event on a table of open transactions:"
+sh "$here/count_table.sh" "$archive"
+
+echo
 echo "The costliest messages to read of at most 255 octets that were found:"
 # bound at the start, or the first call would pay for it
 build -Wl,-z,now -o "$tmp/worst" "$here/worst.c" "$archive"

@@ -12,6 +12,7 @@
  *   - lists a message as text               goldenskep_list
  *   - reads and writes the SCCP unitdata    goldenskep_unitdata_read,
  *     that messages come in                 goldenskep_unitdata_write
+ *   - keeps a table of open transactions    goldenskep_table_step
  *
  * Each call answers one number of 64 bits: done, that no rule fits, or a refusal
  * with all that belongs to it. The accessors below take answers and records
@@ -34,7 +35,7 @@
  * octets that the caller lends. A message that was read is good material for
  * its own record.
  *
- * The library itself is seven functions on octets and lengths. They are proved:
+ * The library itself is eight functions on octets and lengths. They are proved:
  * for every input each of them gives the answer that the rules give, and writes
  * just what they say. All else in this header is inline C around them, which is
  * not proved, but tested.
@@ -46,7 +47,8 @@
  *   - What is lent to be written overlaps nothing else that is lent in the same
  *     call: not the record of a reading and its message, not the output of a
  *     writing and its record or material, not a listing and its message, not a
- *     unitdata and the parts written into it. What is only read may overlap.
+ *     unitdata and the parts written into it, not a table and the IDs of an event.
+ *     What is only read may overlap.
  *   - The machine is x86-64 and the calling convention System V (Linux, BSD).
  *
  * And what a host sees to, so that what it reads means something:
@@ -76,6 +78,8 @@
 #define GOLDENSKEP_MAX_COMPONENTS 16 /* of a message */
 #define GOLDENSKEP_LISTING_SIZE 1153 /* octets; no listing is longer */
 #define GOLDENSKEP_UNITDATA_SIZE 515 /* octets; no unitdata that is written is longer */
+#define GOLDENSKEP_TABLE_SIZE 768    /* octets of a table of open transactions */
+#define GOLDENSKEP_MAX_TRANSACTIONS 64 /* of a table */
 
 /* What goldenskep_layout() answers if the library is of this header's layout. */
 #define GOLDENSKEP_LAYOUT \
@@ -93,6 +97,11 @@ typedef struct goldenskep_record {
 typedef struct goldenskep_rule {
     uint8_t octets[GOLDENSKEP_RULE_SIZE];
 } goldenskep_rule;
+
+/* A table of open transactions. All octets 0 is the empty one. */
+typedef struct goldenskep_table {
+    uint8_t octets[GOLDENSKEP_TABLE_SIZE];
+} goldenskep_table;
 
 /* A string: so many octets, from this place on, of the octets beside a record. */
 typedef struct goldenskep_span {
@@ -159,6 +168,18 @@ uint64_t goldenskep_unitdata_write(uint8_t protocol_class,
                                    const uint8_t *calling, size_t calling_length,
                                    const uint8_t *data, size_t data_length,
                                    uint8_t *out, size_t out_length);
+
+/* An event of an open transaction, in a table that is changed in place: our ID,
+ * and the partner's with a Begin or Continue received. Of other events it is
+ * neither asked nor kept.
+ *
+ * Done: the answer says what was done in which entry, and no other entry is
+ * changed. Refused (40 to 43): the table stays as it was. With less than
+ * GOLDENSKEP_TABLE_SIZE octets it is 25, whatever the event; octets behind the
+ * table stay. */
+uint64_t goldenskep_transaction(uint8_t *table, size_t table_length, uint8_t event,
+                                const uint8_t *ours, size_t ours_length,
+                                const uint8_t *partner, size_t partner_length);
 
 /* The library's layout: its version, the size of a rule, the size of a record. */
 uint32_t goldenskep_layout(void);
@@ -236,13 +257,18 @@ enum goldenskep_status {
     GOLDENSKEP_STATUS_MALFORMED = 22,     /* a string is not what must stand there */
     GOLDENSKEP_STATUS_RANGE = 23,         /* count, value or length out of range */
     GOLDENSKEP_STATUS_PARTS = 24,         /* no record, or a part too many or too few */
-    GOLDENSKEP_STATUS_ROOM = 25,          /* does not fit; also of reading, listing and unitdata */
+    GOLDENSKEP_STATUS_ROOM = 25,          /* does not fit; also of reading, listing, unitdata and the table */
     /* unitdata: the last when writing, the others when reading */
     GOLDENSKEP_STATUS_UNITDATA_TYPE = 31,     /* not message type 09, or no octets */
     GOLDENSKEP_STATUS_UNITDATA_PAST_END = 32, /* a pointer or a part past the end */
     GOLDENSKEP_STATUS_UNITDATA_OVERLAP = 33,  /* parts on one another, or on the first five octets */
     GOLDENSKEP_STATUS_UNITDATA_ADDRESS = 34,  /* an address without octets */
     GOLDENSKEP_STATUS_UNITDATA_RANGE = 35,    /* a part's length, or the addresses' sum, out of range */
+    /* the table of open transactions */
+    GOLDENSKEP_STATUS_ID = 40,            /* an ID not of 1 to 4 octets */
+    GOLDENSKEP_STATUS_ID_UNKNOWN = 41,    /* no open transaction of ours; of a Begin: one is open */
+    GOLDENSKEP_STATUS_STATE = 42,         /* not allowed in this state */
+    GOLDENSKEP_STATUS_TABLE_FULL = 43,    /* a Begin with 64 open */
     /* steering */
     GOLDENSKEP_STATUS_NO_RULE = 64        /* readable, but no rule fits */
 };
@@ -365,6 +391,34 @@ enum goldenskep_return_error_problem {
     GOLDENSKEP_RETURN_ERROR_PROBLEM_MISTYPED_PARAMETER = 4
 };
 
+/* What happens to a transaction. Every other number is an event that no state allows. */
+enum goldenskep_event {
+    GOLDENSKEP_EVENT_BEGIN_SENT = 1,
+    GOLDENSKEP_EVENT_BEGIN_RECEIVED = 2,
+    GOLDENSKEP_EVENT_CONTINUE_SENT = 3,
+    GOLDENSKEP_EVENT_CONTINUE_RECEIVED = 4,
+    GOLDENSKEP_EVENT_END_SENT = 5,
+    GOLDENSKEP_EVENT_END_RECEIVED = 6,
+    GOLDENSKEP_EVENT_ABORT_SENT = 7,
+    GOLDENSKEP_EVENT_ABORT_RECEIVED = 8,
+    GOLDENSKEP_EVENT_LOCAL_CLOSE = 9
+};
+
+/* The state of a transaction, as in Q.774; idle is an entry that is free. */
+enum goldenskep_state {
+    GOLDENSKEP_STATE_IDLE = 0,
+    GOLDENSKEP_STATE_INITIATION_SENT = 1,
+    GOLDENSKEP_STATE_INITIATION_RECEIVED = 2,
+    GOLDENSKEP_STATE_ACTIVE = 3
+};
+
+/* What an event did. */
+enum goldenskep_deed {
+    GOLDENSKEP_DEED_OPENED = 1,
+    GOLDENSKEP_DEED_KEPT = 2,             /* perhaps in another state */
+    GOLDENSKEP_DEED_CLOSED = 3
+};
+
 /* ---- words: each value in words, `unknown ..` for one that is none ---- */
 
 static inline const char *goldenskep_status_words(int status)
@@ -396,6 +450,10 @@ static inline const char *goldenskep_status_words(int status)
     case GOLDENSKEP_STATUS_UNITDATA_OVERLAP: return "parts of a unitdata overlap";
     case GOLDENSKEP_STATUS_UNITDATA_ADDRESS: return "empty address in a unitdata";
     case GOLDENSKEP_STATUS_UNITDATA_RANGE: return "address or data of a unitdata of wrong length";
+    case GOLDENSKEP_STATUS_ID: return "ID not of 1 to 4 octets";
+    case GOLDENSKEP_STATUS_ID_UNKNOWN: return "unknown ID, or an ID in use";
+    case GOLDENSKEP_STATUS_STATE: return "not allowed in this state";
+    case GOLDENSKEP_STATUS_TABLE_FULL: return "table full";
     case GOLDENSKEP_STATUS_NO_RULE: return "no rule";
     default: return "unknown status";
     }
@@ -590,6 +648,43 @@ static inline const char *goldenskep_problem_words(int type, int problem)
     }
 }
 
+static inline const char *goldenskep_event_words(int event)
+{
+    switch (event) {
+    case GOLDENSKEP_EVENT_BEGIN_SENT: return "Begin sent";
+    case GOLDENSKEP_EVENT_BEGIN_RECEIVED: return "Begin received";
+    case GOLDENSKEP_EVENT_CONTINUE_SENT: return "Continue sent";
+    case GOLDENSKEP_EVENT_CONTINUE_RECEIVED: return "Continue received";
+    case GOLDENSKEP_EVENT_END_SENT: return "End sent";
+    case GOLDENSKEP_EVENT_END_RECEIVED: return "End received";
+    case GOLDENSKEP_EVENT_ABORT_SENT: return "Abort sent";
+    case GOLDENSKEP_EVENT_ABORT_RECEIVED: return "Abort received";
+    case GOLDENSKEP_EVENT_LOCAL_CLOSE: return "local close";
+    default: return "unknown event";
+    }
+}
+
+static inline const char *goldenskep_state_words(int state)
+{
+    switch (state) {
+    case GOLDENSKEP_STATE_IDLE: return "idle";
+    case GOLDENSKEP_STATE_INITIATION_SENT: return "initiation sent";
+    case GOLDENSKEP_STATE_INITIATION_RECEIVED: return "initiation received";
+    case GOLDENSKEP_STATE_ACTIVE: return "active";
+    default: return "unknown state";
+    }
+}
+
+static inline const char *goldenskep_deed_words(int deed)
+{
+    switch (deed) {
+    case GOLDENSKEP_DEED_OPENED: return "opened";
+    case GOLDENSKEP_DEED_KEPT: return "kept";
+    case GOLDENSKEP_DEED_CLOSED: return "closed";
+    default: return "unknown deed";
+    }
+}
+
 /* ---- the answer ---- */
 
 /* Of no use to a host: some bits of an answer, at most 16, and an octet that is
@@ -633,6 +728,17 @@ static inline size_t goldenskep_answer_length(uint64_t answer)
 static inline uint32_t goldenskep_answer_link(uint64_t answer)
 {
     return GOLDENSKEP_AS_(uint32_t, answer >> 32);
+}
+
+/* Done in a table: what was done, and in which entry. */
+static inline int goldenskep_answer_deed(uint64_t answer)
+{
+    return GOLDENSKEP_AS_(int, goldenskep_bits_(answer, 8, 8));
+}
+
+static inline int goldenskep_answer_entry(uint64_t answer)
+{
+    return GOLDENSKEP_AS_(int, goldenskep_bits_(answer, 16, 8));
 }
 
 /* Unreadable: the place in the message of the element at fault, or where the
@@ -1384,6 +1490,76 @@ static inline uint64_t goldenskep_unitdata_write_back(const uint8_t *message, ui
                                      message + calling.place, calling.length,
                                      message + called.place, called.length,
                                      data, data_length, out, out_length);
+}
+
+/* ---- a table of open transactions ----
+ *
+ * Entry k is from 0 to 63. Of another index all is 0. */
+
+/* The empty table. */
+static inline void goldenskep_table_init(goldenskep_table *table)
+{
+    goldenskep_zero_(table->octets, GOLDENSKEP_TABLE_SIZE);
+}
+
+/* goldenskep_transaction() on a table. Without a partner's ID, its pointer may be
+ * NULL. A number that is no octet is an event that no state allows. */
+static inline uint64_t goldenskep_table_step(goldenskep_table *table, long event,
+                                             const uint8_t *ours, size_t ours_length,
+                                             const uint8_t *partner, size_t partner_length)
+{
+    return goldenskep_transaction(table->octets, GOLDENSKEP_TABLE_SIZE, goldenskep_octet_(event),
+                                  ours, ours_length, partner, partner_length);
+}
+
+/* Of no use to a host: the octets of an entry, or octets 0. */
+static inline const uint8_t *goldenskep_entry_(const goldenskep_table *table, long k)
+{
+    static const uint8_t none[12] = { 0 };
+
+    return k >= 0 && k < GOLDENSKEP_MAX_TRANSACTIONS ? table->octets + 12 * k : none;
+}
+
+/* The state of an entry: idle if there is no transaction in it. Only if there is
+ * one have the IDs a meaning. */
+static inline int goldenskep_entry_state(const goldenskep_table *table, long k)
+{
+    int state = goldenskep_entry_(table, k)[0];
+
+    return state <= GOLDENSKEP_STATE_ACTIVE ? state : GOLDENSKEP_STATE_IDLE;
+}
+
+/* Our ID, in the octets of the table: the originating ID of what we send. */
+static inline goldenskep_span goldenskep_entry_ours(const goldenskep_table *table, long k)
+{
+    uint32_t length = goldenskep_entry_(table, k)[1];
+
+    return goldenskep_span_at(length != 0 ? GOLDENSKEP_AS_(uint32_t, 12 * k + 4) : 0, length <= 4 ? length : 0);
+}
+
+/* The partner's ID, once it is known, in the octets of the table: the destination
+ * ID of what we send. */
+static inline int goldenskep_entry_has_partner(const goldenskep_table *table, long k)
+{
+    return goldenskep_entry_(table, k)[2] != 0;
+}
+
+static inline goldenskep_span goldenskep_entry_partner(const goldenskep_table *table, long k)
+{
+    uint32_t length = goldenskep_entry_(table, k)[2];
+
+    return goldenskep_span_at(length != 0 ? GOLDENSKEP_AS_(uint32_t, 12 * k + 8) : 0, length <= 4 ? length : 0);
+}
+
+/* How many transactions are open. */
+static inline int goldenskep_table_count(const goldenskep_table *table)
+{
+    int count = 0;
+    int k;
+
+    for (k = 0; k < GOLDENSKEP_MAX_TRANSACTIONS; k++)
+        count += goldenskep_entry_state(table, k) != GOLDENSKEP_STATE_IDLE;
+    return count;
 }
 
 #undef GOLDENSKEP_AS_

@@ -1,7 +1,7 @@
 #!/bin/sh
 # What the library's archive gives and needs: symbols.sh ARCHIVE
 #
-# It must define the seven functions and no other global name, need nothing but
+# It must define the eight functions and no other global name, need nothing but
 # memcpy and its kin, hold no data that can be written and ask for no executable
 # stack. The last line is 'N passed, M failed'.
 set -u
@@ -42,12 +42,12 @@ fi
 awk 'NF >= 2 && $2 ~ /^[A-TV-Z]$/ { print $1 }' "$tmp/all" | sort -u >"$tmp/defined"
 awk '$2 == "U" || $2 == "w" || $2 == "v" { print $1 }' "$tmp/all" | sort -u >"$tmp/needed"
 
-for name in read write steer list layout unitdata_read unitdata_write; do
+for name in read write steer list layout unitdata_read unitdata_write transaction; do
     one "goldenskep_$name is a function of the archive" \
         "$(awk -v name="goldenskep_$name" '$1 == name && $2 == "T" { found = 1 } END { if (!found) print "it is not" }' "$tmp/all")"
 done
 one "it has no other global names" \
-    "$(grep -v -x -E 'goldenskep_(read|write|steer|list|layout|unitdata_read|unitdata_write)' "$tmp/defined" | tr '\n' ' ')"
+    "$(grep -v -x -E 'goldenskep_(read|write|steer|list|layout|unitdata_read|unitdata_write|transaction)' "$tmp/defined" | tr '\n' ' ')"
 one "nothing else is needed than memcpy, memmove, memset, memcmp, bcmp" \
     "$(comm -13 "$tmp/defined" "$tmp/needed" | grep -v -x -E 'memcpy|memmove|memset|memcmp|bcmp' | tr '\n' ' ')"
 one "no symbol is of data that can be written" \

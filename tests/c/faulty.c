@@ -12,6 +12,7 @@ uint64_t __real_goldenskep_list(const uint8_t *, size_t, uint8_t *, size_t);
 uint64_t __real_goldenskep_unitdata_read(const uint8_t *, size_t);
 uint64_t __real_goldenskep_unitdata_write(uint8_t, const uint8_t *, size_t, const uint8_t *, size_t, const uint8_t *,
                                           size_t, uint8_t *, size_t);
+uint64_t __real_goldenskep_transaction(uint8_t *, size_t, uint8_t, const uint8_t *, size_t, const uint8_t *, size_t);
 uint64_t __wrap_goldenskep_read(const uint8_t *, size_t, uint8_t *, size_t);
 uint64_t __wrap_goldenskep_write(const uint8_t *, size_t, const uint8_t *, size_t, uint8_t *, size_t);
 uint64_t __wrap_goldenskep_steer(const uint8_t *, size_t, const uint8_t *, size_t);
@@ -19,6 +20,7 @@ uint64_t __wrap_goldenskep_list(const uint8_t *, size_t, uint8_t *, size_t);
 uint64_t __wrap_goldenskep_unitdata_read(const uint8_t *, size_t);
 uint64_t __wrap_goldenskep_unitdata_write(uint8_t, const uint8_t *, size_t, const uint8_t *, size_t, const uint8_t *,
                                           size_t, uint8_t *, size_t);
+uint64_t __wrap_goldenskep_transaction(uint8_t *, size_t, uint8_t, const uint8_t *, size_t, const uint8_t *, size_t);
 
 static int is(const char *fault)
 {
@@ -125,5 +127,27 @@ uint64_t __wrap_goldenskep_unitdata_write(uint8_t protocol_class, const uint8_t 
         out[0] ^= 1;
     if (is("unitdata-calling"))
         look(calling + calling_len);
+    return answer;
+}
+
+uint64_t __wrap_goldenskep_transaction(uint8_t *table, size_t table_len, uint8_t event, const uint8_t *ours,
+                                       size_t ours_len, const uint8_t *partner, size_t partner_len)
+{
+    uint64_t answer = __real_goldenskep_transaction(table, table_len, event, ours, ours_len, partner, partner_len);
+
+    if (is("entry") && goldenskep_answer_is_done(answer))
+        answer ^= 1 << 16;
+    if (is("refusal-writes") && goldenskep_answer_status(answer) >= GOLDENSKEP_STATUS_ID)
+        table[0] ^= 1;
+    if (is("reads-behind"))
+        look(ours + ours_len);
+    if (is("reads-before"))
+        look(partner - 1);
+    if (is("writes-behind"))
+        table[table_len] ^= 1;
+    if (is("writes-before"))
+        table[-1] ^= 1;
+    if (is("deep"))
+        deep();
     return answer;
 }

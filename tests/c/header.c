@@ -723,6 +723,9 @@ static void check_words(void)
     check_known(goldenskep_user_diagnostic_words, 0, 3, "unknown diagnostic");
     check_known(goldenskep_provider_diagnostic_words, 0, 3, "unknown diagnostic");
     check_known(goldenskep_abort_source_words, 0, 2, "unknown abort source");
+    check_known(goldenskep_event_words, 1, 9, "unknown event");
+    check_known(goldenskep_state_words, 0, 4, "unknown state");
+    check_known(goldenskep_deed_words, 1, 3, "unknown deed");
     check_known(goldenskep_dialogue_kind_words, 0, 8, "unknown dialogue");
     check_known(goldenskep_problem_type_words, 0x80, 4, "unknown problem type");
     check_known(goldenskep_general_problem_words, 0, 3, "unknown problem");
@@ -740,7 +743,7 @@ static void check_words(void)
               (i == 0xA1 || i == 0xA2 || i == 0xA3 || i == 0xA4 || i == 0xA7));
         CHECK((strcmp(goldenskep_code_kind_words(i), "unknown code") != 0) == (i == 0 || i == 2 || i == 6));
     }
-    CHECK(known == 27);
+    CHECK(known == 31);
     CHECK(strcmp(goldenskep_status_words(10), "unknown status") == 0);
     CHECK(strcmp(goldenskep_message_kind_words(0x65), "Continue") == 0);
     CHECK(strcmp(goldenskep_component_kind_words(0xA7), "Return Result Not Last") == 0);
@@ -752,6 +755,76 @@ static void check_words(void)
     CHECK(strcmp(goldenskep_diagnostic_words(0xA1, 2), "application context name not supported") == 0);
     CHECK(strcmp(goldenskep_diagnostic_words(0xA2, 2), "no common dialogue portion") == 0);
     CHECK(strcmp(goldenskep_diagnostic_words(0, 2), "unknown diagnostic") == 0);
+}
+
+/* Is the span in the table just these octets? */
+static int is_id(const goldenskep_table *table, goldenskep_span span, const char *hex)
+{
+    uint8_t octets[8];
+    size_t n = octets_of(hex, octets, sizeof octets);
+
+    return span.length == n && span.place + n <= GOLDENSKEP_TABLE_SIZE && memcmp(table->octets + span.place, octets, n) == 0;
+}
+
+static goldenskep_table table;
+
+/* An event without a partner's ID. */
+static uint64_t step(long event, const uint8_t *ours, size_t n)
+{
+    return goldenskep_table_step(&table, event, ours, n, NULL, 0);
+}
+
+static void check_table(void)
+{
+    static const uint8_t ours[5] = { 0x41, 0, 0, 0x42, 0x43 }, partner[4] = { 0x50, 0x51, 0x52, 0x53 };
+    uint64_t answer;
+
+    CHECK(sizeof table == GOLDENSKEP_TABLE_SIZE && GOLDENSKEP_TABLE_SIZE == 12 * GOLDENSKEP_MAX_TRANSACTIONS);
+    memset(&table, 0xEE, sizeof table);
+    goldenskep_table_init(&table);
+    CHECK(goldenskep_table_count(&table) == 0);
+    CHECK(goldenskep_entry_state(&table, 0) == GOLDENSKEP_STATE_IDLE);
+    answer = step(GOLDENSKEP_EVENT_BEGIN_SENT, ours, 1);
+    CHECK(goldenskep_answer_is_done(answer) && goldenskep_answer_deed(answer) == GOLDENSKEP_DEED_OPENED);
+    CHECK(goldenskep_answer_entry(answer) == 0);
+    CHECK(goldenskep_entry_state(&table, 0) == GOLDENSKEP_STATE_INITIATION_SENT);
+    CHECK(is_id(&table, goldenskep_entry_ours(&table, 0), "41"));
+    CHECK(!goldenskep_entry_has_partner(&table, 0) && goldenskep_entry_partner(&table, 0).length == 0);
+    answer = goldenskep_table_step(&table, GOLDENSKEP_EVENT_BEGIN_RECEIVED, ours, 4, partner, 4);
+    CHECK(goldenskep_answer_is_done(answer) && goldenskep_answer_entry(answer) == 1);
+    CHECK(goldenskep_entry_state(&table, 1) == GOLDENSKEP_STATE_INITIATION_RECEIVED);
+    CHECK(is_id(&table, goldenskep_entry_ours(&table, 1), "41 00 00 42"));
+    CHECK(goldenskep_entry_has_partner(&table, 1));
+    CHECK(is_id(&table, goldenskep_entry_partner(&table, 1), "50 51 52 53"));
+    CHECK(goldenskep_table_count(&table) == 2);
+    answer = goldenskep_table_step(&table, GOLDENSKEP_EVENT_CONTINUE_RECEIVED, ours, 1, partner, 2);
+    CHECK(goldenskep_answer_deed(answer) == GOLDENSKEP_DEED_KEPT && goldenskep_answer_entry(answer) == 0);
+    CHECK(goldenskep_entry_state(&table, 0) == GOLDENSKEP_STATE_ACTIVE);
+    CHECK(is_id(&table, goldenskep_entry_partner(&table, 0), "50 51"));
+    CHECK(step(GOLDENSKEP_EVENT_END_SENT, ours, 5) == GOLDENSKEP_STATUS_ID);
+    CHECK(step(GOLDENSKEP_EVENT_END_SENT, ours, 2) == GOLDENSKEP_STATUS_ID_UNKNOWN);
+    CHECK(step(GOLDENSKEP_EVENT_END_RECEIVED, ours, 4) == GOLDENSKEP_STATUS_STATE);
+    /* numbers that are no octet are no event, and not the octet that is left of them */
+    CHECK(step(256 + GOLDENSKEP_EVENT_LOCAL_CLOSE, ours, 1) == GOLDENSKEP_STATUS_STATE);
+    CHECK(step(-1, ours, 1) == GOLDENSKEP_STATUS_STATE);
+    answer = step(GOLDENSKEP_EVENT_LOCAL_CLOSE, ours, 1);
+    CHECK(goldenskep_answer_deed(answer) == GOLDENSKEP_DEED_CLOSED && goldenskep_answer_entry(answer) == 0);
+    CHECK(goldenskep_table_count(&table) == 1 && goldenskep_entry_state(&table, 0) == GOLDENSKEP_STATE_IDLE);
+    for (uint8_t id = 1; id < GOLDENSKEP_MAX_TRANSACTIONS; id++) {
+        answer = step(GOLDENSKEP_EVENT_BEGIN_SENT, &id, 1);
+        CHECK(goldenskep_answer_is_done(answer) && goldenskep_answer_entry(answer) == (id == 1 ? 0 : id));
+    }
+    CHECK(goldenskep_table_count(&table) == 64);
+    CHECK(step(GOLDENSKEP_EVENT_BEGIN_SENT, partner, 4) == GOLDENSKEP_STATUS_TABLE_FULL);
+    CHECK(goldenskep_transaction(table.octets, GOLDENSKEP_TABLE_SIZE - 1, GOLDENSKEP_EVENT_END_SENT, ours, 4, NULL, 0) ==
+          GOLDENSKEP_STATUS_ROOM);
+    /* entries that are none */
+    CHECK(goldenskep_entry_state(&table, 64) == 0 && goldenskep_entry_state(&table, -1) == 0);
+    CHECK(goldenskep_entry_ours(&table, 64).length == 0 && goldenskep_entry_ours(&table, LONG_MAX).place == 0);
+    CHECK(!goldenskep_entry_has_partner(&table, LONG_MIN) && goldenskep_entry_partner(&table, -1).length == 0);
+    /* octets that no event leaves */
+    memset(&table, 0xFF, sizeof table);
+    CHECK(goldenskep_table_count(&table) == 0 && goldenskep_entry_ours(&table, 3).length == 0);
 }
 
 int main(void)
@@ -770,5 +843,6 @@ int main(void)
     check_rules();
     check_unitdata();
     check_words();
+    check_table();
     return checks_end();
 }

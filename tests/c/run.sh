@@ -69,7 +69,7 @@ strict="-std=c99 $warnings -O2"
 plus="-std=c++11 $warnings -Wold-style-cast -O2 -fno-exceptions -fno-rtti"
 # unsafe-buffer-usage is of later clangs, and is about every C that takes pointers; clang 14 does not know it
 everything="-Weverything -Wno-unknown-warning-option -Wno-unsafe-buffer-usage -Werror"
-wrap="-Wl,--wrap=goldenskep_read,--wrap=goldenskep_write,--wrap=goldenskep_steer,--wrap=goldenskep_list,--wrap=goldenskep_unitdata_read,--wrap=goldenskep_unitdata_write"
+wrap="-Wl,--wrap=goldenskep_read,--wrap=goldenskep_write,--wrap=goldenskep_steer,--wrap=goldenskep_list,--wrap=goldenskep_unitdata_read,--wrap=goldenskep_unitdata_write,--wrap=goldenskep_transaction"
 
 cc() {
     sh "$tools" cc -I"$root/include" -I"$root/bench" "$@"
@@ -164,7 +164,7 @@ example() {
     count "example $name" $?
 }
 
-for name in steer answer change sccp; do
+for name in steer answer change sccp desk; do
     builds "example $name" cc $strict -o "$tmp/$name" "$root/examples/$name.c" "$archive"
 done
 example steer "$root/examples/rules.txt" "$root/examples/messages.hex"
@@ -177,6 +177,7 @@ example sccp "$root/examples/unitdata.hex"
 sed -n 's/^.*; send //p' "$tmp/written" >"$tmp/sent"
 run "$tmp/sccp" "$tmp/sent" >"$tmp/out" 2>&1 && [ -s "$tmp/out" ] && ! grep -v 'link 9; nothing is sent$' "$tmp/out" >/dev/null
 count "what example sccp sends is readable" $?
+example desk "$root/examples/desk.txt"
 echo "begin 45 3" >"$tmp/rules"
 echo "64 0A 49 01 05 6C 05 A2 03 02 01 01" >"$tmp/message"
 [ "$(run "$tmp/steer" "$tmp/rules" <"$tmp/message" 2>"$tmp/out")" = "1 no rule" ]
@@ -250,6 +251,18 @@ if [ $vectors = yes ]; then
     [ "$(cat "$tmp/out")" = "cases of read $read, write $write, steer $steer, list $read, unitdata read $unitdata_read, unitdata write $unitdata_write" ]
     count "every vector was compared" $?
 fi
+# ---- the table of open transactions, between guard pages and on a small stack ----
+
+if [ -n "${VECTORS:-}" ]; then
+    builds "events on a table" python3 "$root/tests/model/table_cases.py" "${SEED:-1}" "${COUNT:-2000}" "$VECTORS" "$tmp/table.cases"
+    cp "$tmp/out" "$tmp/events"
+    sed 's/^/    events: /' "$tmp/events"
+    builds table cc $calls -Wl,-z,now -o "$tmp/table" "$here/table.c" "$archive"
+    one "events on a table, between guard pages and on a small stack" run "$tmp/table" "$tmp/table.cases"
+    events=$(awk '{ n += $2 } END { print n }' "$tmp/events")
+    tail -n 1 "$tmp/out" | grep -q "^$events events, "
+    count "every event was compared" $?
+fi
 one "calls on a small stack" run "$tmp/stack" "$@"
 sed '$d' "$tmp/out"
 one "altered calls beside plain C" run "$tmp/fuzz" "${SEED:-1}" "${ROUNDS:-20000}" "$@"
@@ -281,6 +294,13 @@ for fault in place refusal-writes rest-of-room reads-behind reads-before writes-
     notices harness $fault "$@"
 done
 notices stack deep "$@"
+if [ -n "${VECTORS:-}" ]; then
+    builds "table with faults" cc $calls -Wl,-z,now $wrap -o "$tmp/faulty_table" "$here/table.c" "$here/faulty.c" "$archive"
+    one "table over what faults are laid on, with none" run "$tmp/faulty_table" "$tmp/table.cases"
+    for fault in entry refusal-writes reads-behind reads-before writes-behind writes-before deep; do
+        notices table $fault "$tmp/table.cases"
+    done
+fi
 builds "host with faults" cc $calls $wrap -I"$root/examples" -o "$tmp/faulty_host" "$here/host_guarded.c" "$tmp/host.o" \
     "$here/faulty.c" "$archive"
 notices host reads-behind end "$here/host.hex"

@@ -4,6 +4,7 @@ The same vectors as cases of the calls (vector_cases.py) are compared as well.""
 import sys
 
 import sccp_model as sccp
+import table_model as table
 import tcap_model as tcap
 import vector_cases
 from vector_files import json_lines, read_vectors
@@ -185,12 +186,24 @@ def compare_calls(directory):
             else calls[case.op](case.a, case.b, case.c))
 
 
+def compare_histories(directory):
+    for vector in json_lines(directory, "10-table/histories.jsonl"):
+        rooms, answers = table.EMPTY, []
+        for event, ours, partner in vector["events"]:
+            answer, rooms = table.step(rooms, event, ours, partner or b"")
+            answers.append(answer.number or "ok")
+        entries = [[entry.ours, entry.partner, table.STATE_NAMES[entry.state]] for entry in rooms if entry is not None]
+        yield vector["answers"], answers
+        yield vector["entries"], sorted(entries, key=lambda entry: entry[0])
+
+
 def main(directory):
     total = 0
     for name, comparison in (("read.txt", compare_read), ("records.jsonl", compare_records),
                              ("write.jsonl", compare_write), ("steer.jsonl", compare_steer),
                              ("06-unitdata/read.jsonl", compare_unitdata_read),
                              ("06-unitdata/write.jsonl", compare_unitdata_write),
+                             ("10-table/histories.jsonl", compare_histories),
                              ("cases of the calls", compare_calls)):
         compared = differ = 0
         for expected, got in comparison(directory):
