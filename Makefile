@@ -4,7 +4,7 @@
 # make check     prove what has changed, and run the programs
 # make list      prove and build the listing program, and list a message with it
 # make archive   prove and build the library for C: target/lib/libgoldenskep.a
-# make examples  build the examples: target/examples/steer, answer, change, sccp
+# make examples  build the examples: target/examples/steer, answer, change, sccp, desk
 # make install   header, library and pkg-config file, under DESTDIR PREFIX (/usr/local)
 # make uninstall take these three away again
 # make ctest     the tests in C of the library; SEED (1) and COUNT (20000) of the model's cases
@@ -22,7 +22,7 @@ VERSION := $(shell sed -n 's/^\#define GOLDENSKEP_VERSION "\(.*\)"$$/\1/p' inclu
 ARCHIVE = target/lib/libgoldenskep.a
 CFLAGS = -std=c99 -Wall -Wextra -Wpedantic -O2
 SOURCES := crates.txt $(shell find crates -name '*.rt' -o -name '*.antt')
-EXAMPLES = target/examples/steer target/examples/answer target/examples/change target/examples/sccp
+EXAMPLES = target/examples/steer target/examples/answer target/examples/change target/examples/sccp target/examples/desk
 INCLUDED = $(DESTDIR)$(PREFIX)/include
 LIBRARIES = $(DESTDIR)$(PREFIX)/lib
 
