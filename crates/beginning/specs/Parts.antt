@@ -41,10 +41,11 @@ recordRead k d p part =
     next (idsOf k d p part) (λ i n. blamed (carriedBy i) (next (restOf k d (p + n) (drop n part)) (λ r c. got (i, recordFrom k (origIn (i .0)) (destIn (i .1)) (r .0) (r .1)) (n + c))))
 
 -- the standard answer and the refusal of a fault as the code has it
+-- x: the general problem in a component; y: the cause where nothing else is said
 unfoldable pub answerBy : ℕ → ℕ → Owner → InvokeId → Answer
-answerBy problem cause Owner.Portion i = Answer.AbortCause cause
-answerBy problem cause Owner.Dialogue i = Answer.AbortCause 3
-answerBy problem cause (Owner.Component k) i = Answer.RejectProblem problem k i
+answerBy x y Owner.Portion i = Answer.AbortCause y
+answerBy x y Owner.Dialogue i = Answer.AbortCause 3
+answerBy x y (Owner.Component k) i = Answer.RejectProblem x k i
 
 unfoldable pub answerFrom : Ground → Owner → InvokeId → Answer
 answerFrom Ground.UnknownMessage o i = Answer.AbortCause 0
