@@ -37,7 +37,7 @@ shown() {
     while IFS= read -r line; do
         case $line in
         'logic '* | 'logic='* | 'library '* | 'fn '*': proved' | 'struct '*': proved' | 'enum '*': proved' | 'const '*': proved') ;;
-        'impl '*': proved' | 'note: no function with a body'*) ;;
+        'impl '*': proved' | 'note: '* | *': note: '*) ;;
         'rt: must-fail '*': refused, as it must be'*)
             seconds
             edit=$((edit + 1)) edit_seconds=$((edit_seconds + took))
