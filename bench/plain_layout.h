@@ -1,5 +1,6 @@
 /* Reading, writing, steering and listing in plain C on the octets of the
- * library's layout, and unitdata: the same signatures and the same answers. */
+ * library's layout, unitdata, and a table of open transactions: the same
+ * signatures and the same answers. */
 #ifndef PLAIN_LAYOUT_H
 #define PLAIN_LAYOUT_H
 
@@ -10,7 +11,8 @@ enum {
     RECORD_SIZE = 428,
     RULE_SIZE = 12,
     HEAD_SIZE = 44,
-    ROW_SIZE = 24
+    ROW_SIZE = 24,
+    TABLE_SIZE = 768
 };
 
 /* What a record's dialogue octet may say. */
@@ -41,6 +43,8 @@ uint64_t plain_unitdata_read(const uint8_t *message, size_t message_len);
 uint64_t plain_unitdata_write(uint8_t protocol_class, const uint8_t *called, size_t called_len,
                               const uint8_t *calling, size_t calling_len, const uint8_t *data, size_t data_len,
                               uint8_t *out, size_t out_len);
+uint64_t plain_transaction(uint8_t *table, size_t table_len, uint8_t event, const uint8_t *ours, size_t ours_len,
+                           const uint8_t *partner, size_t partner_len);
 
 /* A refused reading as an answer. */
 static inline uint64_t refused_answer(const struct plain_refusal *no)

@@ -251,6 +251,7 @@ if [ $vectors = yes ]; then
     [ "$(cat "$tmp/out")" = "cases of read $read, write $write, steer $steer, list $read, unitdata read $unitdata_read, unitdata write $unitdata_write" ]
     count "every vector was compared" $?
 fi
+
 # ---- the table of open transactions, between guard pages and on a small stack ----
 
 if [ -n "${VECTORS:-}" ]; then
@@ -263,6 +264,9 @@ if [ -n "${VECTORS:-}" ]; then
     tail -n 1 "$tmp/out" | grep -q "^$events events, "
     count "every event was compared" $?
 fi
+
+# ---- all other calls on a small stack, and beside plain C ----
+
 one "calls on a small stack" run "$tmp/stack" "$@"
 sed '$d' "$tmp/out"
 one "altered calls beside plain C" run "$tmp/fuzz" "${SEED:-1}" "${ROUNDS:-20000}" "$@"
@@ -272,6 +276,10 @@ one "altered calls beside plain C" run "$tmp/fuzz" "${SEED:-1}" "${ROUNDS:-20000
 builds "plain C" sh "$here/stub.sh" "$tmp/plain/libgoldenskep.a"
 builds "harness over plain C" cc $calls -o "$tmp/plain_harness" "$here/harness.c" "$tmp/plain/libgoldenskep.a"
 one "plain C answers the same" run "$tmp/plain_harness" "$@"
+if [ -n "${VECTORS:-}" ]; then
+    builds "table over plain C" cc $calls -Wl,-z,now -o "$tmp/plain_table" "$here/table.c" "$tmp/plain/libgoldenskep.a"
+    one "plain C answers the same on a table" run "$tmp/plain_table" "$tmp/table.cases"
+fi
 
 # ---- do the tests notice? ----
 

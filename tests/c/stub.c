@@ -36,6 +36,12 @@ uint64_t goldenskep_unitdata_write(uint8_t protocol_class, const uint8_t *called
                                 out_len);
 }
 
+uint64_t goldenskep_transaction(uint8_t *table, size_t table_len, uint8_t event, const uint8_t *ours,
+                                size_t ours_len, const uint8_t *partner, size_t partner_len)
+{
+    return plain_transaction(table, table_len, event, ours, ours_len, partner, partner_len);
+}
+
 uint32_t goldenskep_layout(void)
 {
     return plain_layout();

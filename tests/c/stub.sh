@@ -11,7 +11,8 @@ root=$(cd "$here/../.." && pwd)
 tmp=$(mktemp -d)
 trap 'rm -rf "$tmp"' EXIT
 
-for source in bench/plain bench/plain_read bench/plain_write bench/plain_steer bench/plain_list bench/plain_unitdata tests/c/stub; do
+for source in bench/plain bench/plain_read bench/plain_write bench/plain_steer bench/plain_list bench/plain_unitdata \
+    bench/plain_table tests/c/stub; do
     # -fno-stack-protector: some compilers put in calls of their own
     sh "$root/tools/cc.sh" cc -std=c99 -Wall -Wextra -Wpedantic -Werror -O2 -fPIC -fno-stack-protector \
         -I"$root/include" -I"$root/bench" -c -o "$tmp/$(basename $source).o" "$root/$source.c"
