@@ -1,8 +1,10 @@
 #!/bin/sh
 # Counts the instructions of an event on a table of open transactions: count_table.sh ARCHIVE
 #
+# The library's beside those of plain C that does the same job (plain_table.c -O2).
+#
 # A count is the difference between a run of n and one of 2n rounds, less the same
-# for a call that only returns. Counted by qemu-x86_64 with the plug-in icount.c.
+# for a call that only returns; the answers must be the same. Counted by qemu-x86_64 with the plug-in icount.c.
 set -eu
 if [ $# -ne 1 ]; then
     echo "usage: count_table.sh ARCHIVE" >&2
@@ -18,18 +20,34 @@ if ! command -v qemu-x86_64 >/dev/null || ! ${HOSTCC:-cc} -O2 -shared -fPIC -o "
     echo "none counted: that needs qemu-x86_64 with plug-ins"
     exit 0
 fi
-sh "$root/tools/cc.sh" cc -std=c99 -Wall -Wextra -O2 -I"$root/include" -DNOTHING -Wl,-z,now -o "$tmp/nothing" "$here/count_table.c"
-sh "$root/tools/cc.sh" cc -std=c99 -Wall -Wextra -O2 -I"$root/include" -Wl,-z,now -o "$tmp/library" "$here/count_table.c" "$archive"
+
+build() {
+    sh "$root/tools/cc.sh" cc -std=c99 -Wall -Wextra -O2 -I"$root/include" -I"$here" -Wl,-z,now "$@"
+}
+
+# The loop is the same under every implementation.
+build -DNOTHING -o "$tmp/nothing" "$here/count_table.c"
+build -o "$tmp/library" "$here/count_table.c" "$archive"
+build -Dgoldenskep_transaction=plain_transaction -o "$tmp/plain" "$here/count_table.c" "$here/plain_table.c"
 
 # instructions PROGRAM CASE ROUNDS: of one whole run; the rounds have always eight digits
 instructions() {
-    sh "$root/tools/cc.sh" count "$tmp/icount.so" "$tmp/$1" "$2" "$(printf '%08d' "$3")" 2>&1 >/dev/null | sed -n 's/^instructions //p'
+    sh "$root/tools/cc.sh" count "$tmp/icount.so" "$tmp/$1" "$2" "$(printf '%08d' "$3")" 2>&1 >"$tmp/$1.answer" | sed -n 's/^instructions //p'
 }
 
+# difference PROGRAM CASE: the instructions of 1000 rounds
+difference() {
+    one=$(instructions "$1" "$2" 1000)
+    two=$(instructions "$1" "$2" 2000)
+    echo $((two - one))
+}
+
+printf '%-16s %8s %8s\n' event library plain
 for name in bad-id activates-first learns-first closes-first closes-last opens-first full; do
-    one=$(instructions library $name 1000)
-    two=$(instructions library $name 2000)
-    none=$(instructions nothing $name 1000)
-    twice=$(instructions nothing $name 2000)
-    echo "$name $(((two - one - twice + none) / 1000))"
+    none=$(difference nothing $name)
+    library=$(difference library $name)
+    plain=$(difference plain $name)
+    printf '%-16s %8d %8d' $name $(((library - none) / 1000)) $(((plain - none) / 1000))
+    cmp -s "$tmp/library.answer" "$tmp/plain.answer" || printf '  DIFFER'
+    echo
 done

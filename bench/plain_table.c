@@ -38,6 +38,31 @@ static int is_free(const uint8_t *entry)
     return entry[0] < INITIATION_SENT || entry[0] > ACTIVE;
 }
 
+/* The entry under this ID, which is followed by zeros, or 64. */
+static int find(const uint8_t *table, const uint8_t *id, size_t len)
+{
+    int k;
+
+    for (k = 0; k < ENTRIES; k++) {
+        const uint8_t *entry = table + ENTRY_SIZE * k;
+
+        if (memcmp(entry + OURS, id, MOST_IN_ID) == 0 && entry[1] == len && !is_free(entry))
+            break;
+    }
+    return k;
+}
+
+/* The first free entry, or 64. */
+static int find_room(const uint8_t *table)
+{
+    int k;
+
+    for (k = 0; k < ENTRIES; k++)
+        if (is_free(table + ENTRY_SIZE * k))
+            break;
+    return k;
+}
+
 static uint64_t done(int deed, int k)
 {
     return (uint64_t)deed << 8 | (uint64_t)k << 16;
@@ -84,31 +109,25 @@ static uint64_t step(uint8_t *entry, int k, uint8_t event, const uint8_t *partne
 uint64_t plain_transaction(uint8_t *table, size_t table_len, uint8_t event, const uint8_t *ours, size_t ours_len,
                            const uint8_t *partner, size_t partner_len)
 {
-    int begins = event == BEGIN_SENT || event == BEGIN_RECEIVED;
     int brings_partner = event == BEGIN_RECEIVED || event == CONTINUE_RECEIVED;
     uint8_t id[MOST_IN_ID];
     uint8_t *entry;
-    int k, room = ENTRIES;
+    int k;
 
     if (table_len < TABLE_SIZE)
         return STATUS_NO_ROOM;
     if (!is_id(ours_len) || (brings_partner && !is_id(partner_len)))
         return 40;
     put_id(id, ours, ours_len);
-    for (k = 0; k < ENTRIES; k++) {
-        entry = table + ENTRY_SIZE * k;
-        if (is_free(entry)) {
-            if (room == ENTRIES)
-                room = k;
-        } else if (entry[1] == ours_len && memcmp(entry + OURS, id, MOST_IN_ID) == 0) {
-            return begins ? 41 : step(entry, k, event, partner, partner_len);
-        }
-    }
-    if (!begins)
+    k = find(table, id, ours_len);
+    if (event != BEGIN_SENT && event != BEGIN_RECEIVED)
+        return k == ENTRIES ? 41 : step(table + ENTRY_SIZE * k, k, event, partner, partner_len);
+    if (k != ENTRIES)
         return 41;
-    if (room == ENTRIES)
+    k = find_room(table);
+    if (k == ENTRIES)
         return 43;
-    entry = table + ENTRY_SIZE * room;
+    entry = table + ENTRY_SIZE * k;
     memset(entry, 0, ENTRY_SIZE);
     entry[0] = event == BEGIN_SENT ? INITIATION_SENT : INITIATION_RECEIVED;
     entry[1] = (uint8_t)ours_len;
@@ -117,5 +136,5 @@ uint64_t plain_transaction(uint8_t *table, size_t table_len, uint8_t event, cons
         entry[2] = (uint8_t)partner_len;
         put_id(entry + PARTNER, partner, partner_len);
     }
-    return done(OPENED, room);
+    return done(OPENED, k);
 }
