@@ -61,7 +61,7 @@ demo: target/examples/steer
 	sh tools/cc.sh run target/examples/steer examples/rules.txt examples/messages.hex
 
 install: $(ARCHIVE)
-	mkdir -p "$(INCLUDED)" "$(LIBRARIES)/pkgconfig"
+	mkdir -p target "$(INCLUDED)" "$(LIBRARIES)/pkgconfig"
 	install -m 644 include/goldenskep.h "$(INCLUDED)/goldenskep.h"
 	install -m 644 $(ARCHIVE) "$(LIBRARIES)/libgoldenskep.a"
 	sed 's,@PREFIX@,$(abspath $(PREFIX)),; s,@VERSION@,$(VERSION),' goldenskep.pc.in >target/goldenskep.pc

@@ -84,7 +84,7 @@ one "all is under DESTDIR" three "$tmp/there/opt/goldenskep"
 one "the pkg-config file names PREFIX without DESTDIR" \
     grep -q -x 'prefix=/opt/goldenskep' "$tmp/there/opt/goldenskep/lib/pkgconfig/goldenskep.pc"
 one "make uninstall DESTDIR=.." gone
-one "nothing is left to fill in" sh -c '! grep @ "$1"' sh "$tmp/here/lib/pkgconfig/goldenskep.pc"
+one "nothing is left to fill in" sh -c '[ -s "$1" ] && ! grep @ "$1"' sh "$tmp/here/lib/pkgconfig/goldenskep.pc"
 if command -v pkg-config >/dev/null; then
     echo "flags by pkg-config"
 else
