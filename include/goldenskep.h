@@ -12,7 +12,8 @@
  *   - lists a message as text               goldenskep_list
  *   - reads and writes the SCCP unitdata    goldenskep_unitdata_read,
  *     that messages come in                 goldenskep_unitdata_write
- *   - keeps a table of open transactions    goldenskep_table_step
+ *   - keeps a table of open transactions,   goldenskep_table_step
+ *     in octets that the host lends
  *
  * Each call answers one number of 64 bits: done, that no rule fits, or a refusal
  * with all that belongs to it. The accessors below take answers and records
@@ -54,6 +55,7 @@
  * And what a host sees to, so that what it reads means something:
  *
  *   - A message stays for as long as the spans of its record are used.
+ *   - A table is in one call at a time.
  *   - Header and library are of one layout: goldenskep_header_fits().
  *
  * The functions keep no state, allocate nothing and call nothing but memcpy and
@@ -72,13 +74,13 @@
 #define GOLDENSKEP_VERSION_PATCH 0
 
 #define GOLDENSKEP_LAYOUT_VERSION 2
-#define GOLDENSKEP_RECORD_SIZE 428   /* octets of a record */
-#define GOLDENSKEP_RULE_SIZE 12      /* octets of a rule */
-#define GOLDENSKEP_MAX_MESSAGE 255   /* octets of a message */
-#define GOLDENSKEP_MAX_COMPONENTS 16 /* of a message */
-#define GOLDENSKEP_LISTING_SIZE 1153 /* octets; no listing is longer */
-#define GOLDENSKEP_UNITDATA_SIZE 515 /* octets; no unitdata that is written is longer */
-#define GOLDENSKEP_TABLE_SIZE 768    /* octets of a table of open transactions */
+#define GOLDENSKEP_RECORD_SIZE 428     /* octets of a record */
+#define GOLDENSKEP_RULE_SIZE 12        /* octets of a rule */
+#define GOLDENSKEP_MAX_MESSAGE 255     /* octets of a message */
+#define GOLDENSKEP_MAX_COMPONENTS 16   /* of a message */
+#define GOLDENSKEP_LISTING_SIZE 1153   /* octets; no listing is longer */
+#define GOLDENSKEP_UNITDATA_SIZE 515   /* octets; no unitdata that is written is longer */
+#define GOLDENSKEP_TABLE_SIZE 768      /* octets of a table of open transactions */
 #define GOLDENSKEP_MAX_TRANSACTIONS 64 /* of a table */
 
 /* What goldenskep_layout() answers if the library is of this header's layout. */
@@ -103,7 +105,8 @@ typedef struct goldenskep_table {
     uint8_t octets[GOLDENSKEP_TABLE_SIZE];
 } goldenskep_table;
 
-/* A string: so many octets, from this place on, of the octets beside a record. */
+/* A string: so many octets, from this place on, of the octets beside a record; of
+ * a unitdata or a table, of its own octets. */
 typedef struct goldenskep_span {
     uint32_t place;
     uint32_t length;
@@ -169,9 +172,9 @@ uint64_t goldenskep_unitdata_write(uint8_t protocol_class,
                                    const uint8_t *data, size_t data_length,
                                    uint8_t *out, size_t out_length);
 
-/* An event of an open transaction, in a table that is changed in place: our ID,
- * and the partner's with a Begin or Continue received. Of other events it is
- * neither asked nor kept.
+/* Takes an event of a transaction into the table, which is changed in place. The
+ * transaction goes by our ID. The partner's is given with a Begin or Continue
+ * received; with other events it is neither asked nor kept.
  *
  * Done: the answer says what was done in which entry, and no other entry is
  * changed. Refused (40 to 43): the table stays as it was. With less than
@@ -195,7 +198,9 @@ uint32_t goldenskep_layout(void);
 #define GOLDENSKEP_AS_(type, value) ((type)(value))
 #endif
 
-/* ---- the calls, on records and rules ---- */
+/* ---- the calls, on records and rules ----
+ *
+ * That on a table is goldenskep_table_step(), at the end, with what a table has. */
 
 /* 1 if header and library are of one layout. Ask once, at the start. */
 static inline int goldenskep_header_fits(void)
@@ -230,13 +235,14 @@ static inline uint64_t goldenskep_steer_rules(const uint8_t *message, size_t len
 /* ---- values ----
  *
  * Values are those of Q.773, the tag where it has one. This library's own are the
- * statuses, the kinds of dialogue, and 0 for any or none. The accessors give
- * values as int: the octets of a record may hold others than these. */
+ * statuses, the kinds of dialogue, events, states and deeds, and 0 for any or
+ * none. The accessors give values as int: the octets of a record may hold others
+ * than these. */
 
 /* How a call ended: the status of an answer. */
 enum goldenskep_status {
     GOLDENSKEP_STATUS_DONE = 0,
-    /* reading */
+    /* reading; 10 is given to nothing */
     GOLDENSKEP_STATUS_CUT_OFF = 1,        /* tag, length or end pair cut off, or no octets */
     GOLDENSKEP_STATUS_TAG = 2,            /* tag badly extended */
     GOLDENSKEP_STATUS_LENGTH = 3,         /* length not fewest, reserved, or indefinite on a primitive */
@@ -266,7 +272,7 @@ enum goldenskep_status {
     GOLDENSKEP_STATUS_UNITDATA_RANGE = 35,    /* a part's length, or the addresses' sum, out of range */
     /* the table of open transactions */
     GOLDENSKEP_STATUS_ID = 40,            /* an ID not of 1 to 4 octets */
-    GOLDENSKEP_STATUS_ID_UNKNOWN = 41,    /* no open transaction of ours; of a Begin: one is open */
+    GOLDENSKEP_STATUS_ID_UNKNOWN = 41,    /* no transaction is open under our ID; of a Begin: one is */
     GOLDENSKEP_STATUS_STATE = 42,         /* not allowed in this state */
     GOLDENSKEP_STATUS_TABLE_FULL = 43,    /* a Begin with 64 open */
     /* steering */
@@ -730,7 +736,7 @@ static inline uint32_t goldenskep_answer_link(uint64_t answer)
     return GOLDENSKEP_AS_(uint32_t, answer >> 32);
 }
 
-/* Done in a table: what was done, and in which entry. */
+/* Done with an event: what was done, and in which entry of the table. */
 static inline int goldenskep_answer_deed(uint64_t answer)
 {
     return GOLDENSKEP_AS_(int, goldenskep_bits_(answer, 8, 8));
@@ -1443,8 +1449,8 @@ static inline uint32_t goldenskep_rule_link(const goldenskep_rule *rule)
 
 /* ---- unitdata ----
  *
- * Of an answer that is done: where the parts stand in the unitdata that was
- * read, each without its length octet. Data may be empty. */
+ * Of the answer of a reading that is done: where the parts stand in the unitdata,
+ * each without its length octet. Data may be empty. */
 
 /* Of no use to a host: a part in an answer. */
 static inline goldenskep_span goldenskep_unitdata_part_(uint64_t answer, int from)
@@ -1477,8 +1483,9 @@ static inline uint8_t goldenskep_unitdata_class(const uint8_t *message)
 }
 
 /* Writes a unitdata with this data back to where one that was read came from: of
- * its class, called and calling address swapped. The answer is that of reading it,
- * which is done. */
+ * its class, called and calling address swapped. `answer` is that of its reading,
+ * which must be done. If its addresses have more than 252 octets together, which
+ * reading takes, it is 35. */
 static inline uint64_t goldenskep_unitdata_write_back(const uint8_t *message, uint64_t answer,
                                                       const uint8_t *data, size_t data_length,
                                                       uint8_t *out, size_t out_length)
@@ -1529,7 +1536,8 @@ static inline int goldenskep_entry_state(const goldenskep_table *table, long k)
     return state <= GOLDENSKEP_STATE_ACTIVE ? state : GOLDENSKEP_STATE_IDLE;
 }
 
-/* Our ID, in the octets of the table: the originating ID of what we send. */
+/* Our ID, in the octets of the table: the originating ID of what we send. For an
+ * event of the same table it is copied first: the table is written. */
 static inline goldenskep_span goldenskep_entry_ours(const goldenskep_table *table, long k)
 {
     uint32_t length = goldenskep_entry_(table, k)[1];
