@@ -1,5 +1,6 @@
 """Usage: table_cases.py SEED COUNT VECTORS_DIR OUT. Events on a table of open transactions, by the model:
-the histories of the vectors, COUNT random events, and events on octets that no history leaves.
+the histories of the vectors (none, if VECTORS_DIR is -), COUNT random events, and events on octets that no
+history leaves.
 
 The file begins with "GSKTABL1". Then each event: 1 and the table before it, or 0 if it goes on with the one that
 the last event left; the event's number; our ID; the partner's ID; the answer; the table after it. The table and
@@ -83,7 +84,7 @@ def strange_tables(random, count):
 
 def main(seed, count, directory, path):
     random = Random(seed)
-    parts = (("vectors", histories(directory)), ("random", random_events(random, count)),
+    parts = (("vectors", () if directory == "-" else histories(directory)), ("random", random_events(random, count)),
              ("strange", strange_tables(random, count // 10)))
     with open(path, "wb") as file:
         file.write(MAGIC)
