@@ -699,6 +699,15 @@ static void check_unitdata(void)
     CHECK(goldenskep_unitdata_read(octets, n) == GOLDENSKEP_STATUS_UNITDATA_OVERLAP);
     n = octets_of("09 00 03 03 04 00 01 BB 00", octets, sizeof octets);
     CHECK(goldenskep_unitdata_read(octets, n) == GOLDENSKEP_STATUS_UNITDATA_ADDRESS);
+
+    /* addresses of 130 octets each are read, but not written back */
+    memset(octets, 0x5A, sizeof octets);
+    octets_of("09 00 04 86 01 00 82", octets, sizeof octets);
+    octets[137] = 130;
+    answer = goldenskep_unitdata_read(octets, 268);
+    CHECK(goldenskep_answer_is_done(answer));
+    CHECK(goldenskep_unitdata_called(answer).length == 130 && goldenskep_unitdata_calling(answer).place == 138);
+    CHECK(goldenskep_unitdata_write_back(octets, answer, NULL, 0, out, sizeof out) == GOLDENSKEP_STATUS_UNITDATA_RANGE);
     CHECK(!goldenskep_answer_is_unreadable(GOLDENSKEP_STATUS_UNITDATA_TYPE));
 }
 
