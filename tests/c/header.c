@@ -648,7 +648,6 @@ static void check_parts(void)
     CHECK(write_record() == GOLDENSKEP_STATUS_PARTS);
 }
 
-/* The words of the values from 0 or `from` on: known for so many, none like another. */
 /* A unitdata: what the answer tells of it, and one written back. */
 static void check_unitdata(void)
 {
@@ -711,6 +710,7 @@ static void check_unitdata(void)
     CHECK(!goldenskep_answer_is_unreadable(GOLDENSKEP_STATUS_UNITDATA_TYPE));
 }
 
+/* The words of the values from `from` on: known for so many, none like another. */
 static void check_known(const char *(*words)(int), int from, int count, const char *unknown)
 {
     CHECK(strcmp(words(from - 1), unknown) == 0 && strcmp(words(from + count), unknown) == 0);
