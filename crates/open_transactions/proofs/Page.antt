@@ -153,10 +153,16 @@ stateAfter (some k) = k .state
 abbrev told : Answer × Option Known → ℕ × State
 told a = (numberOf (a .0), stateAfter (a .1))
 
-abbrev inEach : Event → List (ℕ × State)
-inEach e = map (λ s. told (pageSays false e (0x41 ∷ []) (0x50 ∷ []) (inState s))) (State.Idle ∷ State.InitiationSent ∷ State.InitiationReceived ∷ State.Active ∷ [])
+abbrev everyState : List State
+everyState = State.Idle ∷ State.InitiationSent ∷ State.InitiationReceived ∷ State.Active ∷ []
 
-pub page : map inEach (Event.BeginSent ∷ Event.BeginReceived ∷ Event.ContinueSent ∷ Event.ContinueReceived ∷ Event.EndSent ∷ Event.EndReceived ∷ Event.AbortSent ∷ Event.AbortReceived ∷ Event.LocalClose ∷ Event.Other ∷ []) ≡
+abbrev everyEvent : List Event
+everyEvent = Event.BeginSent ∷ Event.BeginReceived ∷ Event.ContinueSent ∷ Event.ContinueReceived ∷ Event.EndSent ∷ Event.EndReceived ∷ Event.AbortSent ∷ Event.AbortReceived ∷ Event.LocalClose ∷ Event.Other ∷ []
+
+abbrev inEach : Event → List (ℕ × State)
+inEach e = map (λ s. told (pageSays false e (0x41 ∷ []) (0x51 ∷ []) (inState s))) everyState
+
+pub page : map inEach everyEvent ≡
     ((0, State.InitiationSent) ∷ (41, State.InitiationSent) ∷ (41, State.InitiationReceived) ∷ (41, State.Active) ∷ []) ∷
     ((0, State.InitiationReceived) ∷ (41, State.InitiationSent) ∷ (41, State.InitiationReceived) ∷ (41, State.Active) ∷ []) ∷
     ((41, State.Idle) ∷ (42, State.InitiationSent) ∷ (0, State.Active) ∷ (0, State.Active) ∷ []) ∷
@@ -169,3 +175,61 @@ pub page : map inEach (Event.BeginSent ∷ Event.BeginReceived ∷ Event.Continu
     ((41, State.Idle) ∷ (42, State.InitiationSent) ∷ (42, State.InitiationReceived) ∷ (42, State.Active) ∷ []) ∷ []
 unfolding pageSays idsOk idOk
 page = refl
+
+-- The partner's ID after it: 50 is known before, 51 comes with the event
+
+abbrev partnerAfter : Option Known → Option (List ℕ)
+partnerAfter none = none
+partnerAfter (some k) = k .partner
+
+abbrev old : Option (List ℕ)
+old = some (0x50 ∷ [])
+
+abbrev new : Option (List ℕ)
+new = some (0x51 ∷ [])
+
+abbrev partnersOf : Event → List (Option (List ℕ))
+partnersOf e = map (λ s. partnerAfter (pageSays false e (0x41 ∷ []) (0x51 ∷ []) (inState s) .1)) everyState
+
+pub page-partner : map partnersOf everyEvent ≡
+    (none ∷ none ∷ old ∷ old ∷ []) ∷
+    (new ∷ none ∷ old ∷ old ∷ []) ∷
+    (none ∷ none ∷ old ∷ old ∷ []) ∷
+    (none ∷ new ∷ old ∷ old ∷ []) ∷
+    (none ∷ none ∷ none ∷ none ∷ []) ∷
+    (none ∷ none ∷ old ∷ none ∷ []) ∷
+    (none ∷ none ∷ none ∷ none ∷ []) ∷
+    (none ∷ none ∷ old ∷ none ∷ []) ∷
+    (none ∷ none ∷ none ∷ none ∷ []) ∷
+    (none ∷ none ∷ old ∷ old ∷ []) ∷ []
+unfolding pageSays idsOk idOk
+page-partner = refl
+
+-- The number by itself: our ID of 0 and of 5 octets, the partner's of 0 and of 5, all four unknown; then a full table, our ID unknown, and active
+
+abbrev five : List ℕ
+five = 1 ∷ 2 ∷ 3 ∷ 4 ∷ 5 ∷ []
+
+abbrev numbersOf : Event → List ℕ
+numbersOf e =
+    map (λ (a : Answer × Option Known). numberOf (a .0))
+    (pageSays false e [] (0x51 ∷ []) none ∷
+    pageSays false e five (0x51 ∷ []) none ∷
+    pageSays false e (0x41 ∷ []) [] none ∷
+    pageSays false e (0x41 ∷ []) five none ∷
+    pageSays true e (0x41 ∷ []) (0x51 ∷ []) none ∷
+    pageSays true e (0x41 ∷ []) (0x51 ∷ []) (inState State.Active) ∷ [])
+
+pub page-number : map numbersOf everyEvent ≡
+    (40 ∷ 40 ∷ 0 ∷ 0 ∷ 43 ∷ 41 ∷ []) ∷
+    (40 ∷ 40 ∷ 40 ∷ 40 ∷ 43 ∷ 41 ∷ []) ∷
+    (40 ∷ 40 ∷ 41 ∷ 41 ∷ 41 ∷ 0 ∷ []) ∷
+    (40 ∷ 40 ∷ 40 ∷ 40 ∷ 41 ∷ 0 ∷ []) ∷
+    (40 ∷ 40 ∷ 41 ∷ 41 ∷ 41 ∷ 0 ∷ []) ∷
+    (40 ∷ 40 ∷ 41 ∷ 41 ∷ 41 ∷ 0 ∷ []) ∷
+    (40 ∷ 40 ∷ 41 ∷ 41 ∷ 41 ∷ 0 ∷ []) ∷
+    (40 ∷ 40 ∷ 41 ∷ 41 ∷ 41 ∷ 0 ∷ []) ∷
+    (40 ∷ 40 ∷ 41 ∷ 41 ∷ 41 ∷ 0 ∷ []) ∷
+    (40 ∷ 40 ∷ 41 ∷ 41 ∷ 41 ∷ 42 ∷ []) ∷ []
+unfolding pageSays idsOk idOk
+page-number = refl
