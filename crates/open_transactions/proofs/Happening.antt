@@ -15,7 +15,7 @@ use Rattle.open_transactions.proofs.Holding.{held-of, same-holders, one
 -- the entries before, the entries after, and the answer
 pub data Happened (o : List ℕ) : List Entry → List Entry → Taken → Type 0 where
   barred : {es : List Entry} {k : TableRefusal} → Happened o es es (Taken.Refused k)
-  stayed : {es : List Entry} {i : ℕ} → Happened o es es (Taken.Kept i)
+  stayed : {es : List Entry} {i : ℕ} → findFrom (holds o) 0 es ≡ Room.At i → Happened o es es (Taken.Kept i)
   moved : {es : List Entry} {i : ℕ} (e : Entry) → length o < 5 → findFrom (holds o) 0 es ≡ Room.At i → holds o e ≡ true → Happened o es (set es i e) (Taken.Kept i)
   shut : {es : List Entry} {i : ℕ} → length o < 5 → findFrom (holds o) 0 es ≡ Room.At i → Happened o es (set es i blankEntry) (Taken.Closed i)
   begun : {es : List Entry} {i : ℕ} (e : Entry) → length o < 5 → findFrom (holds o) 0 es ≡ Room.Nowhere → findFrom isFree 0 es ≡ Room.At i → holds o e ≡ true → Happened o es (set es i e) (Taken.Opened i)
@@ -50,7 +50,7 @@ module _ (t : Table) (o p : List ℕ) (short : length o < 5) where
   move-does : (i : ℕ) → findFrom (holds o) 0 (t .entries) ≡ Room.At i → (v : Move) → Does (moving i v)
   unfolding done
   move-does i f Move.Barred = barred
-  move-does i f Move.Stay = stayed
+  move-does i f Move.Stay = stayed f
   move-does i f Move.Activate = moved (activeNow (getD (t .entries) i blankEntry)) short f (active-holds o (getD (t .entries) i blankEntry) (first-of (holds o) i (t .entries) f .passes))
   move-does i f Move.Learn = moved (entryFor State.Active o p) short f (made-holds State.Active o p refl)
   move-does i f Move.Close = shut short f
@@ -73,7 +73,7 @@ step-does t e o p = by-ids (idsOk e o p) refl
 
 pub open-counts : {o : List ℕ} {es fs : List Entry} {k : Taken} → Happened o es fs k → countIn isOpenEntry fs + one (isClosed k) ≡ countIn isOpenEntry es + one (isOpened k)
 open-counts barred = refl
-open-counts stayed = refl
+open-counts (stayed f) = refl
 open-counts {o} {es} (moved {i = i} e s f h) =
     let g = first-of (holds o) i es f in
     let c = set-count isOpenEntry es i e (g .within) in
@@ -108,7 +108,7 @@ at-most-one false = omega arith
 
 pub keeps-sound : {o : List ℕ} {es fs : List Entry} {k : Taken} → Happened o es fs k → Sound es → Sound fs
 keeps-sound barred z = z
-keeps-sound stayed z = z
+keeps-sound (stayed f) z = z
 keeps-sound {o} {es} (moved {i = i} e s f h) z =
     let g = first-of (holds o) i es f in
     record {
@@ -145,7 +145,7 @@ keeps-sound {o} {es} (begun {i = i} e s n f h) z =
 
 pub others-known : {o : List ℕ} {es fs : List Entry} {k : Taken} (id : List ℕ) → (id ≡ o → ⊥) → Happened o es fs k → knownAt fs (findFrom (holds id) 0 fs) ≡ knownAt es (findFrom (holds id) 0 es)
 others-known id n barred = refl
-others-known id n stayed = refl
+others-known id n (stayed f) = refl
 others-known {o} {es} id n (moved {i = i} e s f h) = known-stays (holds id) es i e (other-id (getD es i blankEntry) o id s n (first-of (holds o) i es f .passes)) (other-id e o id s n h)
 others-known {o} {es} id n (shut {i = i} s f) = known-stays (holds id) es i blankEntry (other-id (getD es i blankEntry) o id s n (first-of (holds o) i es f .passes)) (blank-holds id)
 others-known {o} {es} id n (begun {i = i} e s u f h) = known-stays (holds id) es i e (free-holds id (getD es i blankEntry) (first-of isFree i es f .passes)) (other-id e o id s n h)

@@ -4,7 +4,7 @@ use native.Mathlib.Omega.{arith}
 use mathlib.Core.Path.{_≡_, refl, sym, _∙_}
 use mathlib.Core.Bool.{Bool, true, false, cond, false≢true}
 use mathlib.Core.List.{List, [], _∷_}
-use lib.ListN.{length, getD}
+use lib.ListN.{length, getD, take, drop}
 use lib.Seq.{ext-getD}
 use lib.Dec.{eqb}
 use borrow.Author.Tests.{eqb-true, eq-eqb}
@@ -99,6 +99,16 @@ made-holds s o p h = rw (h, eq-eqb (length o) (length o) refl, eq-eqb (getD o 0 
 pub active-holds : (o : List ℕ) (e : Entry) → holds o e ≡ true → holds o (activeNow e) ≡ true
 unfolding holds sameId
 active-holds o e h = both (isOpen (e .state)) (sameId e o) h .1
+
+-- our ID stands in the entry as it was given
+pub ours-stands : (s : State) (o p : List ℕ) → length o < 5 → take (entryFor s o p .ours .0 .octets .len) (drop (entryFor s o p .ours .0 .octets .place) (entryFor s o p .octets)) ≡ o
+unfolding entryFor
+ours-stands s [] p h = refl
+ours-stands s (a ∷ []) p h = refl
+ours-stands s (a ∷ b ∷ []) p h = refl
+ours-stands s (a ∷ b ∷ c ∷ []) p h = refl
+ours-stands s (a ∷ b ∷ c ∷ d ∷ []) p h = refl
+ours-stands s (a ∷ b ∷ c ∷ d ∷ e ∷ r) p h = absurd (omega (arith, h))
 
 -- the partner's ID stands in the entry as it was given
 pub partner-stands : (s : State) (o p : List ℕ) → length p < 5 → partnerIn (entryFor s o p .octets) (entryFor s o p .partner) ≡ given p

@@ -1,9 +1,9 @@
 -- A step answers and changes what the page says of its ID; and the page's table, computed. Assumes nothing.
 use Prim.Native.Nat.{ℕ, _<_}
 use native.Mathlib.Omega.{arith}
-use mathlib.Core.Path.{_≡_, refl, ap, _∙_}
+use mathlib.Core.Path.{_≡_, refl, sym, ap, _∙_}
 use mathlib.Core.Logic.{_↔_}
-use mathlib.Core.Bool.{Bool, true, false}
+use mathlib.Core.Bool.{Bool, true, false, false≢true}
 use mathlib.Core.List.{List, [], _∷_, map}
 use mathlib.Core.Option.{Option, none, some}
 use lib.ListN.{length, getD, set}
@@ -96,49 +96,116 @@ step-says t z e o p = by-ids (idsOk e o p) refl
         rw q (found-says t z o (toldBy e p) (s .ours) (s .partner) e (beginsOf e) refl (findFrom (holds o) 0 (t .entries)) refl)
     by-ids false q = rw q
 
--- 43, over what the page says
+-- The number, over what the page says
+
+abbrev pub numberOf : Answer → ℕ
+numberOf (refused k) = refusalNumber k
+numberOf opened = 0
+numberOf kept = 0
+numberOf closed = 0
 
 abbrev pub begins : Begins → Bool
 begins (Begins.In s) = true
 begins Begins.Never = false
 
--- the IDs are sound, ours is not known, and 64 are open
+abbrev pub isKnown : Option Known → Bool
+isKnown none = false
+isKnown (some k) = true
+
+-- 41: a Begin under an ID that is known, or another event under one that is not
+pub record Mismatched (e : Event) (o p : List ℕ) (k : Option Known) : Type 0 where
+  pub sound : idsOk e o p ≡ true
+  pub wrong : begins (beginsOf e) ≡ isKnown k
+
+-- 42: the state does not allow it
+pub record BarredFor (e : Event) (o p : List ℕ) (k : Option Known) : Type 0 where
+  pub sound : idsOk e o p ≡ true
+  pub other : begins (beginsOf e) ≡ false
+  pub entry : Known
+  pub known : k ≡ some entry
+  pub barred : moveOf e (entry .state) ≡ Move.Barred
+
+-- 43: the IDs are sound, ours is not known, and 64 are open
 pub record FullFor (full : Bool) (e : Event) (o p : List ℕ) (k : Option Known) : Type 0 where
   pub opens : begins (beginsOf e) ≡ true
   pub sound : idsOk e o p ≡ true
   pub unknown : k ≡ none
   pub all : full ≡ true
 
-moves-not-full : (k : Known) (p : Option (List ℕ)) (v : Move) → pageMoves k p v .0 ≡ refused TableRefusal.Full → ⊥
-moves-not-full k p Move.Barred h = let z : _≡_ {A = ℕ} 0 1 = cc in omega arith
-moves-not-full k p Move.Stay h = let z : _≡_ {A = ℕ} 0 1 = cc in omega arith
-moves-not-full k p Move.Activate h = let z : _≡_ {A = ℕ} 0 1 = cc in omega arith
-moves-not-full k p Move.Learn h = let z : _≡_ {A = ℕ} 0 1 = cc in omega arith
-moves-not-full k p Move.Close h = let z : _≡_ {A = ℕ} 0 1 = cc in omega arith
+pub data Why (full : Bool) (e : Event) (o p : List ℕ) (k : Option Known) : ℕ → Type 0 where
+  why-40 : idsOk e o p ≡ false → Why full e o p k 40
+  why-41 : Mismatched e o p k → Why full e o p k 41
+  why-42 : BarredFor e o p k → Why full e o p k 42
+  why-43 : FullFor full e o p k → Why full e o p k 43
+  why-0 : Why full e o p k 0
 
-pub full-says : (full : Bool) (e : Event) (o p : List ℕ) (k : Option Known) → (pageSays full e o p k .0 ≡ refused TableRefusal.Full) ↔ FullFor full e o p k
+why-moves : (full : Bool) (e : Event) (o p : List ℕ) (k : Known) → idsOk e o p ≡ true → begins (beginsOf e) ≡ false → (v : Move) → moveOf e (k .state) ≡ v → Why full e o p (some k) (numberOf (pageMoves k (given (toldBy e p)) v .0))
+why-moves full e o p k q r Move.Barred h = why-42 (record { sound = q; other = r; entry = k; known = refl; barred = h })
+why-moves full e o p k q r Move.Stay h = why-0
+why-moves full e o p k q r Move.Activate h = why-0
+why-moves full e o p k q r Move.Learn h = why-0
+why-moves full e o p k q r Move.Close h = why-0
+
+pub why-says : (full : Bool) (e : Event) (o p : List ℕ) (k : Option Known) → Why full e o p k (numberOf (pageSays full e o p k .0))
 unfolding pageSays
-full-says full e o p k = (λ h. by-ids h (idsOk e o p) refl (beginsOf e) refl k refl full refl, λ f. back f (beginsOf e) refl)
+why-says full e o p k = by-ids full k (idsOk e o p) refl (beginsOf e) refl
   where
-    by-ids : pageSays full e o p k .0 ≡ refused TableRefusal.Full → (b : Bool) → idsOk e o p ≡ b → (c : Begins) → beginsOf e ≡ c → (m : Option Known) → k ≡ m → (g : Bool) → full ≡ g → FullFor full e o p k
-    by-ids h false q c r m n g w = let y : refused TableRefusal.BadId ≡ refused TableRefusal.Full = (rw q at h) in let z : _≡_ {A = ℕ} 0 1 = cc in absurd (omega arith)
-    by-ids h true q (Begins.In s) r (some m) n g w = let y : refused TableRefusal.InUse ≡ refused TableRefusal.Full = (rw (q, r, n) at h) in let z : _≡_ {A = ℕ} 0 1 = cc in absurd (omega arith)
-    by-ids h true q (Begins.In s) r none n true w = record { opens = rw r; sound = q; unknown = n; all = w }
-    by-ids h true q (Begins.In s) r none n false w = let y : opened ≡ refused TableRefusal.Full = (rw (q, r, n, w) at h) in let z : _≡_ {A = ℕ} 0 1 = cc in absurd (omega arith)
-    by-ids h true q Begins.Never r none n g w = let y : refused TableRefusal.Unknown ≡ refused TableRefusal.Full = (rw (q, r, n) at h) in let z : _≡_ {A = ℕ} 0 1 = cc in absurd (omega arith)
-    by-ids h true q Begins.Never r (some m) n g w = absurd (moves-not-full m (given (toldBy e p)) (moveOf e (m .state)) (rw (q, r, n) at h))
+    by-ids : (f : Bool) (m : Option Known) (b : Bool) → idsOk e o p ≡ b → (c : Begins) → beginsOf e ≡ c → Why f e o p m (numberOf (pageSays f e o p m .0))
+    by-ids f m false q c r = rw q (why-40 q)
+    by-ids f (some m) true q (Begins.In s) r = rw (q, r) (why-41 (record { sound = q; wrong = rw r }))
+    by-ids true none true q (Begins.In s) r = rw (q, r) (why-43 (record { opens = rw r; sound = q; unknown = refl; all = refl }))
+    by-ids false none true q (Begins.In s) r = rw (q, r) why-0
+    by-ids f none true q Begins.Never r = rw (q, r) (why-41 (record { sound = q; wrong = rw r }))
+    by-ids f (some m) true q Begins.Never r = rw (q, r) (why-moves f e o p m q (rw r) (moveOf e (m .state)) refl)
 
-    back : FullFor full e o p k → (c : Begins) → beginsOf e ≡ c → pageSays full e o p k .0 ≡ refused TableRefusal.Full
-    back f (Begins.In s) r = rw (f .sound, r, f .unknown, f .all)
-    back f Begins.Never r = let y : false ≡ true = (rw r at (f .opens)) in let z : _≡_ {A = ℕ} 0 1 = cc in absurd (omega arith)
+module _ {full : Bool} {e : Event} {o p : List ℕ} {k : Option Known} where
+  only-40 : Why full e o p k 40 → idsOk e o p ≡ false
+  only-40 (why-40 h) = h
+
+  only-41 : Why full e o p k 41 → Mismatched e o p k
+  only-41 (why-41 h) = h
+
+  only-42 : Why full e o p k 42 → BarredFor e o p k
+  only-42 (why-42 h) = h
+
+  only-43 : Why full e o p k 43 → FullFor full e o p k
+  only-43 (why-43 h) = h
+
+module _ (full : Bool) (e : Event) (o p : List ℕ) (k : Option Known) where
+  abbrev number : ℕ
+  number = numberOf (pageSays full e o p k .0)
+
+  pub says-40 : (number ≡ 40) ↔ (idsOk e o p ≡ false)
+  unfolding pageSays
+  says-40 = (λ h. only-40 (rw h at (why-says full e o p k)), λ h. rw h)
+
+  pub says-41 : (number ≡ 41) ↔ Mismatched e o p k
+  unfolding pageSays
+  says-41 = (λ h. only-41 (rw h at (why-says full e o p k)), λ w. back w (beginsOf e) refl k refl)
+    where
+      back : Mismatched e o p k → (c : Begins) → beginsOf e ≡ c → (m : Option Known) → k ≡ m → number ≡ 41
+      back w (Begins.In s) r (some m) n = rw (w .sound, r, n)
+      back w (Begins.In s) r none n = let y : true ≡ false = (rw (r, n) at (w .wrong)) in absurd (false≢true (sym y))
+      back w Begins.Never r none n = rw (w .sound, r, n)
+      back w Begins.Never r (some m) n = absurd (false≢true (rw (r, n) at (w .wrong)))
+
+  pub says-42 : (number ≡ 42) ↔ BarredFor e o p k
+  unfolding pageSays
+  says-42 = (λ h. only-42 (rw h at (why-says full e o p k)), λ w. back w (beginsOf e) refl)
+    where
+      back : BarredFor e o p k → (c : Begins) → beginsOf e ≡ c → number ≡ 42
+      back w (Begins.In s) r = let y : true ≡ false = (rw r at (w .other)) in absurd (false≢true (sym y))
+      back w Begins.Never r = rw (w .sound, r, w .known, w .barred)
+
+  pub says-43 : (number ≡ 43) ↔ FullFor full e o p k
+  unfolding pageSays
+  says-43 = (λ h. only-43 (rw h at (why-says full e o p k)), λ w. back w (beginsOf e) refl)
+    where
+      back : FullFor full e o p k → (c : Begins) → beginsOf e ≡ c → number ≡ 43
+      back w (Begins.In s) r = rw (w .sound, r, w .unknown, w .all)
+      back w Begins.Never r = absurd (false≢true (rw r at (w .opens)))
 
 -- The page's table, computed: each event in each state, the number of its refusal (0: taken) and the state after it
-
-abbrev numberOf : Answer → ℕ
-numberOf (refused k) = refusalNumber k
-numberOf opened = 0
-numberOf kept = 0
-numberOf closed = 0
 
 abbrev inState : State → Option Known
 inState State.Idle = none

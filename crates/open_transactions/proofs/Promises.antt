@@ -3,18 +3,18 @@ use Prim.Native.Nat.{ℕ, _+_, _<_, _≤_}
 use native.Mathlib.Omega.{arith}
 use mathlib.Core.Path.{_≡_, refl, sym, ap, _∙_}
 use mathlib.Core.Logic.{_↔_}
-use mathlib.Core.Bool.{true}
+use mathlib.Core.Bool.{true, false}
 use mathlib.Core.List.{List, [], _∷_}
 use mathlib.Core.Option.{Option, none}
 use lib.ListN.{getD, replicate}
 use lib.Dec.{eqb}
 use borrow.Author.Tests.{eq-eqb, eqb-true}
-use Rattle.open_transactions.specs.declared.{Event.Event, Table.Table, TableRefusal.TableRefusal, Deed.Deed, Taken.Taken}
-use Rattle.open_transactions.specs.Table.{blankEntry, emptyTable, holds, beginsOf, toldBy, idsOk, deedOf, takenOf, done, stepped}
-use Rattle.open_transactions.specs.History.{Happening, after, tableFrom, reached, one, countIn, isOpenEntry, openIn, isOpened, isClosed, howMany, Known, knownOf, Answer, refused, answerOf, pageSays}
-use Rattle.open_transactions.proofs.Counting.{only-one, count-both}
-use Rattle.open_transactions.proofs.Happening.{step-does, open-counts, Sound, empty-sound, keeps-sound, others-known}
-use Rattle.open_transactions.proofs.Page.{step-says, begins, full-says}
+use Rattle.open_transactions.specs.declared.{Event.Event, Entry.Entry, Table.Table, Room.Room, TableRefusal.TableRefusal, Deed.Deed, Taken.Taken}
+use Rattle.open_transactions.specs.Table.{blankEntry, emptyTable, isFree, holds, findFrom, beginsOf, toldBy, idsOk, deedOf, takenOf, done, stepped}
+use Rattle.open_transactions.specs.History.{Happening, after, tableFrom, reached, one, countIn, isOpenEntry, openIn, isOpened, isClosed, takenStatus, howMany, Known, knownOf, Answer, answerOf, pageSays}
+use Rattle.open_transactions.proofs.Counting.{first-of, only-one, set-found, count-both}
+use Rattle.open_transactions.proofs.Happening.{Happened, barred, stayed, moved, shut, begun, step-does, open-counts, Sound, empty-sound, keeps-sound, others-known}
+use Rattle.open_transactions.proofs.Page.{step-says, numberOf, begins, Mismatched, BarredFor, says-40, says-41, says-42, says-43}
 
 -- every table that is reached is sound
 from-sound : (t : Table) → Sound (t .entries) → (hs : List Happening) → Sound (tableFrom t hs .entries)
@@ -72,35 +72,68 @@ pub refused-stays : (t : Table) (e : Event) (o p : List ℕ) (k : TableRefusal) 
 unfolding stepped
 refused-stays t e o p k h = done-refused t o (toldBy e p) k (deedOf (t .entries) e o p) h
 
--- 43 exactly if a Begin has sound IDs, ours is unknown, and 64 are open
+-- The room told is the transaction's: before an event that keeps or closes it, after one that keeps or opens it
 
+abbrev pub RoomTold : List ℕ → List Entry → List Entry → Taken → Type 0
+RoomTold o before later (Taken.Refused k) = Unit {0}
+RoomTold o before later (Taken.Opened i) = findFrom (holds o) 0 later ≡ Room.At i
+RoomTold o before later (Taken.Kept i) = (findFrom (holds o) 0 before ≡ Room.At i) × (findFrom (holds o) 0 later ≡ Room.At i)
+RoomTold o before later (Taken.Closed i) = findFrom (holds o) 0 before ≡ Room.At i
+
+room-of : {o : List ℕ} {es fs : List Entry} {k : Taken} → Happened o es fs k → RoomTold o es fs k
+room-of barred = tt
+room-of (stayed f) = (f, f)
+room-of {o} {es} (moved {i = i} e s f h) = (f, set-found (holds o) es i e (first-of (holds o) i es f .within) h (rw f (omega arith)))
+room-of (shut s f) = f
+room-of {o} {es} (begun {i = i} e s n f h) = set-found (holds o) es i e (first-of isFree i es f .within) h (rw n tt)
+
+pub room-told : (t : Table) (e : Event) (o p : List ℕ) → RoomTold o (t .entries) (stepped t e o p .table .entries) (stepped t e o p .taken)
+room-told t e o p = room-of (step-does t e o p)
+
+-- Each number exactly where it is due
+
+status-answer : (k : Taken) → takenStatus k ≡ numberOf (answerOf k)
+status-answer (Taken.Refused r) = refl
+status-answer (Taken.Opened i) = refl
+status-answer (Taken.Kept i) = refl
+status-answer (Taken.Closed i) = refl
+
+-- a Begin has sound IDs, ours is unknown, and 64 are open
 pub record FullNow (t : Table) (e : Event) (o p : List ℕ) : Type 0 where
   pub opens : begins (beginsOf e) ≡ true
   pub sound : idsOk e o p ≡ true
   pub unknown : knownOf t o ≡ none
   pub all : openIn t ≡ 64
 
-answer-refused : (k : Taken) → answerOf k ≡ refused TableRefusal.Full → k ≡ Taken.Refused TableRefusal.Full
-answer-refused (Taken.Refused r) h = let z : r ≡ TableRefusal.Full = cc in rw z
-answer-refused (Taken.Opened i) h = let z : _≡_ {A = ℕ} 0 1 = cc in absurd (omega arith)
-answer-refused (Taken.Kept i) h = let z : _≡_ {A = ℕ} 0 1 = cc in absurd (omega arith)
-answer-refused (Taken.Closed i) h = let z : _≡_ {A = ℕ} 0 1 = cc in absurd (omega arith)
-
 module _ (t : Table) (z : Sound (t .entries)) (e : Event) (o p : List ℕ) where
-  said : answerOf (stepped t e o p .taken) ≡ pageSays (eqb (openIn t) 64) e o p (knownOf t o) .0
-  said = ap (λ (x : Answer × Option Known). x .0) (step-says t z e o p)
+  said : takenStatus (stepped t e o p .taken) ≡ numberOf (pageSays (eqb (openIn t) 64) e o p (knownOf t o) .0)
+  said = status-answer (stepped t e o p .taken) ∙ ap (λ (x : Answer × Option Known). numberOf (x .0)) (step-says t z e o p)
 
-  full-now : (stepped t e o p .taken ≡ Taken.Refused TableRefusal.Full) ↔ FullNow t e o p
-  full-now = (
-    λ h.
-        let f = full-says (eqb (openIn t) 64) e o p (knownOf t o) .0 (sym said ∙ ap answerOf h) in
-        record { opens = f .opens; sound = f .sound; unknown = f .unknown; all = eqb-true (openIn t) 64 (f .all) },
-    λ f.
-        answer-refused (stepped t e o p .taken) (said ∙ full-says (eqb (openIn t) 64) e o p (knownOf t o) .1 (record { opens = f .opens; sound = f .sound; unknown = f .unknown; all = eq-eqb (openIn t) 64 (f .all) })),
-  )
+  exactly : {n : ℕ} {P : Type 0} → ((numberOf (pageSays (eqb (openIn t) 64) e o p (knownOf t o) .0) ≡ n) ↔ P) → (takenStatus (stepped t e o p .taken) ≡ n) ↔ P
+  exactly s = (λ h. s .0 (sym said ∙ h), λ f. said ∙ s .1 f)
 
-pub full-exactly : (hs : List Happening) (e : Event) (o p : List ℕ) → (stepped (reached hs) e o p .taken ≡ Taken.Refused TableRefusal.Full) ↔ FullNow (reached hs) e o p
-full-exactly hs e o p = full-now (reached hs) (reached-sound hs) e o p
+  full-now : (takenStatus (stepped t e o p .taken) ≡ 43) ↔ FullNow t e o p
+  full-now =
+      let s = exactly (says-43 (eqb (openIn t) 64) e o p (knownOf t o)) in (
+        λ h. let f = s .0 h in record { opens = f .opens; sound = f .sound; unknown = f .unknown; all = eqb-true (openIn t) 64 (f .all) },
+        λ f. s .1 (record { opens = f .opens; sound = f .sound; unknown = f .unknown; all = eq-eqb (openIn t) 64 (f .all) }),
+      )
+
+module _ (hs : List Happening) (e : Event) (o p : List ℕ) where
+  abbrev status : ℕ
+  status = takenStatus (stepped (reached hs) e o p .taken)
+
+  pub unsound-exactly : (status ≡ 40) ↔ (idsOk e o p ≡ false)
+  unsound-exactly = exactly (reached hs) (reached-sound hs) e o p (says-40 (eqb (openIn (reached hs)) 64) e o p (knownOf (reached hs) o))
+
+  pub mismatched-exactly : (status ≡ 41) ↔ Mismatched e o p (knownOf (reached hs) o)
+  mismatched-exactly = exactly (reached hs) (reached-sound hs) e o p (says-41 (eqb (openIn (reached hs)) 64) e o p (knownOf (reached hs) o))
+
+  pub barred-exactly : (status ≡ 42) ↔ BarredFor e o p (knownOf (reached hs) o)
+  barred-exactly = exactly (reached hs) (reached-sound hs) e o p (says-42 (eqb (openIn (reached hs)) 64) e o p (knownOf (reached hs) o))
+
+  pub full-exactly : (status ≡ 43) ↔ FullNow (reached hs) e o p
+  full-exactly = full-now (reached hs) (reached-sound hs) e o p
 
 closed-not-opened : (k : Taken) → isClosed k ≡ true → one (isOpened k) ≡ 0
 closed-not-opened (Taken.Refused r) h = refl
@@ -112,7 +145,7 @@ open-most : (t : Table) → Sound (t .entries) → openIn t ≤ 64
 open-most t z = omega (arith, z .size, count-both isOpenEntry (t .entries))
 
 -- so the room of a transaction that was closed is used again: the next Begin is not refused for want of room
-pub room-again : (hs : List Happening) (h g : Happening) → isClosed (after (reached hs) h .taken) ≡ true → after (after (reached hs) h .table) g .taken ≡ Taken.Refused TableRefusal.Full → ⊥
+pub room-again : (hs : List Happening) (h g : Happening) → isClosed (after (reached hs) h .taken) ≡ true → takenStatus (after (after (reached hs) h .table) g .taken) ≡ 43 → ⊥
 room-again hs h g c f =
     let z = reached-sound hs in
     let d = step-does (reached hs) (h .event) (h .ours) (h .partner) in

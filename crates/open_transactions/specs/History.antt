@@ -4,7 +4,7 @@ use mathlib.Core.{Bool.Bool, Bool.true, Bool.false, Bool.cond, List.List, List.[
 use lib.{ListN.getD, ListN.take, ListN.drop}
 use Rattle.tcap.specs.declared.OptionalDest.{OptionalDest}
 use Rattle.open_transactions.specs.declared.{State.State, Event.Event, Move.Move, Entry.Entry, Table.Table, Room.Room, TableRefusal.TableRefusal, Begins.Begins, Taken.Taken, Stepped.Stepped}
-use Rattle.open_transactions.specs.Table.{blankEntry, emptyTable, isOpen, holds, findFrom, moveOf, beginsOf, toldBy, idsOk, stepped}
+use Rattle.open_transactions.specs.Table.{blankEntry, emptyTable, isOpen, holds, findFrom, refusalNumber, moveOf, beginsOf, toldBy, idsOk, stepped}
 
 -- A history: events from the first to the last, with the IDs that they name
 
@@ -51,6 +51,13 @@ isClosed (Taken.Refused k) = false
 isClosed (Taken.Opened i) = false
 isClosed (Taken.Kept i) = false
 isClosed (Taken.Closed i) = true
+
+-- the number told: a refusal's, or 0
+abbrev pub takenStatus : Taken → ℕ
+takenStatus (Taken.Refused k) = refusalNumber k
+takenStatus (Taken.Opened i) = 0
+takenStatus (Taken.Kept i) = 0
+takenStatus (Taken.Closed i) = 0
 
 -- how many events of a history were taken so
 unfoldable pub howMany : (Taken → Bool) → Table → List Happening → ℕ
