@@ -15,8 +15,9 @@ use Rattle.open_transactions.specs.Table.{blankEntry, emptyTable, partnerOf, en
 use Rattle.open_transactions.specs.History.{Happening, tableFrom, reached}
 use Rattle.open_transactions.proofs.Doing.{deed-doable}
 use Rattle.table_octets.specs.declared.{Reply.Reply}
-use Rattle.table_octets.specs.Octets.{stateIn, stateOctet, eventIn, entryOf, entriesFrom, entriesIn, tableIn, entryOctets, blankOctets, octetsDone, replying, leaving}
+use Rattle.table_octets.specs.Octets.{stateIn, stateOctet, eventIn, entryOf, entriesFrom, entriesIn, tableIn, entryOctets, blankOctets, octetsDone, replying, leaving, replyNumber, InTable}
 use Rattle.table_octets.proofs.Entries.{length-entries, entry-at}
+use Rattle.table_octets.proofs.Numbers.{reply-room, Fields, taken-fields}
 
 -- All zeros is the empty table
 
@@ -122,11 +123,20 @@ module _ (l : List ℕ) (h : 768 ≤ length l) (n : ℕ) (o p : List ℕ) where
   unfolding replying stepped
   answers-alike = rw (le-ltb (length l) 768 h)
 
+  -- and its number tells the answer whole: status, deed and entry, which is one of the table's
+  pub number-told : let k = stepped (tableIn l) (eventIn n) o p .taken in Fields k (replyNumber (replying l n o p)) × InTable k
+  number-told =
+      let k = stepped (tableIn l) (eventIn n) o p .taken in
+      (rw answers-alike (taken-fields k), reply-room l n o p k refl answers-alike)
+
 -- Too little room: nothing is changed
 
 pub no-room : (l : List ℕ) → length l < 768 → (n : ℕ) (o p : List ℕ) → (replying l n o p ≡ Reply.NoRoom) × (leaving l n o p ≡ l)
 unfolding replying leaving
 no-room l h n o p = (rw (lt-ltb (length l) 768 h), rw (lt-ltb (length l) 768 h))
+
+pub no-room-told : (l : List ℕ) → length l < 768 → (n : ℕ) (o p : List ℕ) → replyNumber (replying l n o p) ≡ 25
+no-room-told l h n o p = ap replyNumber (no-room l h n o p .0)
 
 -- The octets stay as many, and those behind the table stay as they are
 
