@@ -1,24 +1,27 @@
 -- What a step does to the entries, in one of five ways, and what each keeps. Assumes nothing.
-use Prim.Native.Nat.{ℕ, _+_, _<_, _≤_}
+use Prim.Native.Nat.{ℕ, zero, suc, _+_, _<_, _≤_}
 use native.Mathlib.Omega.{arith}
-use mathlib.Core.Path.{_≡_, refl, _∙_}
-use mathlib.Core.Bool.{Bool, true, false}
+use mathlib.Core.Path.{_≡_, refl, sym, _∙_}
+use mathlib.Core.Bool.{Bool, true, false, false≢true}
 use mathlib.Core.List.{List}
 use lib.ListN.{length, getD, set, replicate, length-set}
+use lib.Seq.{getD-set-same, getD-set-other}
+use lib.Dec.{eqb}
+use borrow.Author.Tests.{eqb-true, eqb-false}
 use Rattle.open_transactions.specs.declared.{State.State, Event.Event, Move.Move, Entry.Entry, Table.Table, Room.Room, TableRefusal.TableRefusal, Begins.Begins, Deed.Deed, Taken.Taken}
 use Rattle.open_transactions.specs.Table.{blankEntry, emptyTable, isOpen, isFree, holds, findFrom, entryFor, activeNow, moveOf, beginsOf, toldBy, idsOk, opening, moving, beginDeed, otherDeed, foundDeed, deedOf, takenOf, done, stepped}
 use Rattle.open_transactions.specs.History.{one, countIn, isOpenEntry, isOpened, isClosed, knownAt}
 use Rattle.open_transactions.proofs.Doing.{ids-short}
 use Rattle.open_transactions.proofs.Counting.{first-of, set-count, none-count, known-stays}
-use Rattle.open_transactions.proofs.Holding.{held-of, same-holders, one-id, other-id, blank-holds, free-shut, free-holds, made-holds, active-holds}
+use Rattle.open_transactions.proofs.Holding.{held-of, same-holders, one-id, other-id, blank-holds, free-shut, free-holds, made-holds, active-holds, oursIn, ours-stands}
 
 -- the entries before, the entries after, and the answer
 pub data Happened (o : List ℕ) : List Entry → List Entry → Taken → Type 0 where
   barred : {es : List Entry} {k : TableRefusal} → Happened o es es (Taken.Refused k)
   stayed : {es : List Entry} {i : ℕ} → findFrom (holds o) 0 es ≡ Room.At i → Happened o es es (Taken.Kept i)
-  moved : {es : List Entry} {i : ℕ} (e : Entry) → length o < 5 → findFrom (holds o) 0 es ≡ Room.At i → holds o e ≡ true → Happened o es (set es i e) (Taken.Kept i)
+  moved : {es : List Entry} {i : ℕ} (e : Entry) → length o < 5 → findFrom (holds o) 0 es ≡ Room.At i → holds o e ≡ true → (oursIn (getD es i blankEntry) ≡ o → oursIn e ≡ o) → Happened o es (set es i e) (Taken.Kept i)
   shut : {es : List Entry} {i : ℕ} → length o < 5 → findFrom (holds o) 0 es ≡ Room.At i → Happened o es (set es i blankEntry) (Taken.Closed i)
-  begun : {es : List Entry} {i : ℕ} (e : Entry) → length o < 5 → findFrom (holds o) 0 es ≡ Room.Nowhere → findFrom isFree 0 es ≡ Room.At i → holds o e ≡ true → Happened o es (set es i e) (Taken.Opened i)
+  begun : {es : List Entry} {i : ℕ} (e : Entry) → length o < 5 → findFrom (holds o) 0 es ≡ Room.Nowhere → findFrom isFree 0 es ≡ Room.At i → holds o e ≡ true → oursIn e ≡ o → Happened o es (set es i e) (Taken.Opened i)
 
 -- Begin opens in one of the two initiation states
 pub begins-open : (e : Event) (s : State) → beginsOf e ≡ Begins.In s → isOpen s ≡ true
@@ -40,7 +43,7 @@ module _ (t : Table) (o p : List ℕ) (short : length o < 5) where
   open-does : (s : State) → isOpen s ≡ true → findFrom (holds o) 0 (t .entries) ≡ Room.Nowhere → (r : Room) → findFrom isFree 0 (t .entries) ≡ r → Does (opening s r)
   unfolding done
   open-does s w n Room.Nowhere f = barred
-  open-does s w n (Room.At i) f = begun (entryFor s o p) short n f (made-holds s o p w)
+  open-does s w n (Room.At i) f = begun (entryFor s o p) short n f (made-holds s o p w) (ours-stands s o p short)
 
   begin-does : (s : State) → isOpen s ≡ true → (r : Room) → findFrom (holds o) 0 (t .entries) ≡ r → Does (beginDeed (t .entries) s r)
   unfolding done beginDeed
@@ -51,8 +54,8 @@ module _ (t : Table) (o p : List ℕ) (short : length o < 5) where
   unfolding done
   move-does i f Move.Barred = barred
   move-does i f Move.Stay = stayed f
-  move-does i f Move.Activate = moved (activeNow (getD (t .entries) i blankEntry)) short f (active-holds o (getD (t .entries) i blankEntry) (first-of (holds o) i (t .entries) f .passes))
-  move-does i f Move.Learn = moved (entryFor State.Active o p) short f (made-holds State.Active o p refl)
+  move-does i f Move.Activate = moved (activeNow (getD (t .entries) i blankEntry)) short f (active-holds o (getD (t .entries) i blankEntry) (first-of (holds o) i (t .entries) f .passes)) (λ w. w)
+  move-does i f Move.Learn = moved (entryFor State.Active o p) short f (made-holds State.Active o p refl) (λ w. ours-stands State.Active o p short)
   move-does i f Move.Close = shut short f
 
   found-does : (e : Event) (b : Begins) → beginsOf e ≡ b → (r : Room) → findFrom (holds o) 0 (t .entries) ≡ r → Does (foundDeed (t .entries) e b r)
@@ -74,7 +77,7 @@ step-does t e o p = by-ids (idsOk e o p) refl
 pub open-counts : {o : List ℕ} {es fs : List Entry} {k : Taken} → Happened o es fs k → countIn isOpenEntry fs + one (isClosed k) ≡ countIn isOpenEntry es + one (isOpened k)
 open-counts barred = refl
 open-counts (stayed f) = refl
-open-counts {o} {es} (moved {i = i} e s f h) =
+open-counts {o} {es} (moved {i = i} e s f h w) =
     let g = first-of (holds o) i es f in
     let c = set-count isOpenEntry es i e (g .within) in
     let a : one (isOpenEntry (getD es i blankEntry)) ≡ 1 = rw (held-of o (getD es i blankEntry) (g .passes) .live) in
@@ -85,7 +88,7 @@ open-counts {o} {es} (shut {i = i} s f) =
     let c = set-count isOpenEntry es i blankEntry (g .within) in
     let a : one (isOpenEntry (getD es i blankEntry)) ≡ 1 = rw (held-of o (getD es i blankEntry) (g .passes) .live) in
     omega (arith, c, a)
-open-counts {o} {es} (begun {i = i} e s n f h) =
+open-counts {o} {es} (begun {i = i} e s n f h w) =
     let g = first-of isFree i es f in
     let c = set-count isOpenEntry es i e (g .within) in
     let a : one (isOpenEntry (getD es i blankEntry)) ≡ 0 = rw (free-shut (getD es i blankEntry) (g .passes)) in
@@ -109,7 +112,7 @@ at-most-one false = omega arith
 pub keeps-sound : {o : List ℕ} {es fs : List Entry} {k : Taken} → Happened o es fs k → Sound es → Sound fs
 keeps-sound barred z = z
 keeps-sound (stayed f) z = z
-keeps-sound {o} {es} (moved {i = i} e s f h) z =
+keeps-sound {o} {es} (moved {i = i} e s f h w) z =
     let g = first-of (holds o) i es f in
     record {
       size = length-set es i e ∙ z .size;
@@ -127,7 +130,7 @@ keeps-sound {o} {es} (shut {i = i} s f) z =
           let a : one (holds id blankEntry) ≡ 0 = rw (blank-holds id) in
           omega (arith, c, a, z .unique id);
     }
-keeps-sound {o} {es} (begun {i = i} e s n f h) z =
+keeps-sound {o} {es} (begun {i = i} e s n f h w) z =
     let g = first-of isFree i es f in
     record {
       size = length-set es i e ∙ z .size;
@@ -141,11 +144,44 @@ keeps-sound {o} {es} (begun {i = i} e s n f h) z =
     fresh id true q = let w : countIn (holds id) es ≡ 0 = rw (one-id e o id s h q) (none-count (holds o) 0 es n) in omega (arith, w, at-most-one (holds id e))
     fresh id false q = let w : one (holds id e) ≡ 0 = rw q in omega (arith, w, z .unique id)
 
+-- An entry that holds an ID has it at its place
+
+abbrev pub Standing : List Entry → Type 0
+Standing es = (i : ℕ) (id : List ℕ) → holds id (getD es i blankEntry) ≡ true → oursIn (getD es i blankEntry) ≡ id
+
+blank-all : (n i : ℕ) → getD (replicate n blankEntry) i blankEntry ≡ blankEntry
+blank-all zero i = refl
+blank-all (suc n) zero = refl
+blank-all (suc n) (suc i) = blank-all n i
+
+pub empty-standing : Standing (emptyTable .entries)
+empty-standing i id q = absurd (false≢true (sym (blank-holds id) ∙ (rw (blank-all 64 i) at q)))
+
+stored-standing : (es : List Entry) (i : ℕ) (e : Entry) → i < length es → ((id : List ℕ) → holds id e ≡ true → oursIn e ≡ id) → Standing es → Standing (set es i e)
+stored-standing es i e l own z j id q = by-room (eqb j i) refl
+  where
+    by-room : (b : Bool) → eqb j i ≡ b → oursIn (getD (set es i e) j blankEntry) ≡ id
+    by-room true t =
+        let x : getD (set es i e) j blankEntry ≡ e = rw (eqb-true j i t) (getD-set-same es i e blankEntry l) in
+        rw x (own id (rw x at q))
+    by-room false t =
+        let x = getD-set-other es i j e blankEntry (eqb-false j i t) in
+        rw x (z j id (rw x at q))
+
+pub keeps-standing : {o : List ℕ} {es fs : List Entry} {k : Taken} → Happened o es fs k → Standing es → Standing fs
+keeps-standing barred z = z
+keeps-standing (stayed f) z = z
+keeps-standing {o} {es} (moved {i = i} e s f h w) z =
+    let g = first-of (holds o) i es f in
+    stored-standing es i e (g .within) (λ id q. w (z i o (g .passes)) ∙ sym (one-id e o id s h q)) z
+keeps-standing {o} {es} (shut {i = i} s f) z = stored-standing es i blankEntry (first-of (holds o) i es f .within) (λ id q. absurd (false≢true (sym (blank-holds id) ∙ q))) z
+keeps-standing {o} {es} (begun {i = i} e s n f h w) z = stored-standing es i e (first-of isFree i es f .within) (λ id q. w ∙ sym (one-id e o id s h q)) z
+
 -- What is known of another ID
 
 pub others-known : {o : List ℕ} {es fs : List Entry} {k : Taken} (id : List ℕ) → (id ≡ o → ⊥) → Happened o es fs k → knownAt fs (findFrom (holds id) 0 fs) ≡ knownAt es (findFrom (holds id) 0 es)
 others-known id n barred = refl
 others-known id n (stayed f) = refl
-others-known {o} {es} id n (moved {i = i} e s f h) = known-stays (holds id) es i e (other-id (getD es i blankEntry) o id s n (first-of (holds o) i es f .passes)) (other-id e o id s n h)
+others-known {o} {es} id n (moved {i = i} e s f h w) = known-stays (holds id) es i e (other-id (getD es i blankEntry) o id s n (first-of (holds o) i es f .passes)) (other-id e o id s n h)
 others-known {o} {es} id n (shut {i = i} s f) = known-stays (holds id) es i blankEntry (other-id (getD es i blankEntry) o id s n (first-of (holds o) i es f .passes)) (blank-holds id)
-others-known {o} {es} id n (begun {i = i} e s u f h) = known-stays (holds id) es i e (free-holds id (getD es i blankEntry) (first-of isFree i es f .passes)) (other-id e o id s n h)
+others-known {o} {es} id n (begun {i = i} e s u f h w) = known-stays (holds id) es i e (free-holds id (getD es i blankEntry) (first-of isFree i es f .passes)) (other-id e o id s n h)

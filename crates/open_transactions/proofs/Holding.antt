@@ -101,7 +101,10 @@ unfolding holds sameId
 active-holds o e h = both (isOpen (e .state)) (sameId e o) h .1
 
 -- our ID stands in the entry as it was given
-pub ours-stands : (s : State) (o p : List ℕ) → length o < 5 → take (entryFor s o p .ours .0 .octets .len) (drop (entryFor s o p .ours .0 .octets .place) (entryFor s o p .octets)) ≡ o
+abbrev pub oursIn : Entry → List ℕ
+oursIn e = take (e .ours .0 .octets .len) (drop (e .ours .0 .octets .place) (e .octets))
+
+pub ours-stands : (s : State) (o p : List ℕ) → length o < 5 → oursIn (entryFor s o p) ≡ o
 unfolding entryFor
 ours-stands s [] p h = refl
 ours-stands s (a ∷ []) p h = refl

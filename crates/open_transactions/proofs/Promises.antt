@@ -13,7 +13,8 @@ use Rattle.open_transactions.specs.declared.{Event.Event, Entry.Entry, T
 use Rattle.open_transactions.specs.Table.{blankEntry, emptyTable, isFree, holds, findFrom, beginsOf, toldBy, idsOk, deedOf, takenOf, done, stepped}
 use Rattle.open_transactions.specs.History.{Happening, after, tableFrom, reached, one, countIn, isOpenEntry, openIn, isOpened, isClosed, takenStatus, howMany, Known, knownOf, Answer, answerOf, pageSays}
 use Rattle.open_transactions.proofs.Counting.{first-of, only-one, set-found, count-both}
-use Rattle.open_transactions.proofs.Happening.{Happened, barred, stayed, moved, shut, begun, step-does, open-counts, Sound, empty-sound, keeps-sound, others-known}
+use Rattle.open_transactions.proofs.Holding.{oursIn}
+use Rattle.open_transactions.proofs.Happening.{Happened, barred, stayed, moved, shut, begun, step-does, open-counts, Sound, empty-sound, keeps-sound, Standing, empty-standing, keeps-standing, others-known}
 use Rattle.open_transactions.proofs.Page.{step-says, numberOf, begins, Mismatched, BarredFor, says-40, says-41, says-42, says-43}
 
 -- every table that is reached is sound
@@ -45,6 +46,16 @@ pub one-entry : (hs : List Happening) (id : List ℕ) (i j : ℕ) → i < 64 →
 one-entry hs id i j l m e f =
     let z = reached-sound hs in
     only-one (holds id) (reached hs .entries) i j (z .unique id) (omega (arith, z .size, l)) (omega (arith, z .size, m)) e f
+
+-- and the ID stands in its entry
+
+from-standing : (t : Table) → Standing (t .entries) → (hs : List Happening) → Standing (tableFrom t hs .entries)
+unfolding tableFrom
+from-standing t z [] = z
+from-standing t z (h ∷ hs) = from-standing (after t h .table) (keeps-standing (step-does t (h .event) (h .ours) (h .partner)) z) hs
+
+pub id-stands : (hs : List Happening) (i : ℕ) (id : List ℕ) → holds id (getD (reached hs .entries) i blankEntry) ≡ true → oursIn (getD (reached hs .entries) i blankEntry) ≡ id
+id-stands hs = from-standing emptyTable empty-standing hs
 
 -- Each step answers, and changes of its ID, what the page says
 
@@ -83,9 +94,9 @@ RoomTold o before later (Taken.Closed i) = findFrom (holds o) 0 before ≡ Room.
 room-of : {o : List ℕ} {es fs : List Entry} {k : Taken} → Happened o es fs k → RoomTold o es fs k
 room-of barred = tt
 room-of (stayed f) = (f, f)
-room-of {o} {es} (moved {i = i} e s f h) = (f, set-found (holds o) es i e (first-of (holds o) i es f .within) h (rw f (omega arith)))
+room-of {o} {es} (moved {i = i} e s f h w) = (f, set-found (holds o) es i e (first-of (holds o) i es f .within) h (rw f (omega arith)))
 room-of (shut s f) = f
-room-of {o} {es} (begun {i = i} e s n f h) = set-found (holds o) es i e (first-of isFree i es f .within) h (rw n tt)
+room-of {o} {es} (begun {i = i} e s n f h w) = set-found (holds o) es i e (first-of isFree i es f .within) h (rw n tt)
 
 pub room-told : (t : Table) (e : Event) (o p : List ℕ) → RoomTold o (t .entries) (stepped t e o p .table .entries) (stepped t e o p .taken)
 room-told t e o p = room-of (step-does t e o p)
