@@ -40,7 +40,7 @@ pub data OfTag : FaultKind → Type 0 where
   unknown : OfTag UnknownComponent
 
 pub data Looked : FaultKind → List ℕ → Type 0 where
-  -- 10: the contents end, by their length or by their end pair; 12: they do not
+  -- 14: the contents end, by their length or by their end pair; 12: they do not
   ends : {w : List ℕ} → (w ≡ []) ⊎ (w ≡ 0 ∷ 0 ∷ []) → Looked Missing w
   follows : {w : List ℕ} → length w ≤ 2 → Looked Seventeenth w
   -- 1: no end pair, or 00 alone
@@ -49,7 +49,7 @@ pub data Looked : FaultKind → List ℕ → Type 0 where
   inTag : {k : FaultKind} {w : List ℕ} → tagOf w ≡ tagFault k → length w ≤ 4 → Looked k w
   -- 6: code 0, and the octet that could make it an end pair
   zeroTag : {w : List ℕ} → length w ≤ 2 → Looked CodeZero w
-  -- 5, 10, 13: the tag
+  -- 5, 13, 15, 16: the tag
   atTag : {k : FaultKind} {w : List ℕ} (a : ℕ) → OfTag k → tagOf w ≡ tag a (length w) → Looked k w
   -- 1, 3, 4: the tag and a length that is a fault
   inLength : {k : FaultKind} {w : List ℕ} (a s : ℕ) → tagOf w ≡ tag a s → lengthOf (drop s w) (constructorOf a) ≡ lengthFault k → length (drop s w) ≤ lengthSize (getD (drop s w) 0 0) → Looked k w

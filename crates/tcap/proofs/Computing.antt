@@ -43,7 +43,7 @@ unfoldable pub writtenBack : List ℕ → Option (List ℕ)
 unfolding outcomeOf rewritten
 writtenBack m = let r = outcomeOf m in rewritten (r .outcome) (r .message) m
 
--- What the page says of a message: its record, or a refusal by its number, place, originating ID and standard answer, with the record handed back
+-- What reading tells of a message, in the page's terms: its record, or a refusal by its number, place, originating ID and standard answer, with the record handed back
 pub data Told : Type 0 where
   reads : Record → Told
   refused : ℕ → ℕ → OptionalOrig → Answer → Record → Told

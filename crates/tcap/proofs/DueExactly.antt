@@ -36,7 +36,7 @@ pub record Reached (limit : ℕ) (m : List ℕ) (l : ℕ) (d : Bool) (r : Parts)
   pub isMessage : find message first ≡ some holds
   pub way : Trail limit m l d r s p part
 
--- the contents end where something mandatory is due; they are those of w
+-- the contents end where something mandatory is due; w: whose the constructor is that has them
 pub record MissingAt (limit : ℕ) (m : List ℕ) (p : ℕ) (w : Owner) (i : Option ℤ) (t : Option Text) : Type 0 where
   pub level : ℕ
   pub definite : Bool

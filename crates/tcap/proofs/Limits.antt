@@ -3,10 +3,11 @@
 use Prim.Native.Nat.{ℕ}
 use mathlib.Core.Path.{refl}
 use mathlib.Core.List.{List, [], _∷_, _++_}
+use lib.ListN.{replicate}
 use lib.IntN.{pos}
-use Rattle.tcap.specs.declared.{OptionalSpan.OptionalSpan, OptionalOrig.OptionalOrig, OptionalDest.OptionalDest, LinkedId.LinkedId, Code.Code, Returned.Returned, ComponentKind.ComponentKind, Diagnostic.Diagnostic, Dialogue.Dialogue, MessageKind.MessageKind}
+use Rattle.tcap.specs.declared.{OptionalSpan.OptionalSpan, OptionalOrig.OptionalOrig, OptionalDest.OptionalDest, InvokeId.InvokeId, LinkedId.LinkedId, Code.Code, Problem.Problem, Returned.Returned, ComponentKind.ComponentKind, Diagnostic.Diagnostic, Dialogue.Dialogue, MessageKind.MessageKind}
 use Rattle.tcap.proofs.Computing.{Told, AsTold, reads, told, hex, times}
-use Rattle.tcap.proofs.Specimens.{spanAt, origAt, destAt, id, component, invokes, kept, begun, refuses, cause, problem}
+use Rattle.tcap.proofs.Specimens.{spanAt, origAt, destAt, id, component, resultOne, invokes, kept, begun, refuses, cause, problem}
 
 abbrev pub edges : List (List ℕ × Told)
 edges =
@@ -20,6 +21,8 @@ edges =
     ∷ (hex "62 03 48 FF 05", refuses 3 2 OptionalOrig.NoOrig (cause 2))
     ∷ (hex "62 02 48 80", refuses 3 2 OptionalOrig.NoOrig (cause 2))
     ∷ (hex "62 05 48 80 05 00 00", refuses 3 2 OptionalOrig.NoOrig (cause 2))
+    -- a length that begins with 00 is not in the fewest octets
+    ∷ (hex "62 05 48 82 00 01 05", refuses 3 2 OptionalOrig.NoOrig (cause 2))
     -- 82 00 cut off is 1
     ∷ (hex "62 03 48 82 00", refuses 1 2 OptionalOrig.NoOrig (cause 2))
     -- 1F 80 and nothing more is 2, and so is 1F 81 81 81; 1F 81 81 and nothing more is 1
@@ -60,6 +63,34 @@ edges =
 pub limited : AsTold edges
 unfolding told
 limited = refl
+
+-- ranges and identifiers, at their ends, in each kind of component and PDU
+abbrev pub ends : List (List ℕ × Told)
+ends =
+    -- each type of problem at its greatest, with an ID and with null
+    (hex "62 0D 48 01 05 6C 08 A4 06 02 01 07 80 01 02", begun Dialogue.NoDialogue (component (id 7) (ComponentKind.Reject (Problem.General 2)) ∷ []))
+    ∷ (hex "62 0D 48 01 05 6C 08 A4 06 02 01 07 81 01 07", begun Dialogue.NoDialogue (component (id 7) (ComponentKind.Reject (Problem.OfInvoke 7)) ∷ []))
+    ∷ (hex "62 0D 48 01 05 6C 08 A4 06 02 01 07 82 01 02", begun Dialogue.NoDialogue (component (id 7) (ComponentKind.Reject (Problem.OfResult 2)) ∷ []))
+    ∷ (hex "62 0D 48 01 05 6C 08 A4 06 02 01 07 83 01 04", begun Dialogue.NoDialogue (component (id 7) (ComponentKind.Reject (Problem.OfError 4)) ∷ []))
+    ∷ (hex "62 0C 48 01 05 6C 07 A4 05 05 00 80 01 00", begun Dialogue.NoDialogue (component InvokeId.Null (ComponentKind.Reject (Problem.General 0)) ∷ []))
+    -- a Return Error, a Return Result Not Last
+    ∷ (hex "62 0D 48 01 05 6C 08 A3 06 02 01 07 02 01 22", begun Dialogue.NoDialogue (component (id 7) (ComponentKind.ReturnError (Code.Local (pos 34)) OptionalSpan.Absent) ∷ []))
+    ∷ (hex "62 0A 48 01 05 6C 05 A7 03 02 01 07", begun Dialogue.NoDialogue (component (id 7) (ComponentKind.ResultNotLast Returned.Bare) ∷ []))
+    -- in an identifier 80 may stand inside a number, and not at its beginning
+    ∷ (hex "62 0F 48 01 05 6C 0A A1 08 02 01 07 06 03 81 80 01", begun Dialogue.NoDialogue (component (id 7) (ComponentKind.Invoke LinkedId.Unlinked (Code.Global (spanAt 14 3)) OptionalSpan.Absent) ∷ []))
+    ∷ (hex "62 0E 48 01 05 6C 09 A1 07 02 01 07 06 02 80 01", refuses 11 12 (origAt 4 1) (problem 1 0 (id 7)))
+    -- 16 components
+    ∷ (hex "62 55 48 01 05 6C 50" ++ times 16 (hex "A2 03 02 01 01"), begun Dialogue.NoDialogue (replicate 16 resultOne))
+    -- result 2, diagnostic 3 of either source, abort source 2
+    ∷ (hex "62 25 48 01 05 6B 20 28 1E 06 07 00 11 86 05 01 01 01 A0 13 61 11 A1 03 06 01 2A A2 03 02 01 02 A3 05 A2 03 02 01 02", refuses 11 29 (origAt 4 1) (cause 3))
+    ∷ (hex "62 25 48 01 05 6B 20 28 1E 06 07 00 11 86 05 01 01 01 A0 13 61 11 A1 03 06 01 2A A2 03 02 01 01 A3 05 A1 03 02 01 03", refuses 11 36 (origAt 4 1) (cause 3))
+    ∷ (hex "62 25 48 01 05 6B 20 28 1E 06 07 00 11 86 05 01 01 01 A0 13 61 11 A1 03 06 01 2A A2 03 02 01 01 A3 05 A2 03 02 01 03", refuses 11 36 (origAt 4 1) (cause 3))
+    ∷ (hex "62 17 48 01 05 6B 12 28 10 06 07 00 11 86 05 01 01 01 A0 05 64 03 80 01 02", refuses 11 22 (origAt 4 1) (cause 3))
+    ∷ []
+
+pub ranged : AsTold ends
+unfolding told
+ranged = refl
 
 -- n constructors around one primitive, which so stands n levels deeper
 abbrev pub nested : ℕ → List ℕ

@@ -61,7 +61,7 @@ told (parts r) x s = s
 told (dialogue r) x s = s
 
 -- the place p of m: its level, whether the contents it is in are definite, what is still to come in them, what is known, and the octets from there
--- to the end of these contents
+-- to the end of these contents (of indefinite ones: to the end of the nearest definite contents around them)
 pub data Trail (limit : ℕ) (m : List ℕ) : ℕ → Bool → Parts → Known → ℕ → List ℕ → Type 0 where
   -- the message is level 1
   top : Trail limit m 1 true (must message end) (known portion portion none none) 0 m
