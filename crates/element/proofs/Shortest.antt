@@ -218,7 +218,7 @@ few-long x e = go (eqb x 0) (leb 128 x) refl refl e
     go false false p q f = absurd (false≢true f)
 
 -- a length of n below 256 has one form; and never fewer octets than the fewest
-long-only : (l ds : List ℕ) (n : ℕ) → LongLength l ds n → n < 256 → (128 ≤ n) × (l ≡ 0x81 ∷ n ∷ [])
+pub long-only : (l ds : List ℕ) (n : ℕ) → LongLength l ds n → n < 256 → (128 ≤ n) × (l ≡ 0x81 ∷ n ∷ [])
 unfolding numberFrom
 long-only l [] n s k = absurd (omega (arith, s .some))
 long-only l (x ∷ []) n s k = let q : x ≡ n = omega (arith, s .number) in let h : 128 ≤ x = few-long x (s .few) in (omega arith, s .octets ∙ ap (λ (y : ℕ). 0x81 ∷ y ∷ []) q)

@@ -1,0 +1,117 @@
+-- What the readers of a component's contents answer. Assumes nothing.
+use Prim.Native.Nat.{ℕ, _+_, _≤_}
+use mathlib.Core.Path.{_≡_, refl}
+use mathlib.Core.Bool.{Bool, true, false}
+use mathlib.Core.List.{List}
+use native.Mathlib.Omega.{arith}
+use lib.ListN.{length, getD}
+use lib.Dec.{ltb}
+use Rattle.element.specs.declared.FaultKind.{FaultKind}
+use Rattle.element.specs.Element.{constructorOf}
+use Rattle.element.specs.Fault.{fault, at, withInvokeId}
+use Rattle.element.specs.Head.{endOf}
+use Rattle.element.specs.Ask.{Body, ask}
+use Rattle.element.specs.Parts.{level, aroundItem, bindBody, thenBody, onlyBody, lastBody, optBody, mapBody, integerItem}
+use Rattle.read_place.specs.Places.{faultPlace, part, finite, endedOf, behindOf, lengthSize, Placed, front, nothing, standsOf, entryPlace, Reads, Finishes, until, Far, Near}
+use Rattle.read_place.proofs.Answers.{Keeps}
+use Rattle.read_place.proofs.Fronts.{ended-is, not-ended}
+use Rattle.read_place.proofs.Bodies.{placed-where, bind-far, bind-near, then-far, then-near, last-far, last-near, last-none, map-closed}
+use Rattle.read_place.proofs.Items.{around-near, entry-far}
+use Rattle.element.specs.Walk.{walkItem}
+use Rattle.tcap.specs.WellFormed.{deepestLevel}
+use Rattle.tcap.specs.Productions.{codeItem, codeBody, invokeBody, errorBody, bothItem, levelAt, noted}
+use lib.IntN.{ℤ}
+use Rattle.read_place.proofs.Optional.{around-entry, around-read, opt-far, opt-near, opt-none, reads-within}
+
+module _ (m : List ℕ) (at stop r : ℕ) (e : Reads codeItem m at stop r) where
+  at-level : (l : ℕ) → ltb 0 l ≡ true → Placed at (until stop) (ask (front (level l) FaultKind.Another codeItem) (finite stop) at (part m at stop)) r
+  at-level l d = placed-where codeItem FaultKind.Another (level l) (λ f. refl) (finite stop) at (part m at stop) (until stop) r d e
+
+  pub code-far : Far r → Finishes (codeBody deepestLevel) m at stop r
+  code-far f = then-far (level 13) codeItem m at stop r (at-level 13 refl) (lastBody (level 13) (walkItem 13)) f
+
+  pub code-near : Near r → (s : ℕ) → Finishes (lastBody (level 13) (walkItem 13)) m r stop s → Finishes (codeBody deepestLevel) m at stop s
+  code-near f s q = then-near (level 13) codeItem m at stop r (at-level 13 refl) (lastBody (level 13) (walkItem 13)) s f q
+
+  pub both-far : Far r → Finishes (thenBody (level 12) codeItem (onlyBody (level 12) (walkItem 12))) m at stop r
+  both-far f = then-far (level 12) codeItem m at stop r (at-level 12 refl) (onlyBody (level 12) (walkItem 12)) f
+
+  pub both-near : Near r → (s : ℕ) → Finishes (onlyBody (level 12) (walkItem 12)) m r stop s → Finishes (thenBody (level 12) codeItem (onlyBody (level 12) (walkItem 12))) m at stop s
+  both-near f s q = then-near (level 12) codeItem m at stop r (at-level 12 refl) (onlyBody (level 12) (walkItem 12)) s f q
+
+-- a linked ID or none
+module _ (m : List ℕ) (at stop : ℕ) (g : at ≤ until stop) (h : until stop ≤ length m) (b : Bool) (is : b ≡ standsOf m at stop 128) where
+  pub linked-none : b ≡ false → (r : ℕ) → Finishes (codeBody deepestLevel) m at stop r → Finishes (optBody (integerItem 128 1) (codeBody deepestLevel)) m at stop r
+  linked-none t r e = opt-none 128 (integerItem 128 1) (λ a. refl) (codeBody deepestLevel) refl refl refl (λ f. refl) (omega arith, omega arith, omega arith) m at stop g h b is t r e
+
+  module _ (t : b ≡ true) (r : ℕ) (e : Reads (integerItem 128 1) m at stop r) where
+    pub linked-far : Far r → Finishes (optBody (integerItem 128 1) (codeBody deepestLevel)) m at stop r
+    linked-far f = opt-far 128 (integerItem 128 1) (λ a. refl) (codeBody deepestLevel) refl refl refl (λ f. refl) (omega arith, omega arith, omega arith) m at stop g h b is t r e f
+
+    pub linked-near : Near r → (s : ℕ) → Finishes (codeBody deepestLevel) m r stop s → Finishes (optBody (integerItem 128 1) (codeBody deepestLevel)) m at stop s
+    linked-near f s q = opt-near 128 (integerItem 128 1) (λ a. refl) (codeBody deepestLevel) refl refl refl (λ f. refl) (omega arith, omega arith, omega arith) m at stop g h b is t r e f s q
+
+-- the invoke ID and the rest; it goes with later faults, whose number it does not change
+noted-keeps : (i : ℤ) → Keeps (noted i)
+unfolding withInvokeId faultPlace
+noted-keeps i (fault k q o j t) = refl
+
+module _ {B C : Type 0} (y : Body B) (f : ℤ × B → C) (m : List ℕ) (at stop r : ℕ) (e : Reads (integerItem 2 1) m at stop r) where
+  lifted-id : Placed at (until stop) (ask (front (level 13) FaultKind.Another (integerItem 2 1)) (finite stop) at (part m at stop)) r
+  lifted-id = placed-where (integerItem 2 1) FaultKind.Another (level 13) (λ f. refl) (finite stop) at (part m at stop) (until stop) r refl e
+
+  with-id-far : Far r → Finishes (mapBody f (bindBody (level 13) noted (integerItem 2 1) (λ i. y))) m at stop r
+  with-id-far h = map-closed f (bindBody (level 13) noted (integerItem 2 1) (λ i. y)) m at stop r (bind-far (level 13) (integerItem 2 1) m at stop r lifted-id noted noted-keeps (λ i. y) h)
+
+  with-id-near : Near r → (s : ℕ) → Finishes y m r stop s → Finishes (mapBody f (bindBody (level 13) noted (integerItem 2 1) (λ i. y))) m at stop s
+  with-id-near h s q = map-closed f (bindBody (level 13) noted (integerItem 2 1) (λ i. y)) m at stop s (bind-near (level 13) (integerItem 2 1) m at stop r lifted-id noted noted-keeps (λ i. y) s h (λ i. q))
+
+module _ (m : List ℕ) (at stop r : ℕ) (e : Reads (integerItem 2 1) m at stop r) where
+  pub invoke-far : Far r → Finishes (invokeBody deepestLevel) m at stop r
+  invoke-far h = with-id-far (optBody (integerItem 128 1) (codeBody deepestLevel)) _ m at stop r e h
+
+  pub invoke-near : Near r → (s : ℕ) → Finishes (optBody (integerItem 128 1) (codeBody deepestLevel)) m r stop s → Finishes (invokeBody deepestLevel) m at stop s
+  invoke-near h s q = with-id-near (optBody (integerItem 128 1) (codeBody deepestLevel)) _ m at stop r e h s q
+
+  pub error-far : Far r → Finishes (errorBody deepestLevel) m at stop r
+  error-far h = with-id-far (codeBody deepestLevel) _ m at stop r e h
+
+  pub error-near : Near r → (s : ℕ) → Finishes (codeBody deepestLevel) m r stop s → Finishes (errorBody deepestLevel) m at stop s
+  error-near h s q = with-id-near (codeBody deepestLevel) _ m at stop r e h s q
+
+-- 30, or nothing
+module _ (m : List ℕ) (at stop : ℕ) (g : at ≤ until stop) (h : until stop ≤ length m) (b : Bool) (is : b ≡ endedOf (endOf (finite stop) (part m at stop))) where
+  pub result-none : b ≡ true → (r : ℕ) → r ≡ behindOf at stop → Finishes (lastBody (levelAt deepestLevel 4) (bothItem deepestLevel)) m at stop r
+  result-none t r e = rw e (last-none (level 13) (bothItem deepestLevel) m at stop g h (ended-is (endOf (finite stop) (part m at stop)) b is t))
+
+  module _ (no : b ≡ false) (inner : ℕ) (entry : inner ≡ entryPlace true m at stop 48) where
+    lift-both : (r : ℕ) → Reads (bothItem deepestLevel) m at stop r → Placed at (until stop) (ask (front (level 13) FaultKind.Another (bothItem deepestLevel)) (finite stop) at (part m at stop)) r
+    lift-both r e = placed-where (bothItem deepestLevel) FaultKind.Another (level 13) (λ f. refl) (finite stop) at (part m at stop) (until stop) r refl e
+
+    pub result-entry : Far inner → Finishes (lastBody (levelAt deepestLevel 4) (bothItem deepestLevel)) m at stop inner
+    unfolding constructorOf
+    result-entry f = last-far (level 13) (bothItem deepestLevel) m at stop inner (lift-both inner (entry-far true m at stop 48 inner g h entry (bothItem deepestLevel) (omega arith, omega arith, omega arith) refl (λ a. refl) f)) (not-ended (endOf (finite stop) (part m at stop)) b is no) f
+
+    module _ (top : length m ≤ 65535) (near : Near inner) (st : ℕ) (start : st ≡ at + 1 + lengthSize (getD m (at + 1) 0)) (r : ℕ) (e : Finishes (thenBody (level 12) codeItem (onlyBody (level 12) (walkItem 12))) m st inner r) where
+      held : Reads (bothItem deepestLevel) m at stop r
+      unfolding constructorOf
+      held = around-near (thenBody (level 12) codeItem (onlyBody (level 12) (walkItem 12))) m at stop 48 inner st r g h top (omega arith, omega arith, omega arith) refl entry near start e
+
+      pub result-far : Far r → Finishes (lastBody (levelAt deepestLevel 4) (bothItem deepestLevel)) m at stop r
+      result-far f = last-far (level 13) (bothItem deepestLevel) m at stop r (lift-both r held) (not-ended (endOf (finite stop) (part m at stop)) b is no) f
+
+      pub result-near : Near r → (s : ℕ) → Finishes nothing m r stop s → Finishes (lastBody (levelAt deepestLevel 4) (bothItem deepestLevel)) m at stop s
+      result-near f s q = last-near (level 13) (bothItem deepestLevel) m at stop r (lift-both r held) (not-ended (endOf (finite stop) (part m at stop)) b is no) (λ f. refl) refl s f q
+
+      pub result-within : Near r → r ≤ until stop
+      result-within f = reads-within (bothItem deepestLevel) m at stop r held f
+
+-- An Invoke
+module _ (m : List ℕ) (at stop inner : ℕ) (g : at ≤ until stop) (h : until stop ≤ length m) (entry : inner ≡ entryPlace true m at stop 161) where
+  pub invoke-entry : Far inner → Reads (aroundItem 161 (invokeBody deepestLevel)) m at stop inner
+  unfolding constructorOf
+  invoke-entry f = around-entry 161 (omega arith, omega arith, omega arith) refl (invokeBody deepestLevel) m at stop inner g h entry f
+
+  pub invoke-read : length m ≤ 65535 → Near inner → (st : ℕ) → st ≡ at + 1 + lengthSize (getD m (at + 1) 0) → (r : ℕ) → Finishes (invokeBody deepestLevel) m st inner r → Reads (aroundItem 161 (invokeBody deepestLevel)) m at stop r
+  unfolding constructorOf
+  invoke-read top near st start r e = around-read 161 (omega arith, omega arith, omega arith) refl (invokeBody deepestLevel) m at stop inner g h entry top near st start r e

@@ -1,0 +1,3 @@
+pub mod Contents
+pub mod Coded
+pub mod Carried

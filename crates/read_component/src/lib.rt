@@ -1,0 +1,112 @@
+// Components: an answer is the place behind what was read, or a fault.
+ghost use Prim.Native.Nat.{_+_};
+ghost use Rattle.read_place.specs.Places.{Reads, Finishes, Ready};
+ghost use Rattle.tcap.specs.Productions.{codeItem, codeBody, bothItem, invokeBody, errorBody, levelAt};
+ghost use Rattle.element.specs.Parts.{integerItem, level, aroundItem, thenBody, onlyBody, lastBody, optBody};
+ghost use Rattle.element.specs.Walk.{walkItem};
+ghost use Rattle.tcap.specs.WellFormed.{deepestLevel};
+use read_field::code_at;
+use read_field::last_at;
+use read_field::octet_at;
+use read_field::sole_at;
+use read_place::FAULT;
+use read_place::behind;
+use read_place::ended;
+use read_place::entry_at;
+use read_place::leave;
+use read_place::stands;
+use read_place::start_of;
+
+// A code, and a parameter or none: the place behind the contents.
+pub fn coded_at(m: &[u8], at: usize, stop: usize) -> usize
+    requires { ⌜ Ready (now m) at stop ⌝ }
+    ensures { λ r. ⌜ Finishes (codeBody deepestLevel) (now (m .entry)) at stop r ⌝ }
+{
+    let r = code_at(m, at, stop);
+    if r >= FAULT {
+        return r;
+    }
+    last_at(m, r, stop, 13)
+}
+
+// A code and a parameter, the contents of 30.
+pub fn both_at(m: &[u8], at: usize, stop: usize) -> usize
+    requires { ⌜ Ready (now m) at stop ⌝ }
+    ensures { λ r. ⌜ Finishes (thenBody (level 12) codeItem (onlyBody (level 12) (walkItem 12))) (now (m .entry)) at stop r ⌝ }
+{
+    let r = code_at(m, at, stop);
+    if r >= FAULT {
+        return r;
+    }
+    sole_at(m, r, stop, 12)
+}
+
+// What stands behind the invoke ID of an Invoke: a linked ID or none, code and parameter.
+pub fn linked_at(m: &[u8], at: usize, stop: usize) -> usize
+    requires { ⌜ Ready (now m) at stop ⌝ }
+    ensures { λ r. ⌜ Finishes (optBody (integerItem 0x80 1) (codeBody deepestLevel)) (now (m .entry)) at stop r ⌝ }
+{
+    if stands(m, at, stop, 0x80) {
+        let r = octet_at(m, at, stop, 0x80);
+        if r >= FAULT {
+            return r;
+        }
+        return coded_at(m, r, stop);
+    }
+    coded_at(m, at, stop)
+}
+
+// The contents of an Invoke.
+pub fn invoke_at(m: &[u8], at: usize, stop: usize) -> usize
+    requires { ⌜ Ready (now m) at stop ⌝ }
+    ensures { λ r. ⌜ Finishes (invokeBody deepestLevel) (now (m .entry)) at stop r ⌝ }
+{
+    let r = octet_at(m, at, stop, 0x02);
+    if r >= FAULT {
+        return r;
+    }
+    linked_at(m, r, stop)
+}
+
+// The contents of a Return Error.
+pub fn error_at(m: &[u8], at: usize, stop: usize) -> usize
+    requires { ⌜ Ready (now m) at stop ⌝ }
+    ensures { λ r. ⌜ Finishes (errorBody deepestLevel) (now (m .entry)) at stop r ⌝ }
+{
+    let r = octet_at(m, at, stop, 0x02);
+    if r >= FAULT {
+        return r;
+    }
+    coded_at(m, r, stop)
+}
+
+// Code and parameter in 30, or nothing: what stands behind the invoke ID of a result.
+pub fn result_at(m: &[u8], at: usize, stop: usize) -> usize
+    requires { ⌜ Ready (now m) at stop ⌝ }
+    ensures { λ r. ⌜ Finishes (lastBody (levelAt deepestLevel 4) (bothItem deepestLevel)) (now (m .entry)) at stop r ⌝ }
+{
+    if ended(m, at, stop) {
+        return behind(at, stop);
+    }
+    let inner = entry_at(m, at, stop, 0x30);
+    if inner >= FAULT {
+        return inner;
+    }
+    let r = both_at(m, start_of(m, at + 1), inner);
+    if r >= FAULT {
+        return r;
+    }
+    leave(m, r, stop)
+}
+
+// An Invoke.
+pub fn invoke_item(m: &[u8], at: usize, stop: usize) -> usize
+    requires { ⌜ Ready (now m) at stop ⌝ }
+    ensures { λ r. ⌜ Reads (aroundItem 0xA1 (invokeBody deepestLevel)) (now (m .entry)) at stop r ⌝ }
+{
+    let inner = entry_at(m, at, stop, 0xA1);
+    if inner >= FAULT {
+        return inner;
+    }
+    invoke_at(m, start_of(m, at + 1), inner)
+}

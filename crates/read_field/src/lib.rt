@@ -1,0 +1,125 @@
+// The fields that stand in a component, a dialogue or a message: an answer is the place behind the field, or a fault.
+ghost use mathlib.Core.Path.{_≡_};
+ghost use Prim.Native.Nat.{_+_, _/_, _%_, _≤_};
+ghost use Rattle.read_place.specs.Places.{Leads, Reads, Finishes, Ready};
+ghost use Rattle.tcap.specs.Productions.{octetItem, nameItem, codeItem};
+ghost use Rattle.element.specs.Parts.{integerItem, level, onlyBody, lastBody};
+ghost use Rattle.element.specs.Walk.{walkItem};
+use base::piece;
+use read_place::BAD_CONTENTS;
+use read_place::CUT_OFF;
+use read_place::FAULT;
+use read_place::MISSING;
+use read_place::OPEN;
+use read_place::bad_field;
+use read_place::behind;
+use read_place::count_at;
+use read_place::ended;
+use read_place::leave;
+use read_place::stands;
+use read_place::unfinished;
+use read_place::walk_element;
+
+// An object identifier.
+pub fn name_at(m: &[u8], at: usize, stop: usize) -> usize
+    requires { ⌜ Ready (now m) at stop ⌝ }
+    ensures { λ r. ⌜ Reads nameItem (now (m .entry)) at stop r ⌝ }
+{
+    let n = count_at(m, at, stop, 0x06, 16);
+    if n == 0 {
+        return bad_field(m, at, stop, 0x06);
+    }
+    if primitive::identifier_ok(piece(m, at + 2, n)) {
+        return at + 2 + n;
+    }
+    BAD_CONTENTS + at
+}
+
+// One octet, an ID.
+pub fn octet_at(m: &[u8], at: usize, stop: usize, tag: u8) -> usize
+    requires { ⌜ Ready (now m) at stop × Leads tag × (tag / 32 % 2 ≡ 0) ⌝ }
+    ensures { λ r. ⌜ Reads (integerItem tag 1) (now (m .entry)) at stop r ⌝ }
+{
+    let n = count_at(m, at, stop, tag, 1);
+    if n == 0 {
+        return bad_field(m, at, stop, tag);
+    }
+    at + 3
+}
+
+// One octet, 0 to `most`.
+pub fn small_at(m: &[u8], at: usize, stop: usize, tag: u8, most: u8) -> usize
+    requires { ⌜ Ready (now m) at stop × Leads tag × (tag / 32 % 2 ≡ 0) ⌝ }
+    ensures { λ r. ⌜ Reads (octetItem tag most) (now (m .entry)) at stop r ⌝ }
+{
+    let n = count_at(m, at, stop, tag, 1);
+    if n == 0 {
+        return bad_field(m, at, stop, tag);
+    }
+    if m[at + 2] <= most {
+        return at + 3;
+    }
+    BAD_CONTENTS + at
+}
+
+// A local code.
+pub fn local_at(m: &[u8], at: usize, stop: usize) -> usize
+    requires { ⌜ Ready (now m) at stop ⌝ }
+    ensures { λ r. ⌜ Reads (integerItem 0x02 4) (now (m .entry)) at stop r ⌝ }
+{
+    let n = count_at(m, at, stop, 0x02, 4);
+    if n == 0 {
+        return bad_field(m, at, stop, 0x02);
+    }
+    match primitive::integer_at(piece(m, at + 2, n), 4) {
+        primitive::IntegerRead::Wrong => BAD_CONTENTS + at,
+        primitive::IntegerRead::Value(value) => at + 2 + n,
+    }
+}
+
+// A code.
+pub fn code_at(m: &[u8], at: usize, stop: usize) -> usize
+    requires { ⌜ Ready (now m) at stop ⌝ }
+    ensures { λ r. ⌜ Reads codeItem (now (m .entry)) at stop r ⌝ }
+{
+    if stands(m, at, stop, 0x06) {
+        return name_at(m, at, stop);
+    }
+    local_at(m, at, stop)
+}
+
+// One last element of any kind, or none: the place behind the contents.
+pub fn last_at(m: &[u8], at: usize, stop: usize, left: usize) -> usize
+    requires { ⌜ Ready (now m) at stop × (1 ≤ left) ⌝ }
+    ensures { λ r. ⌜ Finishes (lastBody (level left) (walkItem left)) (now (m .entry)) at stop r ⌝ }
+{
+    if ended(m, at, stop) {
+        return behind(at, stop);
+    }
+    if unfinished(m, at, stop) {
+        return CUT_OFF + at;
+    }
+    let r = walk_element(m, at, stop % OPEN, left);
+    if r >= FAULT {
+        return r;
+    }
+    leave(m, r, stop)
+}
+
+// One last element of any kind: the place behind the contents.
+pub fn sole_at(m: &[u8], at: usize, stop: usize, left: usize) -> usize
+    requires { ⌜ Ready (now m) at stop × (1 ≤ left) ⌝ }
+    ensures { λ r. ⌜ Finishes (onlyBody (level left) (walkItem left)) (now (m .entry)) at stop r ⌝ }
+{
+    if ended(m, at, stop) {
+        return MISSING + at;
+    }
+    if unfinished(m, at, stop) {
+        return CUT_OFF + at;
+    }
+    let r = walk_element(m, at, stop % OPEN, left);
+    if r >= FAULT {
+        return r;
+    }
+    leave(m, r, stop)
+}

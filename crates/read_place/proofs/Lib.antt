@@ -1,0 +1,9 @@
+pub mod Views
+pub mod Answers
+pub mod Fronts
+pub mod Onto
+pub mod Bodies
+pub mod Items
+pub mod Walks
+pub mod Optional
+pub mod Values

@@ -1,0 +1,62 @@
+-- `count_at` meets its contract. Assumes nothing.
+use borrow.Author.Needs.{needs}
+use Prim.Native.Nat.{_+_}
+use native.Mathlib.Omega.{arith}
+use Rattle.read_place.specs.Places.{countOf}
+use Rattle.base.proofs.Tests.{tests}
+use Rattle.read_place.proofs.count_at.Statement.{statement}
+use Rattle.read_place.proofs.count_at.Tie as tie
+
+sub-left : tie.Need-sub-left
+sub-left c = search needs
+
+returns : tie.Need-returns
+unfolding countOf
+returns c = search tests
+
+shared-slice-read-if2 : tie.Need-shared-slice-read-if2
+shared-slice-read-if2 c = search needs
+
+returns-2 : tie.Need-returns-2
+unfolding countOf
+returns-2 c = search tests
+
+add-n : tie.Need-add-n
+add-n c = search needs
+
+shared-slice-read-n : tie.Need-shared-slice-read-n
+shared-slice-read-n c = search needs
+
+cast-n : tie.Need-cast-n
+cast-n c = omega (arith, c .shared-slice-known2 .given (c .before .before .before .before .args .at + 1))
+
+returns-3 : tie.Need-returns-3
+unfolding countOf
+returns-3 c = search tests
+
+sub-if4 : tie.Need-sub-if4
+sub-if4 c = search needs
+
+returns-4 : tie.Need-returns-4
+unfolding countOf
+returns-4 c = search tests
+
+returns-5 : tie.Need-returns-5
+unfolding countOf
+returns-5 c = search tests
+
+pub count-at-spec : {M : Type 1} → statement M
+count-at-spec =
+    tie.close
+    (tie.spec
+    sub-left
+    returns
+    shared-slice-read-if2
+    returns-2
+    add-n
+    shared-slice-read-n
+    cast-n
+    returns-3
+    sub-if4
+    returns-4
+    returns-5)

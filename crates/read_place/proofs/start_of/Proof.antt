@@ -1,0 +1,46 @@
+-- `start_of` meets its contract. Assumes nothing.
+use borrow.Author.Needs.{needs}
+use native.Mathlib.Omega.{arith}
+use Rattle.read_place.specs.Places.{lengthSize}
+use Rattle.base.proofs.Tests.{tests}
+use Rattle.read_place.proofs.start_of.Statement.{statement}
+use Rattle.read_place.proofs.start_of.Tie as tie
+
+shared-slice-read-b : tie.Need-shared-slice-read-b
+shared-slice-read-b c = search needs
+
+cast-b : tie.Need-cast-b
+cast-b c = omega (arith, c .shared-slice-known .given (c .before .args .from))
+
+add-result : tie.Need-add-result
+add-result c = search needs
+
+returns : tie.Need-returns
+unfolding lengthSize
+returns c = search tests
+
+sub-result : tie.Need-sub-result
+sub-result c = search needs
+
+add-result-2 : tie.Need-add-result-2
+add-result-2 c = omega (arith, c .before .shared-slice-known .given (c .before .before .args .from))
+
+add-result-3 : tie.Need-add-result-3
+add-result-3 c = omega (arith, c .before .shared-slice-known .given (c .before .before .args .from))
+
+returns-2 : tie.Need-returns-2
+unfolding lengthSize
+returns-2 c = search tests
+
+pub start-of-spec : {M : Type 1} → statement M
+start-of-spec =
+    tie.close
+    (tie.spec
+    shared-slice-read-b
+    cast-b
+    add-result
+    returns
+    sub-result
+    add-result-2
+    add-result-3
+    returns-2)

@@ -1,0 +1,422 @@
+// Where a reader stands, and what may stand there: ends, tags, lengths, elements that are walked.
+// Contents stand from a place to a `stop`: the place where they end, or, if they are indefinite, OPEN and the end of what is around them.
+// An answer below OPEN is the place behind what was read, or a stop; from FAULT on it is a fault: kind and place.
+ghost use mathlib.Core.Path.{_≡_};
+ghost use mathlib.Core.Bool.{true, false};
+ghost use Prim.Native.Nat.{suc, _+_, _-_, _/_, _%_, _<_, _≤_};
+ghost use Rattle.base.specs.Number.{numberFrom};
+ghost use lib.ListN.{length, getD};
+ghost use Rattle.element.specs.Head.{endOf, tagOf, within, longOf, lengthOf};
+ghost use Rattle.read_place.specs.Places.{span, part, finite, Stands, endedOf, unfinishedOf, behindOf, tagPlace, lengthPlace, lengthSize, wrongPlace, standsOf, entryPlace, badPlace, countOf, Finishes, nothing, Walked, WalkedOut, shortPlace, until, Ready};
+ghost use Rattle.element.specs.Answers.{elementWalk, seriesWalk};
+use base::piece;
+use base::wide;
+
+pub const OPEN: usize = 65536;
+
+pub const FAULT: usize = 131072;
+
+pub const CUT_OFF: usize = 131072;
+
+pub const BAD_TAG: usize = 196608;
+
+pub const BAD_LENGTH: usize = 262144;
+
+pub const PASSES_END: usize = 327680;
+
+pub const TOO_DEEP: usize = 393216;
+
+pub const CODE_ZERO: usize = 458752;
+
+pub const OVERLONG: usize = 524288;
+
+pub const NO_MESSAGE: usize = 589824;
+
+pub const OCTETS_AFTER: usize = 655360;
+
+pub const MISSING: usize = 720896;
+
+pub const ANOTHER: usize = 786432;
+
+pub const TOO_MANY: usize = 851968;
+
+pub const BAD_CONTENTS: usize = 917504;
+
+pub const SEVENTEENTH: usize = 983040;
+
+pub const UNKNOWN_COMPONENT: usize = 1048576;
+
+// Whether contents end here.
+pub fn ended(m: &[u8], at: usize, stop: usize) -> bool
+    requires { ⌜ Ready (now m) at stop ⌝ }
+    ensures { λ r. ⌜ r ≡ endedOf (endOf (finite stop) (part (now (m .entry)) at stop)) ⌝ }
+{
+    if stop < OPEN {
+        return at == stop;
+    }
+    let left = stop - OPEN - at;
+    if left == 0 {
+        return false;
+    }
+    if m[at] != 0 {
+        return false;
+    }
+    if left == 1 {
+        return false;
+    }
+    m[at + 1] == 0
+}
+
+// Whether contents lack their end pair here.
+pub fn unfinished(m: &[u8], at: usize, stop: usize) -> bool
+    requires { ⌜ Ready (now m) at stop ⌝ }
+    ensures { λ r. ⌜ r ≡ unfinishedOf (endOf (finite stop) (part (now (m .entry)) at stop)) ⌝ }
+{
+    if stop < OPEN {
+        return false;
+    }
+    let left = stop - OPEN - at;
+    if left == 0 {
+        return true;
+    }
+    if m[at] != 0 {
+        return false;
+    }
+    left == 1
+}
+
+// The place behind contents that end here.
+pub fn behind(at: usize, stop: usize) -> usize
+    requires { ⌜ at ≤ 65535 ⌝ }
+    ensures { λ r. ⌜ r ≡ behindOf at stop ⌝ }
+{
+    if stop < OPEN {
+        return at;
+    }
+    at + 2
+}
+
+// The place behind the tag here.
+pub fn tag_at(m: &[u8], at: usize, end: usize) -> usize
+    requires { ⌜ Stands (now m) at end ⌝ }
+    ensures { λ r. ⌜ r ≡ tagPlace at (tagOf (span (now (m .entry)) at end)) ⌝ }
+{
+    let left = end - at;
+    if left == 0 {
+        return CUT_OFF + at;
+    }
+    if m[at] % 32 != 31 {
+        return at + 1;
+    }
+    if left <= 1 {
+        return CUT_OFF + at;
+    }
+    let one = m[at + 1];
+    if one == 128 {
+        return BAD_TAG + at;
+    }
+    if one < 31 {
+        return BAD_TAG + at;
+    }
+    if one < 128 {
+        return at + 2;
+    }
+    if left <= 2 {
+        return CUT_OFF + at;
+    }
+    if m[at + 2] < 128 {
+        return at + 3;
+    }
+    if left <= 3 {
+        return CUT_OFF + at;
+    }
+    if m[at + 3] < 128 {
+        return at + 4;
+    }
+    BAD_TAG + at
+}
+
+// Where contents end of whose length these are the octets, behind which `room` octets stand from `start` on.
+pub fn long_count(octets: &[u8], at: usize, from: usize, room: usize) -> usize
+    requires { ⌜ (at ≤ 65535) × (from + length (now octets) + room ≤ 65535) ⌝ }
+    ensures { λ r. ⌜ r ≡ lengthPlace at from 0 (within (suc (length (now (octets .entry)))) (numberFrom 0 (now (octets .entry))) room) ⌝ }
+{
+    let k = octets.len();
+    let mut value: usize = 0;
+    let mut i = 0;
+    while i < octets.len() {
+        if value > room / 256 {
+            return PASSES_END + at;
+        }
+        value = value * 256 + wide(octets[i]);
+        i += 1;
+    }
+    if value <= room {
+        return from + (k + 1 + value);
+    }
+    PASSES_END + at
+}
+
+// The same of a length in `k` octets.
+pub fn long_length(m: &[u8], at: usize, from: usize, end: usize, k: usize) -> usize
+    requires { ⌜ Stands (now m) from end × (from < end) × (1 ≤ k) × (at ≤ 65535) ⌝ }
+    ensures { λ r. ⌜ r ≡ lengthPlace at from end (longOf (span (now (m .entry)) from end) k) ⌝ }
+{
+    let left = end - from - 1;
+    if left < k {
+        return CUT_OFF + at;
+    }
+    let one = m[from + 1];
+    if one == 0 {
+        return BAD_LENGTH + at;
+    }
+    if k != 1 {
+        return long_count(piece(m, from + 1, k), at, from, left - k);
+    }
+    if one < 128 {
+        return BAD_LENGTH + at;
+    }
+    long_count(piece(m, from + 1, k), at, from, left - k)
+}
+
+// The stop of contents whose length stands at `from`; the element stands at `at`.
+pub fn length_at(m: &[u8], at: usize, from: usize, end: usize, constructor: bool) -> usize
+    requires { ⌜ Stands (now m) from end × (at ≤ 65535) ⌝ }
+    ensures { λ r. ⌜ r ≡ lengthPlace at from end (lengthOf (span (now (m .entry)) from end) constructor) ⌝ }
+{
+    let left = end - from;
+    if left == 0 {
+        return CUT_OFF + at;
+    }
+    let b = m[from] as usize;
+    if b < 128 {
+        if b <= left - 1 {
+            return from + (1 + b);
+        }
+        return PASSES_END + at;
+    }
+    if 255 <= b {
+        return BAD_LENGTH + at;
+    }
+    if b == 128 {
+        if constructor {
+            return OPEN + end;
+        }
+        return BAD_LENGTH + at;
+    }
+    long_length(m, at, from, end, b - 128)
+}
+
+// Where contents begin whose length, which is good, stands at `from`.
+pub fn start_of(m: &[u8], from: usize) -> usize
+    requires { ⌜ (from < length (now m)) × (length (now m) ≤ 65535) ⌝ }
+    ensures { λ r. ⌜ r ≡ from + lengthSize (getD (now (m .entry)) from 0) ⌝ }
+{
+    let b = m[from] as usize;
+    if b <= 128 {
+        return from + 1;
+    }
+    from + (1 + (b - 128))
+}
+
+// The fault of an element that may not stand here: `other` if it is sound.
+pub fn wrong_at(m: &[u8], at: usize, stop: usize, other: usize) -> usize
+    requires { ⌜ Ready (now m) at stop × (other ≤ 1048576) ⌝ }
+    ensures { λ r. ⌜ r ≡ wrongPlace (now (m .entry)) at stop other ⌝ }
+{
+    if ended(m, at, stop) {
+        return MISSING + at;
+    }
+    if unfinished(m, at, stop) {
+        return CUT_OFF + at;
+    }
+    let r = tag_at(m, at, stop % OPEN);
+    if r >= FAULT {
+        return r;
+    }
+    if m[at] == 0 {
+        return CODE_ZERO + at;
+    }
+    if m[at] == 32 {
+        return CODE_ZERO + at;
+    }
+    other + at
+}
+
+// Nothing more may come: the place behind the contents.
+pub fn leave(m: &[u8], at: usize, stop: usize) -> usize
+    requires { ⌜ Ready (now m) at stop ⌝ }
+    ensures { λ r. ⌜ Finishes nothing (now (m .entry)) at stop r ⌝ }
+{
+    if ended(m, at, stop) {
+        return behind(at, stop);
+    }
+    wrong_at(m, at, stop, TOO_MANY)
+}
+
+// Whether an element with this tag of one octet stands here.
+pub fn stands(m: &[u8], at: usize, stop: usize, tag: u8) -> bool
+    requires { ⌜ Stands (now m) at (until stop) ⌝ }
+    ensures { λ r. ⌜ r ≡ standsOf (now (m .entry)) at stop tag ⌝ }
+{
+    if at == stop % OPEN {
+        return false;
+    }
+    m[at] == tag
+}
+
+// A constructor of this tag must stand here: the stop of its contents.
+pub fn entry_at(m: &[u8], at: usize, stop: usize, tag: u8) -> usize
+    requires { ⌜ Ready (now m) at stop ⌝ }
+    ensures { λ r. ⌜ r ≡ entryPlace true (now (m .entry)) at stop tag ⌝ }
+{
+    if stands(m, at, stop, tag) {
+        return length_at(m, at, at + 1, stop % OPEN, true);
+    }
+    wrong_at(m, at, stop, ANOTHER)
+}
+
+// A primitive of this tag must stand here: the place behind it.
+pub fn field_asked(m: &[u8], at: usize, stop: usize, tag: u8) -> usize
+    requires { ⌜ Ready (now m) at stop ⌝ }
+    ensures { λ r. ⌜ r ≡ entryPlace false (now (m .entry)) at stop tag ⌝ }
+{
+    if stands(m, at, stop, tag) {
+        return length_at(m, at, at + 1, stop % OPEN, false);
+    }
+    wrong_at(m, at, stop, ANOTHER)
+}
+
+// The same where its contents are not as wanted.
+pub fn bad_field(m: &[u8], at: usize, stop: usize, tag: u8) -> usize
+    requires { ⌜ Ready (now m) at stop ⌝ }
+    ensures { λ r. ⌜ r ≡ badPlace (now (m .entry)) at stop tag ⌝ }
+{
+    let r = field_asked(m, at, stop, tag);
+    if r >= FAULT {
+        return r;
+    }
+    BAD_CONTENTS + at
+}
+
+// How many contents octets the primitive of this tag has, if they are 1 to `most`, at most 127; else 0.
+pub fn count_at(m: &[u8], at: usize, stop: usize, tag: u8, most: usize) -> usize
+    requires { ⌜ Stands (now m) at (until stop) ⌝ }
+    ensures { λ r. ⌜ r ≡ countOf (until stop - at) (getD (now (m .entry)) at 0) (getD (now (m .entry)) (at + 1) 0) tag most ⌝ }
+{
+    let left = stop % OPEN - at;
+    if left < 3 {
+        return 0;
+    }
+    if m[at] != tag {
+        return 0;
+    }
+    let n = m[at + 1] as usize;
+    if n > most {
+        return 0;
+    }
+    if n > left - 2 {
+        return 0;
+    }
+    n
+}
+
+// The place behind a primitive, or an empty constructor, whose tag and length take an octet each; 0 if none stands here.
+pub fn short_at(m: &[u8], at: usize, end: usize) -> usize
+    requires { ⌜ Stands (now m) at end ⌝ }
+    ensures { λ r. ⌜ r ≡ shortPlace at (end - at) (getD (now (m .entry)) at 0) (getD (now (m .entry)) (at + 1) 0) ⌝ }
+{
+    let left = end - at;
+    if left < 2 {
+        return 0;
+    }
+    let first = m[at];
+    if first % 32 == 31 {
+        return 0;
+    }
+    if first == 0 {
+        return 0;
+    }
+    if first == 32 {
+        return 0;
+    }
+    let n = m[at + 1] as usize;
+    if n > 127 {
+        return 0;
+    }
+    if n > left - 2 {
+        return 0;
+    }
+    if first / 32 % 2 == 0 {
+        return at + 2 + n;
+    }
+    if n == 0 {
+        return at + 2 + n;
+    }
+    0
+}
+
+// Any element, walked to its bottom.
+pub fn walk_any(m: &[u8], at: usize, end: usize, left: usize) -> usize
+    requires { ⌜ Stands (now m) at end ⌝ }
+    ensures { λ r. ⌜ Walked at end (elementWalk 0 left at (span (now (m .entry)) at end)) r ⌝ }
+{
+    let next = tag_at(m, at, end);
+    if next >= FAULT {
+        return next;
+    }
+    let first = m[at];
+    if first == 0 {
+        return CODE_ZERO + at;
+    }
+    if first == 32 {
+        return CODE_ZERO + at;
+    }
+    if left == 0 {
+        return TOO_DEEP + at;
+    }
+    if first / 32 % 2 == 0 {
+        return length_at(m, at, next, end, false);
+    }
+    let stop = length_at(m, at, next, end, true);
+    if stop >= FAULT {
+        return stop;
+    }
+    walk_series(m, start_of(m, next), stop, left - 1)
+}
+
+// The same; most elements are short.
+pub fn walk_element(m: &[u8], at: usize, end: usize, left: usize) -> usize
+    requires { ⌜ Stands (now m) at end ⌝ }
+    ensures { λ r. ⌜ Walked at end (elementWalk 0 left at (span (now (m .entry)) at end)) r ⌝ }
+{
+    if left > 0 {
+        let r = short_at(m, at, end);
+        if r > 0 {
+            return r;
+        }
+        return walk_any(m, at, end, left);
+    }
+    walk_any(m, at, end, left)
+}
+
+// Elements to the end of their contents.
+pub fn walk_series(m: &[u8], from: usize, stop: usize, left: usize) -> usize
+    requires { ⌜ Ready (now m) from stop ⌝ }
+    ensures { λ r. ⌜ WalkedOut (finite stop) from (until stop) (seriesWalk 0 left (finite stop) from (part (now (m .entry)) from stop)) r ⌝ }
+{
+    let mut at = from;
+    loop {
+        if ended(m, at, stop) {
+            return behind(at, stop);
+        }
+        if unfinished(m, at, stop) {
+            return CUT_OFF + at;
+        }
+        let r = walk_element(m, at, stop % OPEN, left);
+        if r >= FAULT {
+            return r;
+        }
+        at = r;
+    }
+}
