@@ -63,7 +63,7 @@ one-of zero t l = absurd (t refl)
 one-of (suc zero) t l = refl
 one-of (suc (suc n)) t l = absurd (omega (arith, l))
 
-plain : (tag : ℕ) → tag / 32 % 2 ≡ 0 → constructorOf tag ≡ false
+pub plain : (tag : ℕ) → tag / 32 % 2 ≡ 0 → constructorOf tag ≡ false
 unfolding constructorOf
 plain tag e = ne-eqb (tag / 32 % 2) 1 (λ z. omega (arith, e, z))
 

@@ -1,9 +1,12 @@
 // The fields that stand in a component, a dialogue or a message: an answer is the place behind the field, or a fault.
 ghost use mathlib.Core.Path.{_≡_};
+ghost use mathlib.Core.List.{[]};
 ghost use Prim.Native.Nat.{_+_, _/_, _%_, _≤_};
 ghost use Rattle.read_place.specs.Places.{Leads, Reads, Finishes, Ready};
-ghost use Rattle.tcap.specs.Productions.{octetItem, nameItem, codeItem};
-ghost use Rattle.element.specs.Parts.{integerItem, level, onlyBody, lastBody};
+ghost use Rattle.base.specs.Value.{same};
+ghost use Rattle.tcap.specs.WellFormed.{idOk};
+ghost use Rattle.tcap.specs.Productions.{octetItem, nameItem, codeItem, idOrNullItem, problemItem};
+ghost use Rattle.element.specs.Parts.{leafItem, integerItem, level, onlyBody, lastBody};
 ghost use Rattle.element.specs.Walk.{walkItem};
 use base::piece;
 use read_place::BAD_CONTENTS;
@@ -15,6 +18,7 @@ use read_place::bad_field;
 use read_place::behind;
 use read_place::count_at;
 use read_place::ended;
+use read_place::field_asked;
 use read_place::leave;
 use read_place::stands;
 use read_place::unfinished;
@@ -122,4 +126,59 @@ pub fn sole_at(m: &[u8], at: usize, stop: usize, left: usize) -> usize
         return r;
     }
     leave(m, r, stop)
+}
+
+// A null.
+pub fn null_at(m: &[u8], at: usize, stop: usize) -> usize
+    requires { ⌜ Ready (now m) at stop ⌝ }
+    ensures { λ r. ⌜ Reads (leafItem 0x05 (same [])) (now (m .entry)) at stop r ⌝ }
+{
+    let r = field_asked(m, at, stop, 0x05);
+    if r >= FAULT {
+        return r;
+    }
+    if r == at + 2 {
+        return r;
+    }
+    BAD_CONTENTS + at
+}
+
+// The invoke ID of a Reject, or a null.
+pub fn reject_id_at(m: &[u8], at: usize, stop: usize) -> usize
+    requires { ⌜ Ready (now m) at stop ⌝ }
+    ensures { λ r. ⌜ Reads idOrNullItem (now (m .entry)) at stop r ⌝ }
+{
+    if stands(m, at, stop, 0x05) {
+        return null_at(m, at, stop);
+    }
+    octet_at(m, at, stop, 0x02)
+}
+
+// A problem.
+pub fn problem_at(m: &[u8], at: usize, stop: usize) -> usize
+    requires { ⌜ Ready (now m) at stop ⌝ }
+    ensures { λ r. ⌜ Reads problemItem (now (m .entry)) at stop r ⌝ }
+{
+    if stands(m, at, stop, 0x81) {
+        return small_at(m, at, stop, 0x81, 7);
+    }
+    if stands(m, at, stop, 0x82) {
+        return small_at(m, at, stop, 0x82, 2);
+    }
+    if stands(m, at, stop, 0x83) {
+        return small_at(m, at, stop, 0x83, 4);
+    }
+    small_at(m, at, stop, 0x80, 2)
+}
+
+// A transaction ID.
+pub fn transaction_id_at(m: &[u8], at: usize, stop: usize, tag: u8) -> usize
+    requires { ⌜ Ready (now m) at stop × Leads tag × (tag / 32 % 2 ≡ 0) ⌝ }
+    ensures { λ r. ⌜ Reads (leafItem tag idOk) (now (m .entry)) at stop r ⌝ }
+{
+    let n = count_at(m, at, stop, tag, 4);
+    if n == 0 {
+        return bad_field(m, at, stop, tag);
+    }
+    at + 2 + n
 }
