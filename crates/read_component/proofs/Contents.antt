@@ -52,12 +52,12 @@ module _ (m : List ℕ) (at stop : ℕ) (g : at ≤ until stop) (h : until stop 
     linked-near f s q = opt-near 128 (integerItem 128 1) (λ a. refl) (codeBody deepestLevel) refl refl refl (λ f. refl) (omega arith, omega arith, omega arith) m at stop g h b is t r e f s q
 
 -- the invoke ID and the rest; it goes with later faults, whose number it does not change
-noted-keeps : (i : ℤ) → Keeps (noted i)
+pub noted-keeps : (i : ℤ) → Keeps (noted i)
 unfolding withInvokeId faultPlace
 noted-keeps i (fault k q o j t) = refl
 
 module _ {B C : Type 0} (y : Body B) (f : ℤ × B → C) (m : List ℕ) (at stop r : ℕ) (e : Reads (integerItem 2 1) m at stop r) where
-  lifted-id : Placed at (until stop) (ask (front (level 13) FaultKind.Another (integerItem 2 1)) (finite stop) at (part m at stop)) r
+  pub lifted-id : Placed at (until stop) (ask (front (level 13) FaultKind.Another (integerItem 2 1)) (finite stop) at (part m at stop)) r
   lifted-id = placed-where (integerItem 2 1) FaultKind.Another (level 13) (λ f. refl) (finite stop) at (part m at stop) (until stop) r refl e
 
   with-id-far : Far r → Finishes (mapBody f (bindBody (level 13) noted (integerItem 2 1) (λ i. y))) m at stop r
@@ -105,13 +105,3 @@ module _ (m : List ℕ) (at stop : ℕ) (g : at ≤ until stop) (h : until stop 
 
       pub result-within : Near r → r ≤ until stop
       result-within f = reads-within (bothItem deepestLevel) m at stop r held f
-
--- An Invoke
-module _ (m : List ℕ) (at stop inner : ℕ) (g : at ≤ until stop) (h : until stop ≤ length m) (entry : inner ≡ entryPlace true m at stop 161) where
-  pub invoke-entry : Far inner → Reads (aroundItem 161 (invokeBody deepestLevel)) m at stop inner
-  unfolding constructorOf
-  invoke-entry f = around-entry 161 (omega arith, omega arith, omega arith) refl (invokeBody deepestLevel) m at stop inner g h entry f
-
-  pub invoke-read : length m ≤ 65535 → Near inner → (st : ℕ) → st ≡ at + 1 + lengthSize (getD m (at + 1) 0) → (r : ℕ) → Finishes (invokeBody deepestLevel) m st inner r → Reads (aroundItem 161 (invokeBody deepestLevel)) m at stop r
-  unfolding constructorOf
-  invoke-read top near st start r e = around-read 161 (omega arith, omega arith, omega arith) refl (invokeBody deepestLevel) m at stop inner g h entry top near st start r e

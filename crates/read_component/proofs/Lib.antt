@@ -1,3 +1,4 @@
 pub mod Contents
+pub mod ByTag
 pub mod Coded
 pub mod Carried

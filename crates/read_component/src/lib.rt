@@ -1,21 +1,27 @@
 // Components: an answer is the place behind what was read, or a fault.
-ghost use Prim.Native.Nat.{_+_};
-ghost use Rattle.read_place.specs.Places.{Reads, Finishes, Ready};
-ghost use Rattle.tcap.specs.Productions.{codeItem, codeBody, bothItem, invokeBody, errorBody, levelAt};
-ghost use Rattle.element.specs.Parts.{integerItem, level, aroundItem, thenBody, onlyBody, lastBody, optBody};
+ghost use mathlib.Core.Path.{_≡_};
+ghost use Prim.Native.Nat.{_<_};
+ghost use Rattle.read_place.specs.Places.{until, Finishes, Ready};
+ghost use Rattle.read_component.specs.Components.{returnedBody, bodyOf, ReadsComponent};
+ghost use Rattle.tcap.specs.Productions.{componentItem, rejectBody, codeItem, codeBody, bothItem, invokeBody, errorBody, levelAt};
+ghost use Rattle.element.specs.Parts.{integerItem, level, thenBody, onlyBody, lastBody, optBody};
 ghost use Rattle.element.specs.Walk.{walkItem};
 ghost use Rattle.tcap.specs.WellFormed.{deepestLevel};
 use read_field::code_at;
 use read_field::last_at;
 use read_field::octet_at;
+use read_field::problem_at;
+use read_field::reject_id_at;
 use read_field::sole_at;
 use read_place::FAULT;
+use read_place::UNKNOWN_COMPONENT;
 use read_place::behind;
 use read_place::ended;
 use read_place::entry_at;
 use read_place::leave;
 use read_place::stands;
 use read_place::start_of;
+use read_place::wrong_at;
 
 // A code, and a parameter or none: the place behind the contents.
 pub fn coded_at(m: &[u8], at: usize, stop: usize) -> usize
@@ -99,14 +105,82 @@ pub fn result_at(m: &[u8], at: usize, stop: usize) -> usize
     leave(m, r, stop)
 }
 
-// An Invoke.
-pub fn invoke_item(m: &[u8], at: usize, stop: usize) -> usize
+// The contents of a result, last or not.
+pub fn returned_at(m: &[u8], at: usize, stop: usize) -> usize
     requires { ⌜ Ready (now m) at stop ⌝ }
-    ensures { λ r. ⌜ Reads (aroundItem 0xA1 (invokeBody deepestLevel)) (now (m .entry)) at stop r ⌝ }
+    ensures { λ r. ⌜ Finishes returnedBody (now (m .entry)) at stop r ⌝ }
 {
-    let inner = entry_at(m, at, stop, 0xA1);
-    if inner >= FAULT {
-        return inner;
+    let r = octet_at(m, at, stop, 0x02);
+    if r >= FAULT {
+        return r;
     }
-    invoke_at(m, start_of(m, at + 1), inner)
+    result_at(m, r, stop)
+}
+
+// The contents of a Reject.
+pub fn reject_at(m: &[u8], at: usize, stop: usize) -> usize
+    requires { ⌜ Ready (now m) at stop ⌝ }
+    ensures { λ r. ⌜ Finishes (rejectBody deepestLevel) (now (m .entry)) at stop r ⌝ }
+{
+    let r = reject_id_at(m, at, stop);
+    if r >= FAULT {
+        return r;
+    }
+    let s = problem_at(m, r, stop);
+    if s >= FAULT {
+        return s;
+    }
+    leave(m, s, stop)
+}
+
+// The contents of a component by its tag.
+pub fn contents_at(m: &[u8], at: usize, stop: usize, tag: u8) -> usize
+    requires { ⌜ Ready (now m) at stop ⌝ }
+    ensures { λ r. ⌜ Finishes (bodyOf tag) (now (m .entry)) at stop r ⌝ }
+{
+    if tag == 0xA1 {
+        return invoke_at(m, at, stop);
+    }
+    if tag == 0xA3 {
+        return error_at(m, at, stop);
+    }
+    if tag == 0xA4 {
+        return reject_at(m, at, stop);
+    }
+    returned_at(m, at, stop)
+}
+
+// Whether a first octet is the tag of a component.
+fn is_component(first: u8) -> bool
+    ensures { λ r. ⌜ r ≡ componentItem deepestLevel .mine first ⌝ }
+{
+    if first == 0xA1 {
+        return true;
+    }
+    if first == 0xA2 {
+        return true;
+    }
+    if first == 0xA3 {
+        return true;
+    }
+    if first == 0xA4 {
+        return true;
+    }
+    first == 0xA7
+}
+
+// A component that must stand here.
+pub fn component_at(m: &[u8], at: usize, stop: usize) -> usize
+    requires { ⌜ Ready (now m) at stop × (at < until stop) ⌝ }
+    ensures { λ r. ⌜ ReadsComponent (now (m .entry)) at stop r ⌝ }
+{
+    let tag = m[at];
+    if is_component(tag) {
+        let inner = entry_at(m, at, stop, tag);
+        if inner >= FAULT {
+            return inner;
+        }
+        return contents_at(m, start_of(m, at + 1), inner, tag);
+    }
+    wrong_at(m, at, stop, UNKNOWN_COMPONENT)
 }

@@ -1,0 +1,24 @@
+-- What the readers of components answer, as their contracts cite it; the definition of reading rests on none of it.
+-- Assumes nothing: these are definitions.
+use Prim.Native.Nat.{ℕ}
+use mathlib.Core.{Bool.cond, List.List, Option.Option}
+use lib.{Dec.eqb, IntN.ℤ}
+use Rattle.element.specs.{declared.FaultKind.FaultKind, Fault.Text, Ask.Body, Ask.ask, Parts.level, Parts.bindBody, Parts.lastBody}
+use Rattle.tcap.specs.{Meaning.Code, Meaning.Component, Meaning.last, Meaning.notLast, WellFormed.deepestLevel, Productions.idItem, Productions.noted, Productions.levelAt, Productions.bothItem, Productions.invokeBody, Productions.resultBody, Productions.errorBody, Productions.rejectBody, Productions.componentItem}
+use Rattle.read_place.specs.Places.{until, finite, part, front, Placed}
+
+-- the contents of a result, last or not
+abbrev pub returnedBody : Body (ℤ × Option (Code Text × Text))
+returnedBody = bindBody (levelAt deepestLevel 4) noted idItem (λ i. lastBody (levelAt deepestLevel 4) (bothItem deepestLevel))
+
+-- the contents of a component by its tag
+unfoldable pub bodyOf : ℕ → Body (Component Text)
+bodyOf a =
+    cond (eqb a 0xA1) (invokeBody deepestLevel)
+    (cond (eqb a 0xA3) (errorBody deepestLevel)
+    (cond (eqb a 0xA4) (rejectBody deepestLevel)
+    (cond (eqb a 0xA2) (resultBody deepestLevel last) (resultBody deepestLevel notLast))))
+
+-- a component that must stand at a place
+abbrev pub ReadsComponent : List ℕ → ℕ → ℕ → ℕ → Type 0
+ReadsComponent m at stop r = Placed at (until stop) (ask (front (level 1) FaultKind.UnknownComponent (componentItem deepestLevel)) (finite stop) at (part m at stop)) r
