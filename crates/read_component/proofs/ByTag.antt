@@ -12,10 +12,10 @@ use borrow.Author.Tests.{eqb-true, eq-eqb, ne-eqb}
 use Rattle.element.specs.declared.FaultKind.{FaultKind}
 use Rattle.element.specs.declared.TagRead.{TagRead}
 use Rattle.element.specs.Element.{constructorOf}
-use Rattle.element.specs.Fault.{Fault, fault, Text, withInvokeId}
+use Rattle.element.specs.Fault.{fault, Text, withInvokeId}
 use Rattle.element.specs.Answers.{frontOf}
-use Rattle.element.specs.Ask.{Body, ask}
-use Rattle.element.specs.Parts.{Item, level, aroundItem, orItem, bindBody, onlyBody, lastBody, mapBody, integerItem}
+use Rattle.element.specs.Ask.{ask}
+use Rattle.element.specs.Parts.{Item, level, aroundItem, bindBody, onlyBody, lastBody, integerItem}
 use Rattle.tcap.specs.Meaning.{Component, last, notLast, reject}
 use Rattle.tcap.specs.WellFormed.{deepestLevel}
 use Rattle.tcap.specs.Productions.{idOrNullItem, problemItem, levelAt, bothItem, invokeBody, resultBody, errorBody, rejectBody, componentItem, noted}

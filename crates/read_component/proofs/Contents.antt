@@ -11,7 +11,7 @@ use Rattle.element.specs.Element.{constructorOf}
 use Rattle.element.specs.Fault.{fault, at, withInvokeId}
 use Rattle.element.specs.Head.{endOf}
 use Rattle.element.specs.Ask.{Body, ask}
-use Rattle.element.specs.Parts.{level, aroundItem, bindBody, thenBody, onlyBody, lastBody, optBody, mapBody, integerItem}
+use Rattle.element.specs.Parts.{level, bindBody, thenBody, onlyBody, lastBody, optBody, mapBody, integerItem}
 use Rattle.read_place.specs.Places.{faultPlace, part, finite, endedOf, behindOf, lengthSize, Placed, front, nothing, standsOf, entryPlace, Reads, Finishes, until, Far, Near}
 use Rattle.read_place.proofs.Answers.{Keeps}
 use Rattle.read_place.proofs.Fronts.{ended-is, not-ended}
@@ -21,7 +21,7 @@ use Rattle.element.specs.Walk.{walkItem}
 use Rattle.tcap.specs.WellFormed.{deepestLevel}
 use Rattle.tcap.specs.Productions.{codeItem, codeBody, invokeBody, errorBody, bothItem, levelAt, noted}
 use lib.IntN.{ℤ}
-use Rattle.read_place.proofs.Optional.{around-entry, around-read, opt-far, opt-near, opt-none, reads-within}
+use Rattle.read_place.proofs.Optional.{opt-far, opt-near, opt-none, reads-within}
 
 module _ (m : List ℕ) (at stop r : ℕ) (e : Reads codeItem m at stop r) where
   at-level : (l : ℕ) → ltb 0 l ≡ true → Placed at (until stop) (ask (front (level l) FaultKind.Another codeItem) (finite stop) at (part m at stop)) r

@@ -1,4 +1,5 @@
 pub mod Contents
 pub mod ByTag
+pub mod Rows
 pub mod Coded
 pub mod Carried

@@ -1,10 +1,10 @@
 -- What the readers of components answer, as their contracts cite it; the definition of reading rests on none of it.
 -- Assumes nothing: these are definitions.
-use Prim.Native.Nat.{ℕ}
-use mathlib.Core.{Bool.cond, List.List, Option.Option}
+use Prim.Native.Nat.{ℕ, zero, suc}
+use mathlib.Core.{Bool.cond, List.List, List.[], Option.Option, Option.none, Option.some}
 use lib.{Dec.eqb, IntN.ℤ}
-use Rattle.element.specs.{declared.FaultKind.FaultKind, Fault.Text, Ask.Body, Ask.ask, Parts.level, Parts.bindBody, Parts.lastBody}
-use Rattle.tcap.specs.{Meaning.Code, Meaning.Component, Meaning.last, Meaning.notLast, WellFormed.deepestLevel, Productions.idItem, Productions.noted, Productions.levelAt, Productions.bothItem, Productions.invokeBody, Productions.resultBody, Productions.errorBody, Productions.rejectBody, Productions.componentItem}
+use Rattle.element.specs.{declared.FaultKind.FaultKind, Fault.Text, Ask.Body, Ask.ask, Parts.level, Parts.bindBody, Parts.lastBody, Parts.seriesBody}
+use Rattle.tcap.specs.{Meaning.Code, Meaning.Component, Meaning.last, Meaning.notLast, WellFormed.deepestLevel, Productions.idItem, Productions.noted, Productions.levelAt, Productions.bothItem, Productions.invokeBody, Productions.resultBody, Productions.errorBody, Productions.rejectBody, Productions.componentAt, Productions.componentItem}
 use Rattle.read_place.specs.Places.{until, finite, part, front, Placed}
 
 -- the contents of a result, last or not
@@ -22,3 +22,11 @@ bodyOf a =
 -- a component that must stand at a place
 abbrev pub ReadsComponent : List ℕ → ℕ → ℕ → ℕ → Type 0
 ReadsComponent m at stop r = Placed at (until stop) (ask (front (level 1) FaultKind.UnknownComponent (componentItem deepestLevel)) (finite stop) at (part m at stop)) r
+
+-- components, of which k are read: `room` more may come, and after the first none need
+unfoldable pub endsAt : ℕ → Option (List (Component Text))
+endsAt zero = none
+endsAt (suc k) = some []
+
+abbrev pub rowsBody : ℕ → ℕ → Body (List (Component Text))
+rowsBody room k = seriesBody (componentAt deepestLevel) FaultKind.UnknownComponent (componentItem deepestLevel) (endsAt k) room k

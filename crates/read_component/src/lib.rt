@@ -2,7 +2,7 @@
 ghost use mathlib.Core.Path.{_≡_};
 ghost use Prim.Native.Nat.{_<_};
 ghost use Rattle.read_place.specs.Places.{until, Finishes, Ready};
-ghost use Rattle.read_component.specs.Components.{returnedBody, bodyOf, ReadsComponent};
+ghost use Rattle.read_component.specs.Components.{returnedBody, bodyOf, ReadsComponent, rowsBody};
 ghost use Rattle.tcap.specs.Productions.{componentItem, rejectBody, codeItem, codeBody, bothItem, invokeBody, errorBody, levelAt};
 ghost use Rattle.element.specs.Parts.{integerItem, level, thenBody, onlyBody, lastBody, optBody};
 ghost use Rattle.element.specs.Walk.{walkItem};
@@ -13,7 +13,10 @@ use read_field::octet_at;
 use read_field::problem_at;
 use read_field::reject_id_at;
 use read_field::sole_at;
+use read_place::CUT_OFF;
 use read_place::FAULT;
+use read_place::MISSING;
+use read_place::SEVENTEENTH;
 use read_place::UNKNOWN_COMPONENT;
 use read_place::behind;
 use read_place::ended;
@@ -21,6 +24,7 @@ use read_place::entry_at;
 use read_place::leave;
 use read_place::stands;
 use read_place::start_of;
+use read_place::unfinished;
 use read_place::wrong_at;
 
 // A code, and a parameter or none: the place behind the contents.
@@ -183,4 +187,33 @@ pub fn component_at(m: &[u8], at: usize, stop: usize) -> usize
         return contents_at(m, start_of(m, at + 1), inner, tag);
     }
     wrong_at(m, at, stop, UNKNOWN_COMPONENT)
+}
+
+// One to 16 components, to the end of their contents.
+pub fn rows_at(m: &[u8], from: usize, stop: usize) -> usize
+    requires { ⌜ Ready (now m) from stop ⌝ }
+    ensures { λ r. ⌜ Finishes (rowsBody 16 0) (now (m .entry)) from stop r ⌝ }
+{
+    let mut at = from;
+    let mut k: usize = 0;
+    loop {
+        if ended(m, at, stop) {
+            if k == 0 {
+                return MISSING + at;
+            }
+            return behind(at, stop);
+        }
+        if unfinished(m, at, stop) {
+            return CUT_OFF + at;
+        }
+        if k == 16 {
+            return SEVENTEENTH + at;
+        }
+        let r = component_at(m, at, stop);
+        if r >= FAULT {
+            return r;
+        }
+        at = r;
+        k += 1;
+    }
 }

@@ -1,30 +1,29 @@
 -- A null, a transaction ID, and fields of which one of several stands here. Assumes nothing.
-use Prim.Native.Nat.{ℕ, zero, suc, _+_, _-_, _/_, _%_, _≤_, _<_}
+use Prim.Native.Nat.{ℕ, _+_, _-_, _/_, _%_, _≤_}
 use mathlib.Core.Path.{_≡_, refl, sym, ap, _∙_}
-use mathlib.Core.Bool.{Bool, true, false, cond, not, _||_, _&&_, false≢true}
+use mathlib.Core.Bool.{Bool, true, false, _||_, _&&_, false≢true}
 use mathlib.Core.List.{List, [], _∷_}
 use mathlib.Core.Option.{none, some}
 use native.Mathlib.Omega.{arith}
 use lib.ListN.{length, getD, drop, take, length-drop}
 use lib.Dec.{eqb, leb}
 use lib.Seq.{length-take-le}
-use borrow.Author.Tests.{leb-true, leb-false, le-leb, eqb-true, ne-eqb}
+use borrow.Author.Tests.{leb-true, le-leb}
 use Rattle.base.specs.Value.{same}
 use Rattle.element.specs.declared.FaultKind.{FaultKind}
 use Rattle.element.specs.declared.TagRead.{TagRead}
 use Rattle.element.specs.declared.LengthRead.{LengthRead}
 use Rattle.element.specs.Element.{constructorOf}
 use Rattle.element.specs.Form.{StandsFor}
-use Rattle.element.specs.Head.{lengthOf}
 use Rattle.element.specs.Answers.{frontOf}
-use Rattle.element.specs.Ask.{Got, got, bad, check, blamed, ask, askLength, definite, head}
+use Rattle.element.specs.Ask.{check, blamed, ask, askLength}
 use Rattle.element.specs.Parts.{Item, level, leafContents, leafItem, mapItem, orItem, integerItem}
 use Rattle.element.proofs.Heads.{LengthIs, length-sound}
 use Rattle.element.proofs.Reading.{definite-size, indefinite-size}
 use Rattle.tcap.specs.declared.Problem.{Problem}
 use Rattle.tcap.specs.WellFormed.{idOk}
 use Rattle.tcap.specs.Productions.{octetItem, idItem, idOrNullItem, problemItem}
-use Rattle.read_place.specs.Places.{Far, Near, until, faults, finite, part, base, faultPlace, lengthPlace, Placed, front, Reads, Leads, standsOf, entryPlace, badPlace, countOf, badContents}
+use Rattle.read_place.specs.Places.{Far, Near, until, finite, part, base, faultPlace, lengthPlace, Placed, front, Reads, Leads, standsOf, entryPlace, badPlace, countOf, badContents}
 use Rattle.read_place.proofs.Views.{span-length}
 use Rattle.read_place.proofs.Answers.{far}
 use Rattle.read_place.proofs.Items.{Entered, entered, entry-far, ask-entered, stands-short, take-head, stands-only, stands-other, counted, leaf-good, leaf-none, placed-item, or-left, or-right}
