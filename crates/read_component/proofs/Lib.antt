@@ -3,3 +3,4 @@ pub mod ByTag
 pub mod Rows
 pub mod Coded
 pub mod Carried
+pub mod Owners

@@ -28,7 +28,7 @@ use Rattle.read_component.specs.Components.{ReadsComponent, endsAt, rows
 -- A series at a place: its end, no room, one more
 
 module _ {A : Type 0} (w : ℕ → Where) (o : FaultKind) (x : Item A) (k : ℕ) (d : Bool) (p : ℕ) (part : List ℕ) where
-  series-missing : (room : ℕ) → endOf d part ≡ EndRead.Ended → ask (seriesBody w o x none room k) d p part ≡ bad (at FaultKind.Missing p)
+  pub series-missing : (room : ℕ) → endOf d part ≡ EndRead.Ended → ask (seriesBody w o x none room k) d p part ≡ bad (at FaultKind.Missing p)
   unfolding seriesBody ask askEnd atEnd
   series-missing zero e = rw e
   series-missing (suc room) e = rw e
@@ -38,12 +38,12 @@ module _ {A : Type 0} (w : ℕ → Where) (o : FaultKind) (x : Item A) (k : ℕ)
   series-whole zero e = rw e
   series-whole (suc room) e = rw e
 
-  series-cut : (e : Option (List A)) (room : ℕ) → endOf d part ≡ EndRead.Unfinished → ask (seriesBody w o x e room k) d p part ≡ bad (at FaultKind.CutOff p)
+  pub series-cut : (e : Option (List A)) (room : ℕ) → endOf d part ≡ EndRead.Unfinished → ask (seriesBody w o x e room k) d p part ≡ bad (at FaultKind.CutOff p)
   unfolding seriesBody ask askEnd
   series-cut e zero q = rw q
   series-cut e (suc room) q = rw q
 
-  series-full : (e : Option (List A)) → endOf d part ≡ EndRead.More → ask (seriesBody w o x e zero k) d p part ≡ bad (at FaultKind.Seventeenth p)
+  pub series-full : (e : Option (List A)) → endOf d part ≡ EndRead.More → ask (seriesBody w o x e zero k) d p part ≡ bad (at FaultKind.Seventeenth p)
   unfolding seriesBody ask askEnd check
   series-full e q = rw q
 
@@ -71,13 +71,24 @@ component-keeps : (k : ℕ) → Keeps (inComponent k)
 unfolding inComponent faultPlace
 component-keeps k (fault j q o i t) = refl
 
+abbrev kinds : Item (Component Text)
+kinds = componentItem deepestLevel
+
+abbrev wheres : ℕ → Where
+wheres = componentAt deepestLevel
+
+-- one more stands here and there is room for it
+module _ (m : List ℕ) (stop k at : ℕ) (b c : Bool) (is : b ≡ endedOf (endOf (finite stop) (part m at stop))) (also : c ≡ unfinishedOf (endOf (finite stop) (part m at stop))) (no : b ≡ false) (nor : c ≡ false) (most : k ≤ 16) (unfull : k ≡ 16 → ⊥) (r : ℕ) (e : ReadsComponent m at stop r) where
+  pub here : Placed at (until stop) (ask (front (wheres k) FaultKind.UnknownComponent kinds) (finite stop) at (part m at stop)) r
+  here = placed-where kinds FaultKind.UnknownComponent (wheres k) (component-keeps k) (finite stop) at (part m at stop) (until stop) r refl e
+
+  pub one-more : ask (rowsBody (16 - k) k) (finite stop) at (part m at stop) ≡ next (ask (front (wheres k) FaultKind.UnknownComponent kinds) (finite stop) at (part m at stop)) (rest (λ a. rowsBody (16 - suc k) (suc k)) (λ a ws. a ∷ ws) (finite stop) at (part m at stop))
+  unfolding endsAt
+  one-more =
+      let room : 16 - k ≡ suc (16 - suc k) = omega (arith, most, unfull) in
+      rw room (series-more wheres FaultKind.UnknownComponent kinds k (finite stop) at (part m at stop) (endsAt k) (16 - suc k) (not-ended (endOf (finite stop) (part m at stop)) b is no))
+
 module _ (m : List ℕ) (from stop k at : ℕ) (going : Onward m from stop k at) where
-  abbrev kinds : Item (Component Text)
-  kinds = componentItem deepestLevel
-
-  abbrev wheres : ℕ → Where
-  wheres = componentAt deepestLevel
-
   pub rows-none : (b : Bool) → b ≡ endedOf (endOf (finite stop) (part m at stop)) → b ≡ true → k ≡ 0 → Finishes (rowsBody 16 0) m from stop (missing + at)
   unfolding Onward Closing faultPlace base endsAt
   rows-none b is t z = going (missing + at) (rw (z, series-missing wheres FaultKind.UnknownComponent kinds 0 (finite stop) at (part m at stop) 16 (ended-is (endOf (finite stop) (part m at stop)) b is t)))
@@ -105,24 +116,15 @@ module _ (m : List ℕ) (from stop k at : ℕ) (going : Onward m from stop k at)
         going (seventeenth + at) (rw (none-left, series-full wheres FaultKind.UnknownComponent kinds k (finite stop) at (part m at stop) (endsAt k) (more-here (endOf (finite stop) (part m at stop)) b c is also no nor)))
 
     module _ (most : k ≤ 16) (unfull : k ≡ 16 → ⊥) (r : ℕ) (e : ReadsComponent m at stop r) where
-      here : Placed at (until stop) (ask (front (wheres k) FaultKind.UnknownComponent kinds) (finite stop) at (part m at stop)) r
-      here = placed-where kinds FaultKind.UnknownComponent (wheres k) (component-keeps k) (finite stop) at (part m at stop) (until stop) r refl e
-
-      one-more : ask (rowsBody (16 - k) k) (finite stop) at (part m at stop) ≡ next (ask (front (wheres k) FaultKind.UnknownComponent kinds) (finite stop) at (part m at stop)) (rest (λ a. rowsBody (16 - suc k) (suc k)) (λ a ws. a ∷ ws) (finite stop) at (part m at stop))
-      unfolding endsAt
-      one-more =
-          let room : 16 - k ≡ suc (16 - suc k) = omega (arith, most, unfull) in
-          rw room (series-more wheres FaultKind.UnknownComponent kinds k (finite stop) at (part m at stop) (endsAt k) (16 - suc k) (not-ended (endOf (finite stop) (part m at stop)) b is no))
-
       pub rows-far : Far r → Finishes (rowsBody 16 0) m from stop r
       unfolding Onward
-      rows-far f = going r (rw one-more (close-far _ _ at (until stop) r here (finite stop) at (until stop) (omega arith) f))
+      rows-far f = going r (rw (one-more m stop k at b c is also no nor most unfull r e) (close-far _ _ at (until stop) r (here m stop k at b c is also no nor most unfull r e) (finite stop) at (until stop) (omega arith) f))
 
       pub rows-on : Near r → Onward m from stop (k + 1) r
       unfolding Onward
       rows-on f =
           let next-one : k + 1 ≡ suc k = omega arith in
-          rw next-one (λ q y. going q (rw one-more (close-near _ _ at (until stop) r here (finite stop) at (until stop) q f (λ a n i z.
+          rw next-one (λ q y. going q (rw (one-more m stop k at b c is also no nor most unfull r e) (close-near _ _ at (until stop) r (here m stop k at b c is also no nor most unfull r e) (finite stop) at (until stop) q f (λ a n i z.
           rw (span-drop m at (until stop) n) (closing-rest (λ ws. a ∷ ws) (finite stop) (ask (rowsBody (16 - suc k) (suc k)) (finite stop) (at + n) (part m (at + n) stop)) at n (until stop) q (rw z at y))))))
 
       pub rows-count : k + 1 ≤ 16
@@ -132,7 +134,7 @@ module _ (m : List ℕ) (from stop k at : ℕ) (going : Onward m from stop k at)
       rows-less = omega (arith, most, unfull)
 
       pub rows-to : Near r → r ≤ until stop
-      rows-to f = placed-near (ask (front (wheres k) FaultKind.UnknownComponent kinds) (finite stop) at (part m at stop)) at (until stop) r here f .1
+      rows-to f = placed-near (ask (front (wheres k) FaultKind.UnknownComponent kinds) (finite stop) at (part m at stop)) at (until stop) r (here m stop k at b c is also no nor most unfull r e) f .1
 
 -- where neither the end nor a missing end pair stands, an octet does
 ended-more : EndRead.Ended ≡ EndRead.More → ⊥

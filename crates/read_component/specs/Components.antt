@@ -1,9 +1,9 @@
 -- What the readers of components answer, as their contracts cite it; the definition of reading rests on none of it.
 -- Assumes nothing: these are definitions.
 use Prim.Native.Nat.{ℕ, zero, suc}
-use mathlib.Core.{Bool.cond, List.List, List.[], Option.Option, Option.none, Option.some}
+use mathlib.Core.{Path._≡_, Bool.cond, List.List, List.[], Option.Option, Option.none, Option.some}
 use lib.{Dec.eqb, IntN.ℤ}
-use Rattle.element.specs.{declared.FaultKind.FaultKind, Fault.Text, Ask.Body, Ask.ask, Parts.level, Parts.bindBody, Parts.lastBody, Parts.seriesBody}
+use Rattle.element.specs.{declared.FaultKind.FaultKind, Fault.Owner, Fault.fault, Fault.Text, Ask.Got, Ask.got, Ask.bad, Ask.Body, Ask.ask, Parts.level, Parts.bindBody, Parts.lastBody, Parts.seriesBody}
 use Rattle.tcap.specs.{Meaning.Code, Meaning.Component, Meaning.last, Meaning.notLast, WellFormed.deepestLevel, Productions.idItem, Productions.noted, Productions.levelAt, Productions.bothItem, Productions.invokeBody, Productions.resultBody, Productions.errorBody, Productions.rejectBody, Productions.componentAt, Productions.componentItem}
 use Rattle.read_place.specs.Places.{until, finite, part, front, Placed}
 
@@ -30,3 +30,8 @@ endsAt (suc k) = some []
 
 abbrev pub rowsBody : ℕ → ℕ → Body (List (Component Text))
 rowsBody room k = seriesBody (componentAt deepestLevel) FaultKind.UnknownComponent (componentItem deepestLevel) (endsAt k) room k
+
+-- whom a fault belongs to, and the invoke ID that it carries
+unfoldable pub Tells : {A : Type 0} → Owner → Option ℤ → Got A → Type 0
+Tells w j (got a n) = Unit {0}
+Tells w j (bad (fault k q o i t)) = (o ≡ w) × (i ≡ j)
