@@ -14,19 +14,19 @@ use Rattle.element.specs.declared.TagRead.{TagRead}
 use Rattle.element.specs.Element.{constructorOf}
 use Rattle.element.specs.Fault.{fault, Text, withInvokeId}
 use Rattle.element.specs.Answers.{frontOf}
-use Rattle.element.specs.Ask.{ask}
-use Rattle.element.specs.Parts.{Item, level, aroundItem, bindBody, onlyBody, lastBody, integerItem}
+use Rattle.element.specs.Ask.{Got, ask}
+use Rattle.element.specs.Parts.{Item, level, aroundItem, orItem, bindBody, onlyBody, lastBody, integerItem}
 use Rattle.tcap.specs.Meaning.{Component, last, notLast, reject}
 use Rattle.tcap.specs.WellFormed.{deepestLevel}
 use Rattle.tcap.specs.Productions.{idOrNullItem, problemItem, levelAt, bothItem, invokeBody, resultBody, errorBody, rejectBody, componentItem, noted}
 use Rattle.read_place.specs.Places.{Far, Near, until, finite, part, faultPlace, base, front, Placed, nothing, Reads, Finishes, Leads, standsOf, entryPlace, wrongPlace, lengthSize, unknownComponent}
 use Rattle.read_place.proofs.Answers.{Keeps}
 use Rattle.read_place.proofs.Fronts.{wrong-ask}
-use Rattle.read_place.proofs.Items.{front-octet, stands-only}
+use Rattle.read_place.proofs.Items.{front-octet, stands-only, or-left, or-right}
 use Rattle.read_place.proofs.Bodies.{placed-where, bind-far, bind-near, only-far, only-near, map-closed}
-use Rattle.read_place.proofs.Optional.{around-entry, around-read, placed-other}
-use Rattle.read_field.proofs.Choices.{first-of, second-of}
+use Rattle.read_place.proofs.Optional.{around-entry, around-read}
 use Rattle.read_component.specs.Components.{returnedBody, bodyOf, ReadsComponent}
+use Rattle.read_component.proofs.Around.{other-ask}
 use Rattle.read_component.proofs.Contents.{noted-keeps, lifted-id}
 
 -- The contents of a result
@@ -126,36 +126,43 @@ module _ (m : List ℕ) (at stop : ℕ) (h : until stop ≤ length m) (here : at
     only-tag : (t : ℕ) → tag ≡ t → (f : ℕ → Bool) → f t ≡ false → (a s : ℕ) → frontOf 1 (part m at stop) ≡ TagRead.Tag a s → f a ≡ false
     only-tag t e f q a s z = ap f (stands-only m at stop t h (stood t e) a s z) ∙ q
 
-    module _ (r : ℕ) where
-      abbrev Answer : Type 0
-      Answer = Reads kinds m at stop r
+    -- whatever is to be said of what is asked
+    module _ (P : Got (Component Text) → Type 0) where
+      abbrev Asked : Item (Component Text) → Got (Component Text)
+      Asked x = ask (front (level 1) FaultKind.Another x) (finite stop) at (part m at stop)
+
+      left-of : (x y : Item (Component Text)) → ((a s : ℕ) → frontOf 1 (part m at stop) ≡ TagRead.Tag a s → y .mine a ≡ false) → P (Asked x) → P (Asked (orItem x y))
+      left-of x y q e = rw (or-left (level 1) FaultKind.Another x y (finite stop) at (part m at stop) refl q) e
+
+      right-of : (x y : Item (Component Text)) → ((a s : ℕ) → frontOf 1 (part m at stop) ≡ TagRead.Tag a s → x .mine a ≡ false) → P (Asked y) → P (Asked (orItem x y))
+      right-of x y q e = rw (or-right (level 1) FaultKind.Another x y (finite stop) at (part m at stop) refl q) e
 
       pick : (a c d b e : Bool) → eqb tag 161 ≡ a → eqb tag 163 ≡ c → eqb tag 164 ≡ d → eqb tag 162 ≡ b → eqb tag 167 ≡ e → (a || (b || (c || (d || e)))) ≡ true
-          → Reads (aroundItem tag (cond a (invokeBody deepestLevel) (cond c (errorBody deepestLevel) (cond d (rejectBody deepestLevel) (cond b (resultBody deepestLevel last) (resultBody deepestLevel notLast)))))) m at stop r → Answer
+          → P (Asked (aroundItem tag (cond a (invokeBody deepestLevel) (cond c (errorBody deepestLevel) (cond d (rejectBody deepestLevel) (cond b (resultBody deepestLevel last) (resultBody deepestLevel notLast))))))) → P (Asked kinds)
       pick true c d b e i j k l n o q =
           let t : tag ≡ 161 = eqb-true tag 161 i in
-          first-of (aroundItem 161 (invokeBody deepestLevel)) _ m at stop r (only-tag 161 t (λ a. eqb a 162 || (eqb a 163 || (eqb a 164 || eqb a 167))) refl) (rw t at q)
+          left-of (aroundItem 161 (invokeBody deepestLevel)) _ (only-tag 161 t (λ a. eqb a 162 || (eqb a 163 || (eqb a 164 || eqb a 167))) refl) (rw t at q)
       pick false true d b e i j k l n o q =
           let t : tag ≡ 163 = eqb-true tag 163 j in
-          second-of (aroundItem 161 (invokeBody deepestLevel)) _ m at stop r (only-tag 163 t (λ a. eqb a 161) refl) (second-of (aroundItem 162 (resultBody deepestLevel last)) _ m at stop r (only-tag 163 t (λ a. eqb a 162) refl)
-          (first-of (aroundItem 163 (errorBody deepestLevel)) _ m at stop r (only-tag 163 t (λ a. eqb a 164 || eqb a 167) refl) (rw t at q)))
+          right-of (aroundItem 161 (invokeBody deepestLevel)) _ (only-tag 163 t (λ a. eqb a 161) refl) (right-of (aroundItem 162 (resultBody deepestLevel last)) _ (only-tag 163 t (λ a. eqb a 162) refl)
+          (left-of (aroundItem 163 (errorBody deepestLevel)) _ (only-tag 163 t (λ a. eqb a 164 || eqb a 167) refl) (rw t at q)))
       pick false false true b e i j k l n o q =
           let t : tag ≡ 164 = eqb-true tag 164 k in
-          second-of (aroundItem 161 (invokeBody deepestLevel)) _ m at stop r (only-tag 164 t (λ a. eqb a 161) refl) (second-of (aroundItem 162 (resultBody deepestLevel last)) _ m at stop r (only-tag 164 t (λ a. eqb a 162) refl)
-          (second-of (aroundItem 163 (errorBody deepestLevel)) _ m at stop r (only-tag 164 t (λ a. eqb a 163) refl) (first-of (aroundItem 164 (rejectBody deepestLevel)) _ m at stop r (only-tag 164 t (λ a. eqb a 167) refl) (rw t at q))))
+          right-of (aroundItem 161 (invokeBody deepestLevel)) _ (only-tag 164 t (λ a. eqb a 161) refl) (right-of (aroundItem 162 (resultBody deepestLevel last)) _ (only-tag 164 t (λ a. eqb a 162) refl)
+          (right-of (aroundItem 163 (errorBody deepestLevel)) _ (only-tag 164 t (λ a. eqb a 163) refl) (left-of (aroundItem 164 (rejectBody deepestLevel)) _ (only-tag 164 t (λ a. eqb a 167) refl) (rw t at q))))
       pick false false false true e i j k l n o q =
           let t : tag ≡ 162 = eqb-true tag 162 l in
-          second-of (aroundItem 161 (invokeBody deepestLevel)) _ m at stop r (only-tag 162 t (λ a. eqb a 161) refl) (first-of (aroundItem 162 (resultBody deepestLevel last)) _ m at stop r (only-tag 162 t (λ a. eqb a 163 || (eqb a 164 || eqb a 167)) refl) (rw t at q))
+          right-of (aroundItem 161 (invokeBody deepestLevel)) _ (only-tag 162 t (λ a. eqb a 161) refl) (left-of (aroundItem 162 (resultBody deepestLevel last)) _ (only-tag 162 t (λ a. eqb a 163 || (eqb a 164 || eqb a 167)) refl) (rw t at q))
       pick false false false false true i j k l n o q =
           let t : tag ≡ 167 = eqb-true tag 167 n in
-          second-of (aroundItem 161 (invokeBody deepestLevel)) _ m at stop r (only-tag 167 t (λ a. eqb a 161) refl) (second-of (aroundItem 162 (resultBody deepestLevel last)) _ m at stop r (only-tag 167 t (λ a. eqb a 162) refl)
-          (second-of (aroundItem 163 (errorBody deepestLevel)) _ m at stop r (only-tag 167 t (λ a. eqb a 163) refl) (second-of (aroundItem 164 (rejectBody deepestLevel)) _ m at stop r (only-tag 167 t (λ a. eqb a 164) refl) (rw t at q))))
+          right-of (aroundItem 161 (invokeBody deepestLevel)) _ (only-tag 167 t (λ a. eqb a 161) refl) (right-of (aroundItem 162 (resultBody deepestLevel last)) _ (only-tag 167 t (λ a. eqb a 162) refl)
+          (right-of (aroundItem 163 (errorBody deepestLevel)) _ (only-tag 167 t (λ a. eqb a 163) refl) (right-of (aroundItem 164 (rejectBody deepestLevel)) _ (only-tag 167 t (λ a. eqb a 164) refl) (rw t at q))))
       pick false false false false false i j k l n o q = absurd (false≢true o)
 
-      by-tag : Reads (aroundItem tag (bodyOf tag)) m at stop r → ReadsComponent m at stop r
+      pub by-tag : P (Asked (aroundItem tag (bodyOf tag))) → P (ask (front (level 1) FaultKind.UnknownComponent kinds) (finite stop) at (part m at stop))
       unfolding bodyOf
       by-tag q =
-          placed-other (level 1) FaultKind.Another FaultKind.UnknownComponent kinds (finite stop) at (part m at stop) refl (λ a s z. ap (λ (v : ℕ). kinds .mine v) (stands-only m at stop tag h (stood tag refl) a s z) ∙ mine) (until stop) r
+          rw (other-ask (level 1) FaultKind.UnknownComponent FaultKind.Another kinds (finite stop) at (part m at stop) refl (λ a s z. ap (λ (v : ℕ). kinds .mine v) (stands-only m at stop tag h (stood tag refl) a s z) ∙ mine))
           (pick (eqb tag 161) (eqb tag 163) (eqb tag 164) (eqb tag 162) (eqb tag 167) refl refl refl refl refl mine q)
 
   module _ (b : Bool) (asked : b ≡ kinds .mine (getD m at 0)) (told : b ≡ true) (inner : ℕ) (entry : inner ≡ entryPlace true m at stop (getD m at 0)) where
@@ -163,8 +170,8 @@ module _ (m : List ℕ) (at stop : ℕ) (h : until stop ≤ length m) (here : at
     sound = lead (getD m at 0) (sym asked ∙ told)
 
     pub component-far : Far inner → ReadsComponent m at stop inner
-    component-far f = by-tag (getD m at 0) refl (sym asked ∙ told) inner (around-entry (getD m at 0) (sound .0) (sound .1) (bodyOf (getD m at 0)) m at stop inner (omega (arith, here)) h entry f)
+    component-far f = by-tag (getD m at 0) refl (sym asked ∙ told) (λ x. Placed at (until stop) x inner) (around-entry (getD m at 0) (sound .0) (sound .1) (bodyOf (getD m at 0)) m at stop inner (omega (arith, here)) h entry f)
 
     pub component-near : length m ≤ 65535 → Near inner → (st : ℕ) → st ≡ at + 1 + lengthSize (getD m (at + 1) 0) → (r : ℕ) → Finishes (bodyOf (getD m at 0)) m st inner r → ReadsComponent m at stop r
     component-near top f st start r q =
-        by-tag (getD m at 0) refl (sym asked ∙ told) r (around-read (getD m at 0) (sound .0) (sound .1) (bodyOf (getD m at 0)) m at stop inner (omega (arith, here)) h entry top f st start r q)
+        by-tag (getD m at 0) refl (sym asked ∙ told) (λ x. Placed at (until stop) x r) (around-read (getD m at 0) (sound .0) (sound .1) (bodyOf (getD m at 0)) m at stop inner (omega (arith, here)) h entry top f st start r q)

@@ -1,9 +1,9 @@
 -- Whom the first fault in components belongs to, and which invoke ID it carries: not in the number that is answered. Assumes nothing.
 use Prim.Native.Nat.{ℕ, suc, _+_, _-_, _≤_}
-use mathlib.Core.Path.{_≡_, refl, sym, ap, _∙_}
+use mathlib.Core.Path.{_≡_, refl}
 use mathlib.Core.Bool.{Bool, true, false}
-use mathlib.Core.List.{List, [], _∷_}
-use mathlib.Core.Option.{Option, none, some}
+use mathlib.Core.List.{List, _∷_}
+use mathlib.Core.Option.{Option, none}
 use native.Mathlib.Omega.{arith}
 use lib.ListN.{drop}
 use lib.Dec.{ltb}
@@ -26,7 +26,7 @@ use Rattle.read_place.proofs.Views.{span-drop}
 use Rattle.read_place.proofs.Answers.{far-fault}
 use Rattle.read_place.proofs.Fronts.{byFront, ask-front, ended-is, more-here}
 use Rattle.read_place.proofs.Walks.{unfinished-is}
-use Rattle.read_place.proofs.Onto.{blamed-same, rest}
+use Rattle.read_place.proofs.Onto.{blamed-same}
 use Rattle.read_component.specs.Components.{ReadsComponent, endsAt, rowsBody, Tells}
 use Rattle.read_component.proofs.Carried.{Carries}
 use Rattle.read_component.proofs.Rows.{series-missing, series-cut, series-full, here, one-more}
