@@ -92,10 +92,10 @@ module _ (tag : ℕ) (m : List ℕ) (at stop r : ℕ) where
 
 -- A component by its tag
 
-abbrev Lead : ℕ → Type 0
+abbrev pub Lead : ℕ → Type 0
 Lead tag = Leads tag × (constructorOf tag ≡ true)
 
-lead : (tag : ℕ) → componentItem deepestLevel .mine tag ≡ true → Lead tag
+pub lead : (tag : ℕ) → componentItem deepestLevel .mine tag ≡ true → Lead tag
 unfolding constructorOf
 lead tag mine = go (eqb tag 161) (eqb tag 162) (eqb tag 163) (eqb tag 164) (eqb tag 167) refl refl refl refl refl mine
   where

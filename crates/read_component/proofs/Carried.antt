@@ -52,7 +52,7 @@ unfolding Carries check
 carries-over true k p x e = e
 carries-over false k p x e = refl
 
-far-carries : {A B : Type 0} (z : Got A) (k : A → ℕ → Got B) (p end r : ℕ) → Placed p end z r → Near end → Far r → Carries none z → Carries none (next z k)
+pub far-carries : {A B : Type 0} (z : Got A) (k : A → ℕ → Got B) (p end r : ℕ) → Placed p end z r → Near end → Far r → Carries none z → Carries none (next z k)
 unfolding Placed next Carries
 far-carries (got a n) k p end r e b f c = absurd (omega (arith, e, b, f))
 far-carries (bad (fault j q o i t)) k p end r e b f c = c
@@ -110,12 +110,12 @@ carries-known j (got b n) = tt
 carries-known j (bad (fault k q o i t)) = refl
 
 -- a null is none, and so is its own fault
-null-carries : {B : Type 0} (z : Got (Option ℤ)) (k : Option ℤ → ℕ → Got B) → Carries none z → Then (λ a n. a ≡ none) z → Carries none (next z (λ a n. blamed (withInvokeId a) (k a n)))
+pub null-carries : {B : Type 0} (z : Got (Option ℤ)) (k : Option ℤ → ℕ → Got B) → Carries none z → Then (λ a n. a ≡ none) z → Carries none (next z (λ a n. blamed (withInvokeId a) (k a n)))
 unfolding next Carries
 null-carries (got a n) k c t = rw (the-fact t) (carries-known none (k none n))
 null-carries (bad (fault j q o i t)) k c e = c
 
-known-carries : {B : Type 0} (z : Got (Option ℤ)) (k : Option ℤ → ℕ → Got B) (p end r : ℕ) → Placed p end z r → Near r → (P : Option ℤ → ℕ → Type 0) → Then P z → (v : Option ℤ) → ((a : Option ℤ) → P a (r - p) → a ≡ v) → Carries v (next z (λ a n. blamed (withInvokeId a) (k a n)))
+pub known-carries : {B : Type 0} (z : Got (Option ℤ)) (k : Option ℤ → ℕ → Got B) (p end r : ℕ) → Placed p end z r → Near r → (P : Option ℤ → ℕ → Type 0) → Then P z → (v : Option ℤ) → ((a : Option ℤ) → P a (r - p) → a ≡ v) → Carries v (next z (λ a n. blamed (withInvokeId a) (k a n)))
 unfolding Placed next
 known-carries (got a n) k p end r e f P t v g = let i : n ≡ r - p = omega (arith, e) in rw (g a (rw i at (the-fact t))) (carries-known v (k v n))
 known-carries (bad b) k p end r e f P t v g = absurd (omega (arith, e, f, far-fault b))

@@ -5,3 +5,4 @@ pub mod Rows
 pub mod Coded
 pub mod Carried
 pub mod Owners
+pub mod Ids

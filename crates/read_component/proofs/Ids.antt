@@ -1,0 +1,85 @@
+-- Which invoke ID a fault in a component carries, by its tag and what stands first in it. Assumes nothing.
+use Prim.Native.Nat.{ℕ, _+_, _-_, _≤_, _<_}
+use mathlib.Core.Path.{_≡_, refl, sym, ap, _∙_, fun-ext}
+use mathlib.Core.Bool.{Bool, true, false, cond}
+use mathlib.Core.List.{List, [], _∷_}
+use mathlib.Core.Option.{Option, none, some}
+use native.Mathlib.Omega.{arith}
+use lib.ListN.{length, getD, take, drop}
+use lib.Dec.{eqb}
+use lib.IntN.{ℤ}
+use borrow.Author.Tests.{eq-eqb, ne-eqb}
+use Rattle.base.specs.Value.{same}
+use Rattle.primitive.specs.Primitive.{integerOk, signedOf}
+use Rattle.element.specs.declared.FaultKind.{FaultKind}
+use Rattle.element.specs.Fault.{Fault, fault, Text, withInvokeId}
+use Rattle.element.specs.Ask.{Got, got, bad, next, blamed, Head, Body, ask}
+use Rattle.element.specs.Parts.{Item, Where, level, place, leafItem, mapItem, integerItem, optBody, lastBody, onlyBody, bindBody, mapBody}
+use Rattle.element.proofs.Asking.{Then, fact, void, then-next, then-blamed, ask-sound}
+use Rattle.tcap.specs.Meaning.{Component, last, notLast, reject}
+use Rattle.tcap.specs.WellFormed.{deepestLevel}
+use Rattle.tcap.specs.Productions.{idItem, idOrNullItem, problemItem, codeBody, bothItem, invokeBody, resultBody, errorBody, rejectBody, componentItem, noted}
+use Rattle.read_place.specs.Places.{Far, Near, until, finite, part, front, Placed, Reads, standsOf, entryPlace, lengthSize}
+use Rattle.read_place.proofs.Onto.{ask-bind, ask-map, ask-onto, missing-both}
+use Rattle.read_place.proofs.Items.{stands-only, stands-other, or-left, or-right, placed-item}
+use Rattle.read_place.proofs.Bodies.{placed-where}
+use Rattle.read_component.specs.Components.{returnedBody, bodyOf}
+use Rattle.read_component.proofs.Around.{around-ask}
+use Rattle.read_component.proofs.ByTag.{Lead, lead, by-tag}
+use Rattle.read_component.proofs.Coded.{value-id, id-placed, id-is}
+use Rattle.read_component.proofs.Carried.{Carries, carries-map, plain-id, carries-none, carries-id, far-carries, null-carries, known-carries}
+
+-- An item under another name
+
+blamed-next : {A B : Type 0} (w : Fault → Fault) (f : A → B) (x : Got A) → blamed w (next x (λ a n. got (f a) n)) ≡ next (blamed w x) (λ a n. got (f a) n)
+unfolding blamed next
+blamed-next w f (got a n) = refl
+blamed-next w f (bad g) = refl
+
+module _ {A B : Type 0} (w : Where) (o : FaultKind) (f : A → B) (x : Item A) (d : Bool) (p : ℕ) (part : List ℕ) where
+  renamed : front w o (mapItem f x) ≡ place w none (x .mine) o (λ d h p part. next (blamed (w .owner) (x .contents h p part)) (λ a n. got (f a) n))
+  renamed = ap (λ (g : Bool → Head → ℕ → List ℕ → Got B). place w none (x .mine) o g) (fun-ext λ d. fun-ext λ h. fun-ext λ p. fun-ext λ part. blamed-next (w .owner) f (x .contents h p part))
+
+  item-map : ask (front w o (mapItem f x)) d p part ≡ next (ask (front w o x) d p part) (λ a n. got (f a) n)
+  item-map = ap (λ (b : Body B). ask b d p part) renamed ∙ ask-onto (front w o x) none (λ d p part a n. got (f a) n) d p part (λ e. missing-both (front w o x) _ d p part _)
+
+-- A Reject
+
+none-got : (x : Got Text) → Then (λ a n. a ≡ none) (next {B = Option ℤ} x (λ v n. got none n))
+unfolding next
+none-got (got a n) = fact refl
+none-got (bad f) = void
+
+value-null : (w : Where) (d : Bool) (p : ℕ) (part : List ℕ) → Then (λ a n. a ≡ none) (ask (front w FaultKind.Another (mapItem {B = Option ℤ} (λ v. none) (leafItem 5 (same [])))) d p part)
+value-null w d p part =
+    ask-sound (λ a n. a ≡ none) (front w FaultKind.Another (mapItem {B = Option ℤ} (λ v. none) (leafItem 5 (same [])))) d p part (λ v e f. let z : _≡_ {A = ℕ} 0 1 = cc in absurd (omega arith)) (λ h i m. then-blamed (w .owner) (none-got (leafItem 5 (same []) .contents h p part)))
+
+module _ {B : Type 0} (y : Option ℤ → Body B) (m : List ℕ) (at stop : ℕ) (h : until stop ≤ length m) (b : Bool) (is : b ≡ standsOf m at stop 5) where
+  abbrev Rejected : Option ℤ → Type 0
+  Rejected j = Carries j (ask (bindBody (level 13) withInvokeId idOrNullItem y) (finite stop) at (part m at stop))
+
+  reject-null : b ≡ true → Rejected none
+  reject-null t =
+      rw (ask-bind (level 13) idOrNullItem (finite stop) at (part m at stop) withInvokeId y,
+      or-right (level 13) FaultKind.Another (mapItem some idItem) (mapItem (λ v. none) (leafItem 5 (same []))) (finite stop) at (part m at stop) refl (λ a s z. ap (λ (q : ℕ). eqb q 2) (stands-only m at stop 5 h (sym is ∙ t) a s z)))
+      (null-carries _ _ (plain-id (λ v. none) 5 (same []) 13 (finite stop) at (part m at stop) refl) (value-null (level 13) (finite stop) at (part m at stop)))
+
+  module _ (t : b ≡ false) (r : ℕ) (id : Reads (integerItem 2 1) m at stop r) where
+    abbrev its-id : Got (Option ℤ)
+    its-id = ask (front (level 13) FaultKind.Another (mapItem some idItem)) (finite stop) at (part m at stop)
+
+    id-here : Placed at (until stop) its-id r
+    id-here = placed-item (level 13) FaultKind.Another some idItem (finite stop) at (part m at stop) (until stop) r (placed-where (integerItem 2 1) FaultKind.Another (level 13) (λ f. refl) (finite stop) at (part m at stop) (until stop) r refl id)
+
+    by-id : (j : Option ℤ) → ((k : Option ℤ → ℕ → Got (Option ℤ × B)) → Carries j (next its-id (λ a n. blamed (withInvokeId a) (k a n)))) → Rejected j
+    by-id j e =
+        rw (ask-bind (level 13) idOrNullItem (finite stop) at (part m at stop) withInvokeId y,
+        or-left (level 13) FaultKind.Another (mapItem some idItem) (mapItem (λ v. none) (leafItem 5 (same []))) (finite stop) at (part m at stop) refl (λ a s z. stands-other m at stop 5 h (sym is ∙ t) a s z)) (e _)
+
+    reject-none : Far r → Rejected none
+    reject-none f = by-id none (λ k. far-carries its-id _ at (until stop) r id-here (omega arith) f (rw (item-map (level 13) FaultKind.Another some idItem (finite stop) at (part m at stop)) (carries-map some none _ (plain-id (λ v. signedOf (v .1)) 2 (integerOk 1) 13 (finite stop) at (part m at stop) refl))))
+
+    reject-known : Near r → Rejected (some (signedOf (getD m (at + 2) 0 ∷ [])))
+    reject-known f =
+        by-id _ (λ k. known-carries its-id k at (until stop) r id-here f (λ a n. (i : ℤ) × (a ≡ some i) × ((n ≡ 3) × (i ≡ signedOf (take 1 (drop 2 (part m at stop))))))
+        (rw (item-map (level 13) FaultKind.Another some idItem (finite stop) at (part m at stop)) (then-next (value-id (level 13) (finite stop) at (part m at stop)) (λ i n q. fact (i, refl, q)))) _ (λ a q. q .1 ∙ ap (λ (i : ℤ). some i) (id-is m at stop r h id f (q .0) (q .2))))
