@@ -60,8 +60,10 @@ module _ {B : Type 0} (y : Option ℤ → Body B) (m : List ℕ) (at stop : ℕ)
 
   reject-null : b ≡ true → Rejected none
   reject-null t =
-      rw (ask-bind (level 13) idOrNullItem (finite stop) at (part m at stop) withInvokeId y,
-      or-right (level 13) FaultKind.Another (mapItem some idItem) (mapItem (λ v. none) (leafItem 5 (same []))) (finite stop) at (part m at stop) refl (λ a s z. ap (λ (q : ℕ). eqb q 2) (stands-only m at stop 5 h (sym is ∙ t) a s z)))
+      rw (
+        ask-bind (level 13) idOrNullItem (finite stop) at (part m at stop) withInvokeId y,
+        or-right (level 13) FaultKind.Another (mapItem some idItem) (mapItem (λ v. none) (leafItem 5 (same []))) (finite stop) at (part m at stop) refl (λ a s z. ap (λ (q : ℕ). eqb q 2) (stands-only m at stop 5 h (sym is ∙ t) a s z)),
+      )
       (null-carries _ _ (plain-id (λ v. none) 5 (same []) 13 (finite stop) at (part m at stop) refl) (value-null (level 13) (finite stop) at (part m at stop)))
 
   module _ (t : b ≡ false) (r : ℕ) (id : Reads (integerItem 2 1) m at stop r) where
@@ -73,8 +75,10 @@ module _ {B : Type 0} (y : Option ℤ → Body B) (m : List ℕ) (at stop : ℕ)
 
     by-id : (j : Option ℤ) → ((k : Option ℤ → ℕ → Got (Option ℤ × B)) → Carries j (next its-id (λ a n. blamed (withInvokeId a) (k a n)))) → Rejected j
     by-id j e =
-        rw (ask-bind (level 13) idOrNullItem (finite stop) at (part m at stop) withInvokeId y,
-        or-left (level 13) FaultKind.Another (mapItem some idItem) (mapItem (λ v. none) (leafItem 5 (same []))) (finite stop) at (part m at stop) refl (λ a s z. stands-other m at stop 5 h (sym is ∙ t) a s z)) (e _)
+        rw (
+          ask-bind (level 13) idOrNullItem (finite stop) at (part m at stop) withInvokeId y,
+          or-left (level 13) FaultKind.Another (mapItem some idItem) (mapItem (λ v. none) (leafItem 5 (same []))) (finite stop) at (part m at stop) refl (λ a s z. stands-other m at stop 5 h (sym is ∙ t) a s z),
+        ) (e _)
 
     reject-none : Far r → Rejected none
     reject-none f = by-id none (λ k. far-carries its-id _ at (until stop) r id-here (omega arith) f (rw (item-map (level 13) FaultKind.Another some idItem (finite stop) at (part m at stop)) (carries-map some none _ (plain-id (λ v. signedOf (v .1)) 2 (integerOk 1) 13 (finite stop) at (part m at stop) refl))))
@@ -83,3 +87,63 @@ module _ {B : Type 0} (y : Option ℤ → Body B) (m : List ℕ) (at stop : ℕ)
     reject-known f =
         by-id _ (λ k. known-carries its-id k at (until stop) r id-here f (λ a n. (i : ℤ) × (a ≡ some i) × ((n ≡ 3) × (i ≡ signedOf (take 1 (drop 2 (part m at stop))))))
         (rw (item-map (level 13) FaultKind.Another some idItem (finite stop) at (part m at stop)) (then-next (value-id (level 13) (finite stop) at (part m at stop)) (λ i n q. fact (i, refl, q)))) _ (λ a q. q .1 ∙ ap (λ (i : ℤ). some i) (id-is m at stop r h id f (q .0) (q .2))))
+
+-- Contents by the tag
+
+map-carries : {A B : Type 0} (f : A → B) (b : Body A) (j : Option ℤ) (d : Bool) (p : ℕ) (part : List ℕ) → Carries j (ask b d p part) → Carries j (ask (mapBody f b) d p part)
+map-carries f b j d p part e = rw (ask-map f b d p part) (carries-map f j (ask b d p part) e)
+
+module _ (tag : ℕ) (m : List ℕ) (at stop : ℕ) (h : until stop ≤ length m) where
+  abbrev Known : Option ℤ → Type 0
+  Known j = Carries j (ask (bodyOf tag) (finite stop) at (part m at stop))
+
+  module _ (other : tag ≡ 164 → ⊥) (r : ℕ) (id : Reads (integerItem 2 1) m at stop r) where
+    by-kind : (j : Option ℤ) → Carries j (ask (bindBody (level 13) noted (integerItem 2 1) (λ i. optBody (integerItem 128 1) (codeBody deepestLevel))) (finite stop) at (part m at stop))
+        → Carries j (ask (bindBody (level 13) noted (integerItem 2 1) (λ i. codeBody deepestLevel)) (finite stop) at (part m at stop)) → Carries j (ask returnedBody (finite stop) at (part m at stop)) → Known j
+    unfolding bodyOf
+    by-kind j u v w = rw (ne-eqb tag 164 other) (go (eqb tag 161) (eqb tag 163) (eqb tag 162))
+      where
+        go : (a c b : Bool) → Carries j (ask (cond a (invokeBody deepestLevel) (cond c (errorBody deepestLevel) (cond b (resultBody deepestLevel last) (resultBody deepestLevel notLast)))) (finite stop) at (part m at stop))
+        go true c b = map-carries _ (bindBody (level 13) noted (integerItem 2 1) (λ i. optBody (integerItem 128 1) (codeBody deepestLevel))) j (finite stop) at (part m at stop) u
+        go false true b = map-carries _ (bindBody (level 13) noted (integerItem 2 1) (λ i. codeBody deepestLevel)) j (finite stop) at (part m at stop) v
+        go false false true = map-carries (λ v. last (v .0) (v .1)) returnedBody j (finite stop) at (part m at stop) w
+        go false false false = map-carries (λ v. notLast (v .0) (v .1)) returnedBody j (finite stop) at (part m at stop) w
+
+    pub known-none : Far r → Known none
+    known-none f = by-kind none (carries-none (λ i. optBody (integerItem 128 1) (codeBody deepestLevel)) m at stop r h id f) (carries-none (λ i. codeBody deepestLevel) m at stop r h id f) (carries-none (λ i. lastBody (level 13) (bothItem deepestLevel)) m at stop r h id f)
+
+    pub known-id : Near r → Known (some (signedOf (getD m (at + 2) 0 ∷ [])))
+    known-id f = by-kind _ (carries-id (λ i. optBody (integerItem 128 1) (codeBody deepestLevel)) m at stop r h id f) (carries-id (λ i. codeBody deepestLevel) m at stop r h id f) (carries-id (λ i. lastBody (level 13) (bothItem deepestLevel)) m at stop r h id f)
+
+  module _ (rejects : tag ≡ 164) where
+    its-body : (j : Option ℤ) → Carries j (ask (bindBody (level 13) withInvokeId idOrNullItem (λ i. onlyBody (level 13) problemItem)) (finite stop) at (part m at stop)) → Known j
+    unfolding bodyOf
+    its-body j e =
+        rw (ne-eqb tag 161 (λ z. omega (arith, z, rejects)), ne-eqb tag 163 (λ z. omega (arith, z, rejects)), eq-eqb tag 164 rejects) (map-carries (λ v. reject (v .0) (v .1)) (bindBody (level 13) withInvokeId idOrNullItem (λ i. onlyBody (level 13) problemItem)) j (finite stop) at (part m at stop) e)
+
+    module _ (b : Bool) (is : b ≡ standsOf m at stop 5) where
+      pub known-null : b ≡ true → Known none
+      known-null t = its-body none (reject-null (λ i. onlyBody (level 13) problemItem) m at stop h b is t)
+
+      module _ (t : b ≡ false) (r : ℕ) (id : Reads (integerItem 2 1) m at stop r) where
+        pub known-reject-none : Far r → Known none
+        known-reject-none f = its-body none (reject-none (λ i. onlyBody (level 13) problemItem) m at stop h b is t r id f)
+
+        pub known-reject-id : Near r → Known (some (signedOf (getD m (at + 2) 0 ∷ [])))
+        known-reject-id f = its-body _ (reject-known (λ i. onlyBody (level 13) problemItem) m at stop h b is t r id f)
+
+-- A component
+
+carries-sized : {A : Type 0} (f : ℕ → ℕ) (j : Option ℤ) (x : Got A) → Carries j x → Carries j (next x (λ v k. got v (f k)))
+unfolding Carries next
+carries-sized f j (got a n) e = tt
+carries-sized f j (bad (fault k q o i t)) e = e
+
+module _ (m : List ℕ) (at stop : ℕ) (h : until stop ≤ length m) (here : at < until stop) (b : Bool) (asked : b ≡ componentItem deepestLevel .mine (getD m at 0)) (told : b ≡ true) (inner : ℕ) (entry : inner ≡ entryPlace true m at stop (getD m at 0)) where
+  pub component-carries : length m ≤ 65535 → Near inner → (st : ℕ) → st ≡ at + 1 + lengthSize (getD m (at + 1) 0) → (j : Option ℤ) → Carries j (ask (bodyOf (getD m at 0)) (finite inner) st (part m st inner))
+      → Carries j (ask (front (level 1) FaultKind.UnknownComponent (componentItem deepestLevel)) (finite stop) at (part m at stop))
+  component-carries top near st start j e =
+      by-tag m at stop h here (getD m at 0) refl (sym asked ∙ told) (λ x. Carries j x) (
+      let s = lead (getD m at 0) (sym asked ∙ told) in
+      let q = around-ask (bodyOf (getD m at 0)) m at stop (getD m at 0) inner st (omega (arith, here)) h top (s .0) (s .1) entry near start in
+      rw (q .1) (carries-sized (q .0) j _ e))
