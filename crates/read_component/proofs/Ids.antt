@@ -1,5 +1,5 @@
 -- Which invoke ID a fault in a component carries, by its tag and what stands first in it. Assumes nothing.
-use Prim.Native.Nat.{ℕ, _+_, _-_, _≤_, _<_}
+use Prim.Native.Nat.{ℕ, _+_, _≤_, _<_}
 use mathlib.Core.Path.{_≡_, refl, sym, ap, _∙_, fun-ext}
 use mathlib.Core.Bool.{Bool, true, false, cond}
 use mathlib.Core.List.{List, [], _∷_}
@@ -12,21 +12,29 @@ use borrow.Author.Tests.{eq-eqb, ne-eqb}
 use Rattle.base.specs.Value.{same}
 use Rattle.primitive.specs.Primitive.{integerOk, signedOf}
 use Rattle.element.specs.declared.FaultKind.{FaultKind}
+use Rattle.element.specs.declared.EndRead.{EndRead}
+use Rattle.element.specs.declared.TagRead.{TagRead}
+use Rattle.element.specs.declared.LengthRead.{LengthRead}
+use Rattle.element.specs.Head.{endOf, lengthOf}
+use Rattle.element.specs.Answers.{frontOf}
+use Rattle.element.proofs.Reading.{definite-size}
 use Rattle.element.specs.Fault.{Fault, fault, Text, withInvokeId}
-use Rattle.element.specs.Ask.{Got, got, bad, next, blamed, Head, Body, ask}
-use Rattle.element.specs.Parts.{Item, Where, level, place, leafItem, mapItem, integerItem, optBody, lastBody, onlyBody, bindBody, mapBody}
+use Rattle.element.specs.Ask.{Got, got, bad, next, check, blamed, Head, Body, askLength, atEnd, ask}
+use Rattle.element.specs.Parts.{Item, Where, level, place, leafItem, mapItem, aroundItem, integerItem, optBody, lastBody, onlyBody, bindBody, mapBody}
 use Rattle.element.proofs.Asking.{Then, fact, void, then-next, then-blamed, ask-sound}
-use Rattle.tcap.specs.Meaning.{Component, last, notLast, reject}
+use Rattle.tcap.specs.Meaning.{last, notLast, reject}
 use Rattle.tcap.specs.WellFormed.{deepestLevel}
-use Rattle.tcap.specs.Productions.{idItem, idOrNullItem, problemItem, codeBody, bothItem, invokeBody, resultBody, errorBody, rejectBody, componentItem, noted}
-use Rattle.read_place.specs.Places.{Far, Near, until, finite, part, front, Placed, Reads, standsOf, entryPlace, lengthSize}
+use Rattle.tcap.specs.Productions.{idItem, idOrNullItem, problemItem, codeBody, bothItem, invokeBody, resultBody, errorBody, componentItem, noted}
+use Rattle.read_place.specs.Places.{Far, Near, until, finite, part, front, Placed, Reads, standsOf, entryPlace, lengthPlace, lengthSize}
+use Rattle.read_place.proofs.Views.{span-length}
+use Rattle.read_place.proofs.Fronts.{byFront, ask-front}
 use Rattle.read_place.proofs.Onto.{ask-bind, ask-map, ask-onto, missing-both}
-use Rattle.read_place.proofs.Items.{stands-only, stands-other, or-left, or-right, placed-item}
+use Rattle.read_place.proofs.Items.{stands-only, stands-other, or-left, or-right, placed-item, front-octet, Entered, ask-entered}
 use Rattle.read_place.proofs.Bodies.{placed-where}
 use Rattle.read_component.specs.Components.{returnedBody, bodyOf}
 use Rattle.read_component.proofs.Around.{around-ask}
-use Rattle.read_component.proofs.ByTag.{Lead, lead, by-tag}
-use Rattle.read_component.proofs.Coded.{value-id, id-placed, id-is}
+use Rattle.read_component.proofs.ByTag.{lead, by-tag}
+use Rattle.read_component.proofs.Coded.{value-id, id-is}
 use Rattle.read_component.proofs.Carried.{Carries, carries-map, plain-id, carries-none, carries-id, far-carries, null-carries, known-carries}
 
 -- An item under another name
@@ -139,6 +147,23 @@ unfolding Carries next
 carries-sized f j (got a n) e = tt
 carries-sized f j (bad (fault k q o i t)) e = e
 
+-- its own faults, of its length or its tag, carry none
+by-length : {A : Type 0} (x : Item A) (m : List ℕ) (at stop : ℕ) → until stop ≤ length m → at < until stop → (inner : ℕ) → Far inner → (tag : ℕ) (l : LengthRead) → lengthOf (part m (at + 1) stop) true ≡ l → inner ≡ lengthPlace at (at + 1) (until stop) l
+    → Carries none (askLength (front (level 1) FaultKind.Another x) (finite stop) at (part m at stop) tag 1 l)
+unfolding askLength lengthPlace
+by-length x m at stop h here inner f tag (LengthRead.Fault k) q e = unfold Carries in refl
+by-length x m at stop h here inner f tag (LengthRead.Definite k n) q e =
+    let z = definite-size (part m (at + 1) stop) true k n (LengthRead.Definite k n) (sym q) refl in
+    absurd (omega (arith, z, span-length m (at + 1) (until stop) h, e, f, here))
+by-length x m at stop h here inner f tag LengthRead.Indefinite q e = absurd (omega (arith, e, f))
+
+wrong-front : {A : Type 0} (x : Item A) (d : Bool) (p : ℕ) (part : List ℕ) (e : EndRead) (t : TagRead) → ((a s : ℕ) → t ≡ TagRead.Tag a s → x .mine a ≡ false) → Carries none (byFront (front (level 1) FaultKind.UnknownComponent x) d p part e t)
+unfolding byFront atEnd check
+wrong-front x d p part EndRead.Ended t h = unfold Carries in refl
+wrong-front x d p part EndRead.Unfinished t h = unfold Carries in refl
+wrong-front x d p part EndRead.More (TagRead.Fault k) h = unfold Carries in refl
+wrong-front x d p part EndRead.More (TagRead.Tag a s) h = rw (h a s refl) (unfold Carries in refl)
+
 module _ (m : List ℕ) (at stop : ℕ) (h : until stop ≤ length m) (here : at < until stop) (b : Bool) (asked : b ≡ componentItem deepestLevel .mine (getD m at 0)) (told : b ≡ true) (inner : ℕ) (entry : inner ≡ entryPlace true m at stop (getD m at 0)) where
   pub component-carries : length m ≤ 65535 → Near inner → (st : ℕ) → st ≡ at + 1 + lengthSize (getD m (at + 1) 0) → (j : Option ℤ) → Carries j (ask (bodyOf (getD m at 0)) (finite inner) st (part m st inner))
       → Carries j (ask (front (level 1) FaultKind.UnknownComponent (componentItem deepestLevel)) (finite stop) at (part m at stop))
@@ -147,3 +172,22 @@ module _ (m : List ℕ) (at stop : ℕ) (h : until stop ≤ length m) (here : at
       let s = lead (getD m at 0) (sym asked ∙ told) in
       let q = around-ask (bodyOf (getD m at 0)) m at stop (getD m at 0) inner st (omega (arith, here)) h top (s .0) (s .1) entry near start in
       rw (q .1) (carries-sized (q .0) j _ e))
+
+  -- its length is none
+  pub entry-carries : Far inner → Carries none (ask (front (level 1) FaultKind.UnknownComponent (componentItem deepestLevel)) (finite stop) at (part m at stop))
+  unfolding entryPlace standsOf
+  entry-carries f =
+      by-tag m at stop h here (getD m at 0) refl (sym asked ∙ told) (λ x. Carries none x) (
+      let s = lead (getD m at 0) (sym asked ∙ told) in
+      let answer : inner ≡ lengthPlace at (at + 1) (until stop) (lengthOf (part m (at + 1) stop) true) = entry ∙ rw (ne-eqb at (until stop) (λ z. omega (arith, z, here)), eq-eqb (getD m at 0) (getD m at 0) refl) in
+      let i : Entered true m at stop (getD m at 0) inner = record { here = here; first = refl; len = lengthOf (part m (at + 1) stop) true; len-is = refl; answer = answer } in
+      rw (ask-entered true m at stop (getD m at 0) inner (omega (arith, here)) h entry (aroundItem (getD m at 0) (bodyOf (getD m at 0))) (s .0) (s .1) (λ a. refl) i) (go (lengthOf (part m (at + 1) stop) true) refl answer))
+    where
+      go : (l : LengthRead) → lengthOf (part m (at + 1) stop) true ≡ l → inner ≡ lengthPlace at (at + 1) (until stop) l → Carries none (askLength (front (level 1) FaultKind.Another (aroundItem (getD m at 0) (bodyOf (getD m at 0)))) (finite stop) at (part m at stop) (getD m at 0) 1 l)
+      go l q e = by-length (aroundItem (getD m at 0) (bodyOf (getD m at 0))) m at stop h here inner f (getD m at 0) l q e
+
+-- no component stands here
+pub wrong-carries : (m : List ℕ) (at stop : ℕ) → until stop ≤ length m → (b : Bool) → b ≡ componentItem deepestLevel .mine (getD m at 0) → b ≡ false → Carries none (ask (front (level 1) FaultKind.UnknownComponent (componentItem deepestLevel)) (finite stop) at (part m at stop))
+wrong-carries m at stop h b asked told =
+    rw (ask-front (front (level 1) FaultKind.UnknownComponent (componentItem deepestLevel)) (finite stop) at (part m at stop) refl refl)
+    (wrong-front (componentItem deepestLevel) (finite stop) at (part m at stop) (endOf (finite stop) (part m at stop)) (frontOf 1 (part m at stop)) (λ a s z. ap (λ (q : ℕ). componentItem deepestLevel .mine q) (sym (front-octet m at (until stop) a s h z .1)) ∙ sym asked ∙ told))
