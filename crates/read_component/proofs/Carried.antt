@@ -26,11 +26,8 @@ use lib.IntN.{ℤ}
 use Rattle.read_place.proofs.Answers.{far-fault}
 use Rattle.element.proofs.Asking.{Then, the-fact}
 use Rattle.primitive.specs.Primitive.{integerOk, signedOf}
+use Rattle.read_component.specs.Components.{Carries}
 use Rattle.read_component.proofs.Coded.{value-id, id-placed, id-is}
-
-unfoldable pub Carries : {A : Type 0} → Option ℤ → Got A → Type 0
-Carries j (got a n) = Unit {0}
-Carries j (bad (fault k q o i t)) = i ≡ j
 
 carries-noted : {A : Type 0} (a : ℤ) (x : Got A) → Carries (some a) (blamed (noted a) x)
 unfolding Carries blamed withInvokeId

@@ -42,7 +42,7 @@ codeAt m at r = cond (eqb (getD m at 0) 6) (global (at + 2, take (r - at - 2) (d
 unfoldable codeFrom : ℕ → List ℕ → ℕ → Code Text
 codeFrom p part n = cond (eqb (getD part 0 0) 6) (global (p + 2, take (n - 2) (drop 2 part))) (local (signedOf (take (n - 2) (drop 2 part))))
 
-head-first : (part : List ℕ) (h : Head) → HeadOf part h → getD part 0 0 ≡ firstOf h
+pub head-first : (part : List ℕ) (h : Head) → HeadOf part h → getD part 0 0 ≡ firstOf h
 head-first part h (finite-head a s k n t z l) = tag-first part a s t
 head-first part h (unended a s t z l) = tag-first part a s t
 

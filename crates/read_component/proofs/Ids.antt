@@ -1,14 +1,15 @@
 -- Which invoke ID a fault in a component carries, by its tag and what stands first in it. Assumes nothing.
-use Prim.Native.Nat.{ℕ, _+_, _≤_, _<_}
+use Prim.Native.Nat.{ℕ, _+_, _-_, _≤_, _<_}
 use mathlib.Core.Path.{_≡_, refl, sym, ap, _∙_, fun-ext}
 use mathlib.Core.Bool.{Bool, true, false, cond}
 use mathlib.Core.List.{List, [], _∷_}
 use mathlib.Core.Option.{Option, none, some}
 use native.Mathlib.Omega.{arith}
+use native.Mathlib.Nat.{add-zero}
 use lib.ListN.{length, getD, take, drop}
 use lib.Dec.{eqb}
 use lib.IntN.{ℤ}
-use borrow.Author.Tests.{eq-eqb, ne-eqb}
+use borrow.Author.Tests.{eqb-true, eqb-false, eq-eqb, ne-eqb}
 use Rattle.base.specs.Value.{same}
 use Rattle.primitive.specs.Primitive.{integerOk, signedOf}
 use Rattle.element.specs.declared.FaultKind.{FaultKind}
@@ -20,22 +21,25 @@ use Rattle.element.specs.Answers.{frontOf}
 use Rattle.element.proofs.Reading.{definite-size}
 use Rattle.element.specs.Fault.{Fault, fault, Text, withInvokeId}
 use Rattle.element.specs.Ask.{Got, got, bad, next, check, blamed, Head, Body, askLength, atEnd, ask}
-use Rattle.element.specs.Parts.{Item, Where, level, place, leafItem, mapItem, aroundItem, integerItem, optBody, lastBody, onlyBody, bindBody, mapBody}
+use Rattle.element.specs.Parts.{Item, Where, firstOf, level, place, leafItem, mapItem, aroundItem, integerItem, optBody, lastBody, onlyBody, bindBody, mapBody}
 use Rattle.element.proofs.Asking.{Then, fact, void, then-next, then-blamed, ask-sound}
 use Rattle.tcap.specs.Meaning.{last, notLast, reject}
 use Rattle.tcap.specs.WellFormed.{deepestLevel}
 use Rattle.tcap.specs.Productions.{idItem, idOrNullItem, problemItem, codeBody, bothItem, invokeBody, resultBody, errorBody, componentItem, noted}
 use Rattle.read_place.specs.Places.{Far, Near, until, finite, part, front, Placed, Reads, standsOf, entryPlace, lengthPlace, lengthSize}
-use Rattle.read_place.proofs.Views.{span-length}
+use Rattle.read_place.proofs.Views.{span-length, span-get}
+use Rattle.read_place.proofs.Answers.{placed-near}
+use Rattle.read_place.proofs.Values.{placed-got}
 use Rattle.read_place.proofs.Fronts.{byFront, ask-front}
 use Rattle.read_place.proofs.Onto.{ask-bind, ask-map, ask-onto, missing-both}
-use Rattle.read_place.proofs.Items.{stands-only, stands-other, or-left, or-right, placed-item, front-octet, Entered, ask-entered}
+use Rattle.read_place.proofs.Items.{stands-here, stands-only, stands-other, or-left, or-right, placed-item, front-octet, Entered, ask-entered}
 use Rattle.read_place.proofs.Bodies.{placed-where}
-use Rattle.read_component.specs.Components.{returnedBody, bodyOf}
+use Rattle.read_place.proofs.Optional.{entry-from, entry-to}
+use Rattle.read_component.specs.Components.{returnedBody, bodyOf, Carries, idTold, KnowsId}
 use Rattle.read_component.proofs.Around.{around-ask}
 use Rattle.read_component.proofs.ByTag.{lead, by-tag}
-use Rattle.read_component.proofs.Coded.{value-id, id-is}
-use Rattle.read_component.proofs.Carried.{Carries, carries-map, plain-id, carries-none, carries-id, far-carries, null-carries, known-carries}
+use Rattle.read_component.proofs.Coded.{value-id, id-is, head-first}
+use Rattle.read_component.proofs.Carried.{carries-map, plain-id, carries-none, carries-id, far-carries, null-carries, known-carries}
 
 -- An item under another name
 
@@ -96,6 +100,33 @@ module _ {B : Type 0} (y : Option ℤ → Body B) (m : List ℕ) (at stop : ℕ)
         by-id _ (λ k. known-carries its-id k at (until stop) r id-here f (λ a n. (i : ℤ) × (a ≡ some i) × ((n ≡ 3) × (i ≡ signedOf (take 1 (drop 2 (part m at stop))))))
         (rw (item-map (level 13) FaultKind.Another some idItem (finite stop) at (part m at stop)) (then-next (value-id (level 13) (finite stop) at (part m at stop)) (λ i n q. fact (i, refl, q)))) _ (λ a q. q .1 ∙ ap (λ (i : ℤ). some i) (id-is m at stop r h id f (q .0) (q .2))))
 
+-- An ID that was read takes three octets, of which the first is its tag
+
+id-stood : (w : Where) (d : Bool) (p : ℕ) (part : List ℕ) → Then (λ i n. getD part 0 0 ≡ 2) (ask (front w FaultKind.Another (integerItem 2 1)) d p part)
+id-stood w d p part =
+    ask-sound (λ i n. getD part 0 0 ≡ 2) (front w FaultKind.Another (integerItem 2 1)) d p part (λ v e f. let z : _≡_ {A = ℕ} 0 1 = cc in absurd (omega arith)) (λ h i m. then-blamed (w .owner)
+    (then-all (integerItem 2 1 .contents h p part) (head-first part h i ∙ eqb-true (firstOf h) 2 m)))
+  where
+    then-all : {P : Type 0} (x : Got ℤ) → P → Then (λ i n. P) x
+    then-all (got a n) q = fact q
+    then-all (bad f) q = void
+
+module _ (m : List ℕ) (at stop r : ℕ) (h : until stop ≤ length m) (id : Reads (integerItem 2 1) m at stop r) (near : Near r) where
+  id-sized : (r - at ≡ 3) × (at ≤ r) × (r ≤ until stop)
+  id-sized =
+      let z = placed-near (ask (front (level 1) FaultKind.Another (integerItem 2 1)) (finite stop) at (part m at stop)) at (until stop) r id near in
+      let q = placed-got (ask (front (level 1) FaultKind.Another (integerItem 2 1)) (finite stop) at (part m at stop)) at (until stop) r _ id near (value-id (level 1) (finite stop) at (part m at stop)) in
+      (q .2 .0, z .0, z .1)
+
+  id-inside : at + 2 < length m
+  id-inside = omega (arith, id-sized, h)
+
+  id-first : getD m at 0 ≡ 2
+  id-first =
+      let q = placed-got (ask (front (level 1) FaultKind.Another (integerItem 2 1)) (finite stop) at (part m at stop)) at (until stop) r _ id near (id-stood (level 1) (finite stop) at (part m at stop)) in
+      let first : getD (part m at stop) 0 0 ≡ getD m at 0 = rw add-zero at (span-get m at (until stop) 0 (omega (arith, id-sized))) in
+      sym first ∙ q .2
+
 -- Contents by the tag
 
 map-carries : {A B : Type 0} (f : A → B) (b : Body A) (j : Option ℤ) (d : Bool) (p : ℕ) (part : List ℕ) → Carries j (ask b d p part) → Carries j (ask (mapBody f b) d p part)
@@ -139,6 +170,29 @@ module _ (tag : ℕ) (m : List ℕ) (at stop : ℕ) (h : until stop ≤ length m
 
         pub known-reject-id : Near r → Known (some (signedOf (getD m (at + 2) 0 ∷ [])))
         known-reject-id f = its-body _ (reject-known (λ i. onlyBody (level 13) problemItem) m at stop h b is t r id f)
+
+  -- whatever the tag: a null is no ID, and where an ID was read no null stood
+  module _ (g : at ≤ until stop) (r : ℕ) (id : Reads (integerItem 2 1) m at stop r) where
+    by-null : (j : Option ℤ) → ((tag ≡ 164 → ⊥) → Known j) → (tag ≡ 164 → (b : Bool) → b ≡ standsOf m at stop 5 → Known j) → Known j
+    by-null j other rejects = go (eqb tag 164) refl
+      where
+        go : (c : Bool) → eqb tag 164 ≡ c → Known j
+        go true e = rejects (eqb-true tag 164 e) (standsOf m at stop 5) refl
+        go false e = other (eqb-false tag 164 e)
+
+    pub first-none : Far r → Known none
+    first-none f = by-null none (λ o. known-none o r id f) go
+      where
+        go : tag ≡ 164 → (b : Bool) → b ≡ standsOf m at stop 5 → Known none
+        go e true is = known-null e true is refl
+        go e false is = known-reject-none e false is refl r id f
+
+    pub first-id : Near r → Known (some (signedOf (getD m (at + 2) 0 ∷ [])))
+    first-id f = by-null _ (λ o. known-id o r id f) go
+      where
+        go : tag ≡ 164 → (b : Bool) → b ≡ standsOf m at stop 5 → Known (some (signedOf (getD m (at + 2) 0 ∷ [])))
+        go e true is = absurd (omega (arith, stands-here m at stop 5 h g (sym is), id-first m at stop r h id f))
+        go e false is = known-reject-id e false is refl r id f
 
 -- A component
 
@@ -191,3 +245,32 @@ pub wrong-carries : (m : List ℕ) (at stop : ℕ) → until stop ≤ length m �
 wrong-carries m at stop h b asked told =
     rw (ask-front (front (level 1) FaultKind.UnknownComponent (componentItem deepestLevel)) (finite stop) at (part m at stop) refl refl)
     (wrong-front (componentItem deepestLevel) (finite stop) at (part m at stop) (endOf (finite stop) (part m at stop)) (frontOf 1 (part m at stop)) (λ a s z. ap (λ (q : ℕ). componentItem deepestLevel .mine q) (sym (front-octet m at (until stop) a s h z .1)) ∙ sym asked ∙ told))
+
+-- What `known_id` answers
+
+module _ (m : List ℕ) (at stop : ℕ) (h : until stop ≤ length m) where
+  pub told-wrong : (b : Bool) → b ≡ componentItem deepestLevel .mine (getD m at 0) → b ≡ false → KnowsId m at stop 0
+  unfolding idTold
+  told-wrong b asked told = wrong-carries m at stop h b asked told
+
+  module _ (here : at < until stop) (b : Bool) (asked : b ≡ componentItem deepestLevel .mine (getD m at 0)) (told : b ≡ true) (inner : ℕ) (entry : inner ≡ entryPlace true m at stop (getD m at 0)) where
+    pub told-entry : Far inner → KnowsId m at stop 0
+    unfolding idTold
+    told-entry f = entry-carries m at stop h here b asked told inner entry f
+
+    module _ (top : length m ≤ 65535) (near : Near inner) (st : ℕ) (start : st ≡ at + 1 + lengthSize (getD m (at + 1) 0)) (r : ℕ) (id : Reads (integerItem 2 1) m st inner r) where
+      fits : (st ≤ until inner) × (until inner ≤ length m)
+      fits = let g : at ≤ until stop = omega (arith, here) in (entry-from m at stop (getD m at 0) inner g h entry near top st start, entry-to m at stop (getD m at 0) inner g h entry near top st start)
+
+      pub octet-inside : Near r → st + 2 < length m
+      octet-inside f = id-inside m st inner r (fits .1) id f
+
+      pub told-none : Far r → KnowsId m at stop 0
+      unfolding idTold
+      told-none f = component-carries m at stop h here b asked told inner entry top near st start none (first-none (getD m at 0) m st inner (fits .1) (fits .0) r id f)
+
+      pub told-id : Near r → KnowsId m at stop (256 + getD m (st + 2) 0)
+      unfolding idTold
+      told-id f =
+          let octet : 256 + getD m (st + 2) 0 - 256 ≡ getD m (st + 2) 0 = omega arith in
+          rw (ne-eqb (256 + getD m (st + 2) 0) 0 (λ z. omega (arith, z)), octet) (component-carries m at stop h here b asked told inner entry top near st start _ (first-id (getD m at 0) m st inner (fits .1) (fits .0) r id f))

@@ -2,7 +2,7 @@
 ghost use mathlib.Core.Path.{_≡_};
 ghost use Prim.Native.Nat.{_<_};
 ghost use Rattle.read_place.specs.Places.{until, Finishes, Ready};
-ghost use Rattle.read_component.specs.Components.{returnedBody, bodyOf, ReadsComponent, rowsBody};
+ghost use Rattle.read_component.specs.Components.{returnedBody, bodyOf, ReadsComponent, KnowsId, rowsBody};
 ghost use Rattle.tcap.specs.Productions.{componentItem, rejectBody, codeItem, codeBody, bothItem, invokeBody, errorBody, levelAt};
 ghost use Rattle.element.specs.Parts.{integerItem, level, thenBody, onlyBody, lastBody, optBody};
 ghost use Rattle.element.specs.Walk.{walkItem};
@@ -187,6 +187,27 @@ pub fn component_at(m: &[u8], at: usize, stop: usize) -> usize
         return contents_at(m, start_of(m, at + 1), inner, tag);
     }
     wrong_at(m, at, stop, UNKNOWN_COMPONENT)
+}
+
+// The invoke ID that goes with a fault of the component here: 256 and its octet, or 0.
+pub fn known_id(m: &[u8], at: usize, stop: usize) -> usize
+    requires { ⌜ Ready (now m) at stop × (at < until stop) ⌝ }
+    ensures { λ r. ⌜ KnowsId (now (m .entry)) at stop r ⌝ }
+{
+    let tag = m[at];
+    if is_component(tag) {
+        let inner = entry_at(m, at, stop, tag);
+        if inner >= FAULT {
+            return 0;
+        }
+        let first = start_of(m, at + 1);
+        let r = octet_at(m, first, inner, 0x02);
+        if r >= FAULT {
+            return 0;
+        }
+        return 256 + m[first + 2] as usize;
+    }
+    0
 }
 
 // One to 16 components, to the end of their contents.

@@ -1,0 +1,69 @@
+-- `known_id` meets its contract. Assumes nothing.
+use Prim.Native.Nat.{_+_}
+use native.Mathlib.Omega.{arith}
+use borrow.Author.Needs.{needs}
+use Rattle.read_place.proofs.Optional.{entry-inside, entry-from, entry-to}
+use Rattle.read_component.proofs.Ids.{octet-inside, told-wrong, told-entry, told-none, told-id}
+use Rattle.read_component.proofs.known_id.Statement.{statement}
+use Rattle.read_component.proofs.known_id.Tie as tie
+
+shared-slice-read-tag : tie.Need-shared-slice-read-tag
+shared-slice-read-tag c = search needs
+
+is-component-requires : tie.Need-is-component-requires
+is-component-requires c κs = search needs
+
+entry-at-requires : tie.Need-entry-at-requires
+entry-at-requires c κs = search needs
+
+returns : tie.Need-returns
+returns c = search told-entry
+
+add-start-of : tie.Need-add-start-of
+add-start-of c = search needs
+
+start-of-requires : tie.Need-start-of-requires
+start-of-requires c κs = search (needs, entry-inside)
+
+octet-at-requires : tie.Need-octet-at-requires
+octet-at-requires c κs = search (needs, entry-from, entry-to)
+
+returns-2 : tie.Need-returns-2
+returns-2 c = search told-none
+
+add-result : tie.Need-add-result
+add-result c = let h = octet-inside (c .before .before .before .before .before .before .before .before .before .args .m .now) (c .before .before .before .before .before .before .before .before .before .args .at) (c .before .before .before .before .before .before .before .before .before .args .stop) (c .before .before .before .before .before .before .before .before .before .pre .0 .0 .1) (c .before .before .before .before .before .before .before .before .before .pre .1) _ (c .before .before .before .before .before .before .is-component .ensures) (c .before .before .before .before .before .if1 .taken) _ (c .before .before .before .before .entry-at .ensures) (c .before .before .before .before .before .before .before .before .before .pre .0 .0 .2) (c .before .before .before .if2 .left) _ (c .before .before .start-of .ensures) _ (c .before .octet-at .ensures) (c .if3 .left) in omega (arith, h, c .before .before .before .before .before .before .before .before .before .pre .0 .0 .2)
+
+shared-slice-read-result : tie.Need-shared-slice-read-result
+shared-slice-read-result c = octet-inside (c .before .before .before .before .before .before .before .before .before .before .args .m .now) (c .before .before .before .before .before .before .before .before .before .before .args .at) (c .before .before .before .before .before .before .before .before .before .before .args .stop) (c .before .before .before .before .before .before .before .before .before .before .pre .0 .0 .1) (c .before .before .before .before .before .before .before .before .before .before .pre .1) _ (c .before .before .before .before .before .before .before .is-component .ensures) (c .before .before .before .before .before .before .if1 .taken) _ (c .before .before .before .before .before .entry-at .ensures) (c .before .before .before .before .before .before .before .before .before .before .pre .0 .0 .2) (c .before .before .before .before .if2 .left) _ (c .before .before .before .start-of .ensures) _ (c .before .before .octet-at .ensures) (c .before .if3 .left)
+
+cast-result : tie.Need-cast-result
+cast-result c = omega (arith, c .shared-slice-known3 .given (c .before .before .before .start-of .result + 2))
+
+add-result-2 : tie.Need-add-result-2
+add-result-2 c = omega (arith, c .shared-slice-known3 .given (c .before .before .before .start-of .result + 2))
+
+returns-3 : tie.Need-returns-3
+returns-3 c = search told-id
+
+returns-4 : tie.Need-returns-4
+returns-4 c = search told-wrong
+
+pub known-id-spec : {M : Type 1} → statement M
+known-id-spec =
+    tie.close
+    (tie.spec
+    shared-slice-read-tag
+    is-component-requires
+    entry-at-requires
+    returns
+    add-start-of
+    start-of-requires
+    octet-at-requires
+    returns-2
+    add-result
+    shared-slice-read-result
+    cast-result
+    add-result-2
+    returns-3
+    returns-4)
