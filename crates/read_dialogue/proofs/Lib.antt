@@ -1,0 +1,4 @@
+pub mod Around
+pub mod Externals
+pub mod Pdus
+pub mod Names

@@ -1,0 +1,242 @@
+-- The two names, what stands behind a name, 28 and 6B. Assumes nothing.
+use Prim.Native.Nat.{ℕ, _+_, _-_, _≤_, _<_}
+use mathlib.Core.Path.{_≡_, refl, sym, ap, _∙_}
+use mathlib.Core.Bool.{Bool, true, false, _&&_, false≢true}
+use mathlib.Core.List.{List, [], _∷_}
+use native.Mathlib.Omega.{arith}
+use lib.ListN.{length, getD, drop, take}
+use lib.Dec.{eqb, ltb}
+use borrow.Author.Tests.{eq-eqb, ne-eqb, ltb-true, ltb-false}
+use Rattle.base.specs.Value.{same}
+use Rattle.element.specs.declared.FaultKind.{FaultKind}
+use Rattle.element.specs.declared.TagRead.{TagRead}
+use Rattle.element.specs.declared.LengthRead.{LengthRead}
+use Rattle.element.specs.Element.{constructorOf}
+use Rattle.element.specs.Fault.{fault, Text, inDialogue}
+use Rattle.element.specs.Head.{lengthOf}
+use Rattle.element.specs.Ask.{got, check, blamed, ask, askLength}
+use Rattle.element.specs.Parts.{Item, level, leafContents, leafItem, aroundItem, mapItem, bindBody, silently, onlyBody, mapBody}
+use Rattle.element.specs.Walk.{walkItem}
+use Rattle.element.proofs.Asking.{the-fact}
+use Rattle.element.proofs.Reading.{definite-size, indefinite-size}
+use Rattle.primitive.specs.Primitive.{identifierOk}
+use Rattle.tcap.specs.Meaning.{Dialogue, single, octets, structured, unstructured}
+use Rattle.tcap.specs.WellFormed.{deepestLevel}
+use Rattle.tcap.specs.Productions.{nameItem, levelAt, heldItem, externalBody, inside6B, dialogueItem}
+use Rattle.read_place.specs.Places.{Far, Near, until, faults, finite, part, faultPlace, front, Placed, Closed, nothing, Reads, Finishes, standsOf, entryPlace, lengthPlace, lengthSize}
+use Rattle.read_place.proofs.Views.{span-length, span-take}
+use Rattle.read_place.proofs.Answers.{Keeps, far, placed-near}
+use Rattle.read_place.proofs.Bodies.{placed-where, bind-far, only-far, only-near, map-closed}
+use Rattle.read_place.proofs.Items.{Entered, entered, ask-entered, entry-far, stands-only, stands-other}
+use Rattle.read_place.proofs.Optional.{around-entry, around-read}
+use Rattle.read_place.proofs.Values.{placed-got, value-leaf}
+use Rattle.read_field.proofs.Choices.{first-of, second-of, reads-map}
+use Rattle.read_field.proofs.Fields.{name-sized}
+use Rattle.read_dialogue.specs.Dialogues.{pduItem, common, kindOf, nameKind, Holds}
+use Rattle.read_dialogue.proofs.Around.{one-entry, one-far, one-near, bind-known}
+use Rattle.read_dialogue.proofs.Pdus.{other-length, eqb-turned}
+
+-- The two names
+
+reorder : (a b c d e f g : Bool) → (a && (b && (c && (d && (e && (f && (g && true))))))) ≡ ((a && (b && (c && (d && (e && g))))) && f)
+reorder false b c d e f g = refl
+reorder true false c d e f g = refl
+reorder true true false d e f g = refl
+reorder true true true false e f g = refl
+reorder true true true true false f g = refl
+reorder true true true true true false false = refl
+reorder true true true true true false true = refl
+reorder true true true true true true false = refl
+reorder true true true true true true true = refl
+
+-- names that differ in their sixth octet
+pub seven : (x : ℕ) (c : List ℕ) → length c ≡ 7 → same (0x00 ∷ 0x11 ∷ 0x86 ∷ 0x05 ∷ 0x01 ∷ x ∷ 0x01 ∷ []) c ≡ (common c && eqb (getD c 5 0) x)
+unfolding same common
+seven x [] h = let z : _≡_ {A = ℕ} 0 7 = h in absurd (omega arith)
+seven x (a ∷ []) h = let z : _≡_ {A = ℕ} 1 7 = h in absurd (omega arith)
+seven x (a ∷ b ∷ []) h = let z : _≡_ {A = ℕ} 2 7 = h in absurd (omega arith)
+seven x (a ∷ b ∷ c ∷ []) h = let z : _≡_ {A = ℕ} 3 7 = h in absurd (omega arith)
+seven x (a ∷ b ∷ c ∷ d ∷ []) h = let z : _≡_ {A = ℕ} 4 7 = h in absurd (omega arith)
+seven x (a ∷ b ∷ c ∷ d ∷ e ∷ []) h = let z : _≡_ {A = ℕ} 5 7 = h in absurd (omega arith)
+seven x (a ∷ b ∷ c ∷ d ∷ e ∷ f ∷ []) h = let z : _≡_ {A = ℕ} 6 7 = h in absurd (omega arith)
+seven x (a ∷ b ∷ c ∷ d ∷ e ∷ f ∷ g ∷ []) h =
+    rw (eqb-turned a 0x00 _ refl, eqb-turned b 0x11 _ refl, eqb-turned c 0x86 _ refl, eqb-turned d 0x05 _ refl, eqb-turned e 0x01 _ refl, eqb-turned f x _ refl, eqb-turned g 0x01 _ refl)
+    (reorder (eqb a 0x00) (eqb b 0x11) (eqb c 0x86) (eqb d 0x05) (eqb e 0x01) (eqb f x) (eqb g 0x01))
+seven x (a ∷ b ∷ c ∷ d ∷ e ∷ f ∷ g ∷ i ∷ r) h = absurd (omega (arith, h))
+
+module _ (c : List ℕ) where
+  pub kind-short : (length c ≡ 7 → ⊥) → 0 ≡ nameKind c
+  unfolding kindOf
+  kind-short h = rw (other-length structured c h, other-length unstructured c h)
+
+  module _ (h : length c ≡ 7) (b : Bool) (is-b : b ≡ common c) where
+    pub kind-other : b ≡ false → 0 ≡ nameKind c
+    unfolding kindOf
+    kind-other e = rw (seven 0x01 c h, seven 0x02 c h, ← is-b, e)
+
+    module _ (e : b ≡ true) where
+      pub kind-structured : getD c 5 0 ≡ 1 → 1 ≡ nameKind c
+      unfolding kindOf
+      kind-structured f = rw (seven 0x01 c h, ← is-b, e, eq-eqb (getD c 5 0) 0x01 f)
+
+      pub kind-unstructured : (getD c 5 0 ≡ 1 → ⊥) → getD c 5 0 ≡ 2 → 2 ≡ nameKind c
+      unfolding kindOf
+      kind-unstructured f g = rw (seven 0x01 c h, seven 0x02 c h, ← is-b, e, ne-eqb (getD c 5 0) 0x01 f, eq-eqb (getD c 5 0) 0x02 g)
+
+      pub kind-outside : (getD c 5 0 ≡ 1 → ⊥) → (getD c 5 0 ≡ 2 → ⊥) → 0 ≡ nameKind c
+      unfolding kindOf
+      kind-outside f g = rw (seven 0x01 c h, seven 0x02 c h, ← is-b, e, ne-eqb (getD c 5 0) 0x01 f, ne-eqb (getD c 5 0) 0x02 g)
+
+-- Behind another name: A0 around one element
+
+module _ (m : List ℕ) (at stop inner : ℕ) (g : at ≤ until stop) (h : until stop ≤ length m) (entry : inner ≡ entryPlace true m at stop 160) where
+  pub single-entry : Far inner → Reads (aroundItem 160 (onlyBody (level 12) (walkItem 12))) m at stop inner
+  unfolding constructorOf
+  single-entry f = around-entry 160 (omega arith, omega arith, omega arith) refl (onlyBody (level 12) (walkItem 12)) m at stop inner g h entry f
+
+  pub single-near : length m ≤ 65535 → Near inner → (st : ℕ) → st ≡ at + 1 + lengthSize (getD m (at + 1) 0) → (r : ℕ) → Finishes (onlyBody (level 12) (walkItem 12)) m st inner r → Reads (aroundItem 160 (onlyBody (level 12) (walkItem 12))) m at stop r
+  unfolding constructorOf
+  single-near top near st start r e = around-read 160 (omega arith, omega arith, omega arith) refl (onlyBody (level 12) (walkItem 12)) m at stop inner g h entry top near st start r e
+
+-- or octets, of which nothing is asked
+module _ (m : List ℕ) (at stop r : ℕ) (g : at ≤ until stop) (h : until stop ≤ length m) (is : r ≡ entryPlace false m at stop 129) where
+  abbrev any : Item Text
+  any = leafItem 129 (λ c. true)
+
+  octets-len : (i : Entered false m at stop 129 r) (n : LengthRead) → i .len ≡ n → Near r → Reads any m at stop r
+  unfolding lengthPlace askLength leafContents check blamed Placed constructorOf
+  octets-len i (LengthRead.Fault k) e f = absurd (omega (arith, f, far k, (i .answer ∙ ap (lengthPlace at (at + 1) (until stop)) e)))
+  octets-len i (LengthRead.Definite k n) e f =
+      let a : r ≡ at + 1 + (k + n) = i .answer ∙ ap (lengthPlace at (at + 1) (until stop)) e in
+      let z = definite-size (part m (at + 1) stop) false k n (LengthRead.Definite k n) (sym (i .len-is ∙ e)) refl in
+      rw (ask-entered false m at stop 129 r g h is any (omega arith, omega arith, omega arith) refl (λ a. refl) i, e) (omega (arith, a), omega (arith, a, z, span-length m (at + 1) (until stop) h, i .here))
+  octets-len i LengthRead.Indefinite e f = absurd (false≢true (indefinite-size (part m (at + 1) stop) false LengthRead.Indefinite (sym (i .len-is ∙ e)) refl .1))
+
+  octets-any : (b : Bool) → ltb r faults ≡ b → Reads any m at stop r
+  unfolding constructorOf
+  octets-any true e = let f : Near r = ltb-true r faults e in let i = entered false m at stop 129 r g h is f in octets-len i (i .len) refl f
+  octets-any false e = entry-far false m at stop 129 r g h is any (omega arith, omega arith, omega arith) refl (λ a. refl) (ltb-false r faults e)
+
+  pub octets-read : Reads (leafItem 129 (λ c. true)) m at stop r
+  octets-read = octets-any (ltb r faults) refl
+
+module _ (m : List ℕ) (at stop r : ℕ) (h : until stop ≤ length m) (b : Bool) (is : b ≡ standsOf m at stop 160) where
+  pub outside-single : b ≡ true → Reads (aroundItem 160 (onlyBody (level 12) (walkItem 12))) m at stop r → Holds false false m at stop r
+  unfolding Holds
+  outside-single t e = λ n. first-of (mapItem (single n) (aroundItem 160 (onlyBody (level 12) (walkItem 12)))) (mapItem (octets n) (leafItem 129 (λ c. true))) m at stop r (λ a s z. ap (λ (q : ℕ). eqb q 129) (stands-only m at stop 160 h (sym is ∙ t) a s z)) (reads-map (single n) (aroundItem 160 (onlyBody (level 12) (walkItem 12))) m at stop r e)
+
+  pub outside-octets : at ≤ until stop → b ≡ false → r ≡ entryPlace false m at stop 129 → Holds false false m at stop r
+  unfolding Holds
+  outside-octets g t e = λ n. second-of (mapItem (single n) (aroundItem 160 (onlyBody (level 12) (walkItem 12)))) (mapItem (octets n) (leafItem 129 (λ c. true))) m at stop r (λ a s z. stands-other m at stop 160 h (sym is ∙ t) a s z) (reads-map (octets n) (leafItem 129 (λ c. true)) m at stop r (octets-read m at stop r g h e))
+
+-- Behind a name, by its octets
+
+module _ (m : List ℕ) (at stop r : ℕ) where
+  abbrev Known : Bool → Type 0
+  Known s = Reads (aroundItem 160 (onlyBody (level 12) (pduItem s))) m at stop r
+
+  by-outside : (s u : Bool) → 0 ≡ kindOf s u → Holds false false m at stop r → Holds s u m at stop r
+  unfolding kindOf
+  by-outside true u e q = absurd (omega (arith, e))
+  by-outside false true e q = absurd (omega (arith, e))
+  by-outside false false e q = q
+
+  by-structured : (s u : Bool) → 1 ≡ kindOf s u → Known true → Holds s u m at stop r
+  unfolding kindOf Holds pduItem
+  by-structured true u e q = λ n. q
+  by-structured false true e q = absurd (omega (arith, e))
+  by-structured false false e q = absurd (omega (arith, e))
+
+  by-unstructured : (k : ℕ) (s u : Bool) → k ≡ kindOf s u → (k ≡ 0 → ⊥) → (k ≡ 1 → ⊥) → Known false → Holds s u m at stop r
+  unfolding kindOf Holds pduItem
+  by-unstructured k true u e f g q = absurd (g e)
+  by-unstructured k false true e f g q = λ n. q
+  by-unstructured k false false e f g q = absurd (f e)
+
+  module _ (name k : ℕ) (xs : List ℕ) (xs-is : xs ≡ take (at - name) (drop name m)) (told : k ≡ nameKind xs) where
+    abbrev Behind : Type 0
+    Behind = Holds (same structured (take (at - name) (drop name m))) (same unstructured (take (at - name) (drop name m))) m at stop r
+
+    pub held-outside : k ≡ 0 → Holds false false m at stop r → Behind
+    held-outside z e = rw (← xs-is) (by-outside (same structured xs) (same unstructured xs) (sym z ∙ told) e)
+
+    module _ (some : k ≡ 0 → ⊥) where
+      pub held-structured : k ≡ 1 → Reads (aroundItem 160 (onlyBody (level 12) (pduItem true))) m at stop r → Behind
+      held-structured z e = rw (← xs-is) (by-structured (same structured xs) (same unstructured xs) (sym z ∙ told) e)
+
+      pub held-unstructured : (k ≡ 1 → ⊥) → Reads (aroundItem 160 (onlyBody (level 12) (pduItem false))) m at stop r → Behind
+      held-unstructured z e = rw (← xs-is) (by-unstructured k (same structured xs) (same unstructured xs) told some z e)
+
+-- The contents of 28
+
+module _ (m : List ℕ) (at stop r : ℕ) (e : Reads nameItem m at stop r) where
+  name-lifted : Placed at (until stop) (ask (front (level 13) FaultKind.Another nameItem) (finite stop) at (part m at stop)) r
+  name-lifted = placed-where nameItem FaultKind.Another (level 13) (λ f. refl) (finite stop) at (part m at stop) (until stop) r refl e
+
+  abbrev held-by : Text → Item (Dialogue Text)
+  held-by n = heldItem deepestLevel n (same structured (n .1)) (same unstructured (n .1))
+
+  pub external-far : Far r → Finishes (externalBody deepestLevel) m at stop r
+  external-far f = map-closed (λ v. v .1) (bindBody (level 13) silently nameItem (λ n. onlyBody (level 13) (held-by n))) m at stop r (bind-far (level 13) nameItem m at stop r name-lifted silently (λ a f. refl) (λ n. onlyBody (level 13) (held-by n)) f)
+
+  pub name-room : Near r → at + 2 ≤ r
+  name-room f =
+      let z = placed-got _ at (until stop) r _ e f (value-leaf 6 16 identifierOk (omega arith, omega arith, omega arith) (omega arith) name-sized at (part m at stop) (level 1) (finite stop)) in
+      omega (arith, z .2 .0)
+
+  module _ (h : until stop ≤ length m) (near : Near r) where
+    -- the octets of the name stand behind its tag and length
+    octets-are : (a : Text) (n : ℕ) → ask (front (level 13) FaultKind.Another nameItem) (finite stop) at (part m at stop) ≡ got a n → r ≡ at + n → a .1 ≡ take (r - (at + 2)) (drop (at + 2) m)
+    octets-are a n i z =
+        let s = the-fact (rw i at (value-leaf 6 16 identifierOk (omega arith, omega arith, omega arith) (omega arith) name-sized at (part m at stop) (level 13) (finite stop))) in
+        let l = placed-near _ at (until stop) r e near in
+        let k : n - 2 ≡ r - (at + 2) = omega (arith, z) in
+        ap (λ (v : Text). v .1) (s .1) ∙ span-take m at (until stop) 2 (n - 2) (omega (arith, z, l, s .0)) h ∙ ap (λ (j : ℕ). take j (drop (at + 2) m)) k
+
+    module _ (s : ℕ) (held : Holds (same structured (take (r - (at + 2)) (drop (at + 2) m))) (same unstructured (take (r - (at + 2)) (drop (at + 2) m))) m r stop s) where
+      held-lifted : (a : Text) → a .1 ≡ take (r - (at + 2)) (drop (at + 2) m) → Placed r (until stop) (ask (front (level 13) FaultKind.Another (held-by a)) (finite stop) r (part m r stop)) s
+      unfolding Holds
+      held-lifted a i = placed-where (held-by a) FaultKind.Another (level 13) (λ f. refl) (finite stop) r (part m r stop) (until stop) s refl (rw (ap (same structured) i, ap (same unstructured) i) (held a))
+
+      pub external-held : Far s → Finishes (externalBody deepestLevel) m at stop s
+      external-held f =
+          map-closed (λ v. v .1) (bindBody (level 13) silently nameItem (λ n. onlyBody (level 13) (held-by n))) m at stop s (bind-known (level 13) nameItem m at stop r name-lifted (λ n. onlyBody (level 13) (held-by n)) s near (λ a n i z.
+          only-far (level 13) (held-by a) m r stop s (held-lifted a (octets-are a n i z)) f))
+
+      pub external-near : Near s → (q : ℕ) → Finishes nothing m s stop q → Finishes (externalBody deepestLevel) m at stop q
+      external-near f q y =
+          map-closed (λ v. v .1) (bindBody (level 13) silently nameItem (λ n. onlyBody (level 13) (held-by n))) m at stop q (bind-known (level 13) nameItem m at stop r name-lifted (λ n. onlyBody (level 13) (held-by n)) q near (λ a n i z.
+          only-near (level 13) (held-by a) m r stop s (held-lifted a (octets-are a n i z)) (λ f. refl) refl q f y))
+
+pub holds-within : (s u : Bool) (m : List ℕ) (at stop r : ℕ) → Holds s u m at stop r → Near r → r ≤ until stop
+unfolding Holds
+holds-within s u m at stop r e f = placed-near _ at (until stop) r (e (0, [])) f .1
+
+-- 28, and 6B around it
+
+module _ (m : List ℕ) (at stop inner : ℕ) (g : at ≤ until stop) (h : until stop ≤ length m) (entry : inner ≡ entryPlace true m at stop 40) where
+  pub wrapped-entry : Far inner → Reads (aroundItem 40 (externalBody deepestLevel)) m at stop inner
+  unfolding constructorOf
+  wrapped-entry f = around-entry 40 (omega arith, omega arith, omega arith) refl (externalBody deepestLevel) m at stop inner g h entry f
+
+  pub wrapped-near : length m ≤ 65535 → Near inner → (st : ℕ) → st ≡ at + 1 + lengthSize (getD m (at + 1) 0) → (r : ℕ) → Finishes (externalBody deepestLevel) m st inner r → Reads (aroundItem 40 (externalBody deepestLevel)) m at stop r
+  unfolding constructorOf
+  wrapped-near top near st start r e = around-read 40 (omega arith, omega arith, omega arith) refl (externalBody deepestLevel) m at stop inner g h entry top near st start r e
+
+pub dialogue-keeps : Keeps inDialogue
+unfolding inDialogue faultPlace
+dialogue-keeps (fault k q o i t) = refl
+
+module _ (m : List ℕ) (at stop inner : ℕ) (g : at ≤ until stop) (h : until stop ≤ length m) (entry : inner ≡ entryPlace true m at stop 107) where
+  pub dialogue-entry : Far inner → Reads (dialogueItem deepestLevel) m at stop inner
+  unfolding constructorOf
+  dialogue-entry f = one-entry 107 (inside6B deepestLevel) (omega arith, omega arith, omega arith) refl dialogue-keeps refl (aroundItem 40 (externalBody deepestLevel)) m at stop inner g h entry f
+
+  module _ (top : length m ≤ 65535) (near : Near inner) (st : ℕ) (start : st ≡ at + 1 + lengthSize (getD m (at + 1) 0)) (r : ℕ) (e : Reads (aroundItem 40 (externalBody deepestLevel)) m st inner r) where
+    pub dialogue-far : Far r → Reads (dialogueItem deepestLevel) m at stop r
+    unfolding constructorOf
+    dialogue-far f = one-far 107 (inside6B deepestLevel) (omega arith, omega arith, omega arith) refl dialogue-keeps refl (aroundItem 40 (externalBody deepestLevel)) m at stop inner g h entry top near st start r e f
+
+    pub dialogue-near : Near r → (s : ℕ) → Finishes nothing m r inner s → Reads (dialogueItem deepestLevel) m at stop s
+    unfolding constructorOf
+    dialogue-near f s q = one-near 107 (inside6B deepestLevel) (omega arith, omega arith, omega arith) refl dialogue-keeps refl (aroundItem 40 (externalBody deepestLevel)) m at stop inner g h entry top near st start r e f s q

@@ -1,0 +1,35 @@
+-- `abort_at` meets its contract. Assumes nothing.
+use borrow.Author.Needs.{needs}
+use Rattle.read_place.proofs.Optional.{entry-inside, entry-from, entry-to}
+use Rattle.read_dialogue.proofs.Pdus.{abort-entry, abort-near}
+use Rattle.read_dialogue.proofs.abort_at.Statement.{statement}
+use Rattle.read_dialogue.proofs.abort_at.Tie as tie
+
+entry-at-requires : tie.Need-entry-at-requires
+entry-at-requires c κs = search needs
+
+returns : tie.Need-returns
+returns c = search abort-entry
+
+add-start-of : tie.Need-add-start-of
+add-start-of c = search needs
+
+start-of-requires : tie.Need-start-of-requires
+start-of-requires c κs = search (needs, entry-inside)
+
+aborted-at-requires : tie.Need-aborted-at-requires
+aborted-at-requires c κs = search (needs, entry-from, entry-to)
+
+returns-2 : tie.Need-returns-2
+returns-2 c = search abort-near
+
+pub abort-at-spec : {M : Type 1} → statement M
+abort-at-spec =
+    tie.close
+    (tie.spec
+    entry-at-requires
+    returns
+    add-start-of
+    start-of-requires
+    aborted-at-requires
+    returns-2)

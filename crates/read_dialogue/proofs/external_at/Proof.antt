@@ -1,0 +1,39 @@
+-- `external_at` meets its contract. Assumes nothing.
+use borrow.Author.Needs.{needs}
+use Rattle.read_place.proofs.Optional.{reads-within}
+use Rattle.read_dialogue.proofs.Names.{name-room, holds-within, external-far, external-held, external-near}
+use Rattle.read_dialogue.proofs.external_at.Statement.{statement}
+use Rattle.read_dialogue.proofs.external_at.Tie as tie
+
+name-at-requires : tie.Need-name-at-requires
+name-at-requires c κs = search needs
+
+returns : tie.Need-returns
+returns c = search external-far
+
+add-held-at : tie.Need-add-held-at
+add-held-at c = search needs
+
+held-at-requires : tie.Need-held-at-requires
+held-at-requires c κs = search (needs, reads-within, name-room)
+
+returns-2 : tie.Need-returns-2
+returns-2 c = search external-held
+
+leave-requires : tie.Need-leave-requires
+leave-requires c κs = search (needs, holds-within)
+
+returns-3 : tie.Need-returns-3
+returns-3 c = search external-near
+
+pub external-at-spec : {M : Type 1} → statement M
+external-at-spec =
+    tie.close
+    (tie.spec
+    name-at-requires
+    returns
+    add-held-at
+    held-at-requires
+    returns-2
+    leave-requires
+    returns-3)

@@ -1,0 +1,43 @@
+-- `number_at` meets its contract. Assumes nothing.
+use borrow.Author.Needs.{needs}
+use Rattle.read_place.proofs.Optional.{entry-inside, entry-from, entry-to, reads-within}
+use Rattle.read_dialogue.proofs.Pdus.{number-entry, number-far, number-near}
+use Rattle.read_dialogue.proofs.number_at.Statement.{statement}
+use Rattle.read_dialogue.proofs.number_at.Tie as tie
+
+entry-at-requires : tie.Need-entry-at-requires
+entry-at-requires c κs = search needs
+
+returns : tie.Need-returns
+returns c = search number-entry
+
+add-start-of : tie.Need-add-start-of
+add-start-of c = search needs
+
+start-of-requires : tie.Need-start-of-requires
+start-of-requires c κs = search (needs, entry-inside)
+
+small-at-requires : tie.Need-small-at-requires
+small-at-requires c κs = search (needs, entry-from, entry-to)
+
+returns-2 : tie.Need-returns-2
+returns-2 c = search number-far
+
+leave-requires : tie.Need-leave-requires
+leave-requires c κs = search (needs, reads-within, entry-to)
+
+returns-3 : tie.Need-returns-3
+returns-3 c = search number-near
+
+pub number-at-spec : {M : Type 1} → statement M
+number-at-spec =
+    tie.close
+    (tie.spec
+    entry-at-requires
+    returns
+    add-start-of
+    start-of-requires
+    small-at-requires
+    returns-2
+    leave-requires
+    returns-3)

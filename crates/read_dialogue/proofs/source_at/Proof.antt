@@ -1,0 +1,43 @@
+-- `source_at` meets its contract. Assumes nothing.
+use borrow.Author.Needs.{needs}
+use Rattle.read_place.proofs.Optional.{entry-inside, entry-from, entry-to, reads-within}
+use Rattle.read_dialogue.proofs.Pdus.{source-entry, source-far, source-near}
+use Rattle.read_dialogue.proofs.source_at.Statement.{statement}
+use Rattle.read_dialogue.proofs.source_at.Tie as tie
+
+entry-at-requires : tie.Need-entry-at-requires
+entry-at-requires c κs = search needs
+
+returns : tie.Need-returns
+returns c = search source-entry
+
+add-start-of : tie.Need-add-start-of
+add-start-of c = search needs
+
+start-of-requires : tie.Need-start-of-requires
+start-of-requires c κs = search (needs, entry-inside)
+
+diagnostic-at-requires : tie.Need-diagnostic-at-requires
+diagnostic-at-requires c κs = search (needs, entry-from, entry-to)
+
+returns-2 : tie.Need-returns-2
+returns-2 c = search source-far
+
+leave-requires : tie.Need-leave-requires
+leave-requires c κs = search (needs, reads-within, entry-to)
+
+returns-3 : tie.Need-returns-3
+returns-3 c = search source-near
+
+pub source-at-spec : {M : Type 1} → statement M
+source-at-spec =
+    tie.close
+    (tie.spec
+    entry-at-requires
+    returns
+    add-start-of
+    start-of-requires
+    diagnostic-at-requires
+    returns-2
+    leave-requires
+    returns-3)
