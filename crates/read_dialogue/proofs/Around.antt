@@ -83,7 +83,7 @@ module _ {A : Type 0} (l : ℕ) (deep : ltb 0 l ≡ true) (x : Item A) where
   only-level d p part =
       ask-only (level 1) x d p part
       ∙ ap₂ (λ (z : Got A) (k : A → ℕ → Got A). next z k) (place-level l deep none (x .mine) FaultKind.Another (λ d h p part. blamed (λ f. f) (x .contents h p part)) d p part)
-        (fun-ext λ a. fun-ext λ n. ap (λ (z : Got A). next z (λ b k. got a (n + k))) (place-level l deep (Option.some a) (λ a. false) FaultKind.TooMany (λ d h p part. got a 0) d (p + n) (drop n part)))
+      (fun-ext λ a. fun-ext λ n. ap (λ (z : Got A). next z (λ b k. got a (n + k))) (place-level l deep (Option.some a) (λ a. false) FaultKind.TooMany (λ d h p part. got a 0) d (p + n) (drop n part)))
       ∙ sym (ask-only (level l) x d p part)
 
   only-inside : (h : Head) (p : ℕ) (part : List ℕ) → inside (λ n. onlyBody (level 1) x) h p part ≡ inside (λ n. onlyBody (level l) x) h p part
