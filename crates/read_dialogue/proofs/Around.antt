@@ -1,7 +1,7 @@
 -- What stands in a constructor: one element, contents under another name or with other levels left, octets that are kept. Assumes nothing.
 use Prim.Native.Nat.{ℕ, _+_, _-_, _≤_}
 use mathlib.Core.Path.{_≡_, refl, sym, ap, ap₂, _∙_, fun-ext}
-use mathlib.Core.Bool.{Bool, true, false, false≢true}
+use mathlib.Core.Bool.{Bool, true, false}
 use mathlib.Core.List.{List}
 use mathlib.Core.Option.{Option, none}
 use native.Mathlib.Omega.{arith}
@@ -17,9 +17,9 @@ use Rattle.element.specs.Fault.{Fault, Text, at}
 use Rattle.element.specs.Head.{endOf, lengthOf}
 use Rattle.element.specs.Answers.{frontOf}
 use Rattle.element.specs.Ask.{Got, got, bad, next, check, blamed, Head, definite, indefinite, head, Body, askLength, atEnd, ask}
-use Rattle.element.specs.Parts.{Item, Where, level, place, done, inside, aroundItem, keptItem, mapItem, bindBody, silently, onlyBody, mapBody}
+use Rattle.element.specs.Parts.{Item, Where, level, place, inside, aroundItem, keptItem, mapItem, bindBody, silently, onlyBody, mapBody}
 use Rattle.element.proofs.Reading.{definite-size, indefinite-size}
-use Rattle.read_place.specs.Places.{Far, Near, until, finite, part, front, Placed, Closed, nothing, Reads, Finishes, Leads, entryPlace, lengthPlace, lengthSize}
+use Rattle.read_place.specs.Places.{Far, Near, until, finite, part, front, Placed, Closed, nothing, Reads, Finishes, Leads, entryPlace, lengthPlace, lengthSize, opening}
 use Rattle.read_place.proofs.Views.{span-length, span-get, span-drop}
 use Rattle.read_place.proofs.Answers.{Keeps, far, close-near, closing-blamed, closing-rest}
 use Rattle.read_place.proofs.Fronts.{byFront, ask-front}
@@ -139,7 +139,7 @@ module _ {A : Type 0} (tag : ℕ) (leads : Leads tag) (kind : constructorOf tag 
       (rw (ask-entered true m at stop tag inner g h entry (aroundItem tag (b n)) leads kind (λ a. refl) i, e) at (around-near (b n) m at stop tag inner st r g h top leads kind entry near start (rw held at f))))
   kept-len i LengthRead.Indefinite e f =
       let q : lengthOf (part m (at + 1) stop) true ≡ LengthRead.Indefinite = i .len-is ∙ e in
-      let a : inner ≡ 65536 + until stop = i .answer ∙ ap (lengthPlace at (at + 1) (until stop)) e in
+      let a : inner ≡ opening + until stop = i .answer ∙ ap (lengthPlace at (at + 1) (until stop)) e in
       let z = indefinite-size (part m (at + 1) stop) true LengthRead.Indefinite (sym q) refl in
       let size : 1 ≡ lengthSize (getD m (at + 1) 0) = size-is LengthRead.Indefinite q (z .0) in
       let same : until inner ≡ until stop = omega (arith, a) in

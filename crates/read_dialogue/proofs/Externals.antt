@@ -1,12 +1,11 @@
 -- User information: the elements in BE, each 28, and BE that may be left out. Assumes nothing.
 use Prim.Native.Nat.{ℕ, zero, suc, _+_, _-_, _≤_, _<_}
-use mathlib.Core.Path.{_≡_, refl, sym, ap, _∙_}
+use mathlib.Core.Path.{_≡_, refl, sym, _∙_}
 use mathlib.Core.Bool.{Bool, true, false}
 use mathlib.Core.List.{List, [], _∷_}
-use mathlib.Core.Option.{Option, none, some}
+use mathlib.Core.Option.{some}
 use native.Mathlib.Omega.{arith}
 use lib.ListN.{length, getD, drop}
-use lib.Dec.{eqb, ltb}
 use Rattle.element.specs.declared.FaultKind.{FaultKind}
 use Rattle.element.specs.declared.EndRead.{EndRead}
 use Rattle.element.specs.declared.TagRead.{TagRead}
@@ -17,7 +16,7 @@ use Rattle.element.specs.Fault.{Text, at}
 use Rattle.element.specs.Head.{endOf, lengthOf}
 use Rattle.element.specs.Answers.{frontOf, elementWalk}
 use Rattle.element.specs.Ask.{Got, got, bad, next, check, blamed, Body, askLength, atEnd, askEnd, ask}
-use Rattle.element.specs.Parts.{level, onward, silently, lastBody, keptItem, seriesBody}
+use Rattle.element.specs.Parts.{level, onward, silently, keptItem, seriesBody}
 use Rattle.element.specs.Walk.{walkItem, walkTagItem}
 use Rattle.element.proofs.Walking.{not-more}
 use Rattle.element.proofs.Whole.{element-size}

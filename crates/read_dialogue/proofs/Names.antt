@@ -1,5 +1,5 @@
 -- The two names, what stands behind a name, 28 and 6B. Assumes nothing.
-use Prim.Native.Nat.{ℕ, _+_, _-_, _≤_, _<_}
+use Prim.Native.Nat.{ℕ, _+_, _-_, _≤_}
 use mathlib.Core.Path.{_≡_, refl, sym, ap, _∙_}
 use mathlib.Core.Bool.{Bool, true, false, _&&_, false≢true}
 use mathlib.Core.List.{List, [], _∷_}
@@ -9,21 +9,19 @@ use lib.Dec.{eqb, ltb}
 use borrow.Author.Tests.{eq-eqb, ne-eqb, ltb-true, ltb-false}
 use Rattle.base.specs.Value.{same}
 use Rattle.element.specs.declared.FaultKind.{FaultKind}
-use Rattle.element.specs.declared.TagRead.{TagRead}
 use Rattle.element.specs.declared.LengthRead.{LengthRead}
 use Rattle.element.specs.Element.{constructorOf}
 use Rattle.element.specs.Fault.{fault, Text, inDialogue}
-use Rattle.element.specs.Head.{lengthOf}
 use Rattle.element.specs.Ask.{got, check, blamed, ask, askLength}
-use Rattle.element.specs.Parts.{Item, level, leafContents, leafItem, aroundItem, mapItem, bindBody, silently, onlyBody, mapBody}
+use Rattle.element.specs.Parts.{Item, level, leafContents, leafItem, aroundItem, mapItem, bindBody, silently, onlyBody}
 use Rattle.element.specs.Walk.{walkItem}
 use Rattle.element.proofs.Asking.{the-fact}
 use Rattle.element.proofs.Reading.{definite-size, indefinite-size}
 use Rattle.primitive.specs.Primitive.{identifierOk}
 use Rattle.tcap.specs.Meaning.{Dialogue, single, octets, structured, unstructured}
 use Rattle.tcap.specs.WellFormed.{deepestLevel}
-use Rattle.tcap.specs.Productions.{nameItem, levelAt, heldItem, externalBody, inside6B, dialogueItem}
-use Rattle.read_place.specs.Places.{Far, Near, until, faults, finite, part, faultPlace, front, Placed, Closed, nothing, Reads, Finishes, standsOf, entryPlace, lengthPlace, lengthSize}
+use Rattle.tcap.specs.Productions.{nameItem, heldItem, externalBody, inside6B, dialogueItem}
+use Rattle.read_place.specs.Places.{Far, Near, until, faults, finite, part, faultPlace, front, Placed, nothing, Reads, Finishes, standsOf, entryPlace, lengthPlace, lengthSize}
 use Rattle.read_place.proofs.Views.{span-length, span-take}
 use Rattle.read_place.proofs.Answers.{Keeps, far, placed-near}
 use Rattle.read_place.proofs.Bodies.{placed-where, bind-far, only-far, only-near, map-closed}

@@ -1,7 +1,7 @@
 -- What the dialogue PDUs hold, and the PDUs: version, name, numbers, request, response, abort. Assumes nothing.
 use Prim.Native.Nat.{ℕ, _+_, _-_, _/_, _%_, _≤_}
 use mathlib.Core.Path.{_≡_, refl, sym, ap, _∙_}
-use mathlib.Core.Bool.{Bool, true, false, _||_, _&&_, false≢true}
+use mathlib.Core.Bool.{Bool, true, false, _&&_, false≢true}
 use mathlib.Core.List.{List, [], _∷_}
 use mathlib.Core.Option.{Option}
 use native.Mathlib.Omega.{arith}
@@ -11,17 +11,16 @@ use borrow.Author.Tests.{eqb-true, eq-eqb, ne-eqb}
 use Rattle.base.specs.Value.{same}
 use Rattle.base.proofs.Values.{same-equal}
 use Rattle.element.specs.declared.FaultKind.{FaultKind}
-use Rattle.element.specs.declared.TagRead.{TagRead}
 use Rattle.element.specs.Element.{constructorOf}
 use Rattle.element.specs.Fault.{Text}
-use Rattle.element.specs.Answers.{frontOf}
 use Rattle.element.specs.Ask.{Body, ask}
-use Rattle.element.specs.Parts.{Item, level, leafItem, aroundItem, mapItem, thenBody, onlyBody, optBody, mapBody}
+use Rattle.element.specs.Parts.{Item, level, aroundItem, mapItem, thenBody, onlyBody, optBody}
 use Rattle.tcap.specs.declared.Diagnostic.{Diagnostic}
 use Rattle.tcap.specs.Meaning.{version, request, unidialogue, response, aborted}
 use Rattle.tcap.specs.WellFormed.{deepestLevel}
-use Rattle.tcap.specs.Productions.{octetItem, nameItem, levelAt, versionBody, contextItem, infoBody, numberItem, sourceItem, askedItem, answeredItem, abortedItem}
+use Rattle.tcap.specs.Productions.{octetItem, nameItem, versionBody, contextItem, infoBody, numberItem, sourceItem, askedItem, answeredItem, abortedItem}
 use Rattle.read_place.specs.Places.{Far, Near, until, finite, part, front, Placed, nothing, Reads, Finishes, Leads, standsOf, entryPlace, badPlace, countOf, lengthSize, badContents}
+use Rattle.read_place.proofs.Answers.{Keeps}
 use Rattle.read_place.proofs.Bodies.{placed-where, then-far, then-near, map-closed}
 use Rattle.read_place.proofs.Items.{stands-only, stands-other, leaf-good, leaf-bad, leaf-none}
 use Rattle.read_place.proofs.Optional.{around-entry, around-read, opt-far, opt-near, opt-none, reads-within}
@@ -91,27 +90,36 @@ pub passed-not : {A : Type 0} (tag : ℕ) (x : Item A) (m : List ℕ) (at stop :
 unfolding Passed
 passed-not tag x m at stop b is t = rw (← is, t)
 
+-- and then the rest
+module _ {A B : Type 0} (tag : ℕ) (x : Item A) (only : (a : ℕ) → x .mine a ≡ eqb a tag) (y : Body B) (full : y .full ≡ false) (deep : ltb 0 (y .left) ≡ true) (another : y .other ≡ FaultKind.Another) (keeps : Keeps (y .owner)) (leads : Leads tag)
+    (m : List ℕ) (at stop : ℕ) (g : at ≤ until stop) (h : until stop ≤ length m) (r : ℕ) (e : Passes tag x m at stop r) where
+  pub pass-far : length m ≤ 65535 → Far r → Finishes (optBody x y) m at stop r
+  unfolding Passed
+  pass-far top f = go (standsOf m at stop tag) refl e
+    where
+      go : (b : Bool) → standsOf m at stop tag ≡ b → Passed b x m at stop r → Finishes (optBody x y) m at stop r
+      go true t e = opt-far tag x only y full deep another keeps leads m at stop g h true (sym t) refl r e f
+      go false t e = absurd (omega (arith, e, g, h, top, f))
+
+  pub pass-near : Near r → (s : ℕ) → Finishes y m r stop s → Finishes (optBody x y) m at stop s
+  unfolding Passed
+  pass-near f s q = go (standsOf m at stop tag) refl e
+    where
+      go : (b : Bool) → standsOf m at stop tag ≡ b → Passed b x m at stop r → Finishes (optBody x y) m at stop s
+      go true t e = opt-near tag x only y full deep another keeps leads m at stop g h true (sym t) refl r e f s q
+      go false t e = opt-none tag x only y full deep another keeps leads m at stop g h false (sym t) refl s (rw e at q)
+
 -- The version and the context, and then the rest
 
-module _ {B : Type 0} (y : Body B) (m : List ℕ) (at stop r : ℕ) (g : at ≤ until stop) (h : until stop ≤ length m) (top : length m ≤ 65535) (e : Passes 128 versionItem m at stop r) where
+module _ {B : Type 0} (y : Body B) (m : List ℕ) (at stop r : ℕ) (g : at ≤ until stop) (h : until stop ≤ length m) (e : Passes 128 versionItem m at stop r) where
   abbrev behind-it : Body (Text × B)
   behind-it = thenBody (level 11) (contextItem deepestLevel) y
 
   past : (s : ℕ) → Near r → Finishes behind-it m r stop s → Finishes (versionBody behind-it) m at stop s
-  unfolding Passed
-  past s f q = map-closed (λ v. v .1) (optBody versionItem behind-it) m at stop s (go (standsOf m at stop 128) refl e)
-    where
-      go : (b : Bool) → standsOf m at stop 128 ≡ b → Passed b versionItem m at stop r → Finishes (optBody versionItem behind-it) m at stop s
-      go true t e = opt-near 128 versionItem (λ a. refl) behind-it refl refl refl (λ f. refl) (omega arith, omega arith, omega arith) m at stop g h true (sym t) refl r e f s q
-      go false t e = opt-none 128 versionItem (λ a. refl) behind-it refl refl refl (λ f. refl) (omega arith, omega arith, omega arith) m at stop g h false (sym t) refl s (rw e at q)
+  past s f q = map-closed (λ v. v .1) (optBody versionItem behind-it) m at stop s (pass-near 128 versionItem (λ a. refl) behind-it refl refl refl (λ f. refl) (omega arith, omega arith, omega arith) m at stop g h r e f s q)
 
-  pub named-version : Far r → Finishes (versionBody (thenBody (level 11) (contextItem deepestLevel) y)) m at stop r
-  unfolding Passed
-  named-version f = map-closed (λ v. v .1) (optBody versionItem behind-it) m at stop r (go (standsOf m at stop 128) refl e)
-    where
-      go : (b : Bool) → standsOf m at stop 128 ≡ b → Passed b versionItem m at stop r → Finishes (optBody versionItem behind-it) m at stop r
-      go true t e = opt-far 128 versionItem (λ a. refl) behind-it refl refl refl (λ f. refl) (omega arith, omega arith, omega arith) m at stop g h true (sym t) refl r e f
-      go false t e = absurd (omega (arith, e, g, h, top, f))
+  pub named-version : length m ≤ 65535 → Far r → Finishes (versionBody (thenBody (level 11) (contextItem deepestLevel) y)) m at stop r
+  named-version top f = map-closed (λ v. v .1) (optBody versionItem behind-it) m at stop r (pass-far 128 versionItem (λ a. refl) behind-it refl refl refl (λ f. refl) (omega arith, omega arith, omega arith) m at stop g h r e top f)
 
   module _ (near : Near r) (s : ℕ) (c : Reads (contextItem deepestLevel) m r stop s) where
     context-lifted : Placed r (until stop) (ask (front (level 11) FaultKind.Another (contextItem deepestLevel)) (finite stop) r (part m r stop)) s
