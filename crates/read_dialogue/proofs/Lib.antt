@@ -2,3 +2,4 @@ pub mod Around
 pub mod Externals
 pub mod Pdus
 pub mod Names
+pub mod Gives

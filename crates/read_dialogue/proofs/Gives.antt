@@ -1,0 +1,161 @@
+-- The value of what was read, from the values of its parts: an element gives it, contents have it. Assumes nothing.
+use Prim.Native.Nat.{ℕ, _+_, _-_, _≤_, _<_}
+use mathlib.Core.Path.{_≡_, refl, sym, ap, ap₂, _∙_}
+use mathlib.Core.Bool.{Bool, true, false, false≢true}
+use mathlib.Core.List.{List}
+use mathlib.Core.Option.{none, some}
+use native.Mathlib.Omega.{arith}
+use lib.ListN.{length, getD, drop, take}
+use lib.Dec.{eqb, ltb}
+use borrow.Author.Tests.{lt-ltb, le-ltb}
+use Rattle.element.specs.declared.FaultKind.{FaultKind}
+use Rattle.element.specs.declared.EndRead.{EndRead}
+use Rattle.element.specs.declared.TagRead.{TagRead}
+use Rattle.element.specs.declared.LengthRead.{LengthRead}
+use Rattle.element.specs.Element.{constructorOf}
+use Rattle.element.specs.Fault.{Fault, Text, at}
+use Rattle.element.specs.Head.{endOf, lengthOf}
+use Rattle.element.specs.Answers.{frontOf}
+use Rattle.element.specs.Ask.{Got, got, bad, check, blamed, Head, definite, indefinite, head, Body, askLength, atEnd, ask}
+use Rattle.element.specs.Parts.{Item, Where, level, done, inside, aroundItem, mapItem, orItem, bindBody, silently, thenBody, onlyBody, lastBody, optBody, mapBody}
+use Rattle.element.proofs.Asking.{Then, fact, void, then-next, then-weaken, then-blamed}
+use Rattle.element.proofs.Reading.{definite-size, indefinite-size}
+use Rattle.read_place.specs.Places.{Near, until, finite, part, front, Placed, Reads, Leads, standsOf, entryPlace, lengthPlace, lengthSize, opening}
+use Rattle.read_place.proofs.Views.{span-length, span-drop, span-inner}
+use Rattle.read_place.proofs.Answers.{Keeps, far}
+use Rattle.read_place.proofs.Fronts.{byFront, ask-front}
+use Rattle.read_place.proofs.Onto.{ask-only, ask-last-ended}
+use Rattle.read_place.proofs.Bodies.{placed-where}
+use Rattle.read_place.proofs.Items.{SizeIs, Entered, entered, ask-entered, or-left, or-right}
+use Rattle.read_place.proofs.Values.{step, behind-value, done-value, bind-value, last-value, map-value, opt-none-value, opt-some-value}
+use Rattle.read_dialogue.specs.Dialogues.{Passed, Passes}
+use Rattle.read_dialogue.proofs.Around.{size-is}
+
+abbrev pub Gives : {A : Type 0} → Item A → List ℕ → ℕ → ℕ → A → Type 0
+Gives x m at stop v = Then (λ a n. a ≡ v) (ask (front (level 1) FaultKind.Another x) (finite stop) at (part m at stop))
+
+abbrev pub Has : {A : Type 0} → Body A → List ℕ → ℕ → ℕ → A → Type 0
+Has b m at stop v = Then (λ a n. a ≡ v) (ask b (finite stop) at (part m at stop))
+
+-- the octets from a place to another
+abbrev pub textAt : List ℕ → ℕ → ℕ → Text
+textAt m p q = (p, take (q - p) (drop p m))
+
+-- An element by its contents, wherever it stands
+
+unblamed : {A : Type 0} {P : A → ℕ → Type 0} (f : Fault → Fault) (x : Got A) → Then P (blamed f x) → Then P x
+unfolding blamed
+unblamed f (got a n) e = e
+unblamed f (bad g) e = void
+
+module _ {A B : Type 0} (P : A → ℕ → Type 0) (Q : B → ℕ → Type 0) (x : Item A) (y : Item B) (v w : Where) (o : FaultKind) (same : (a : ℕ) → y .mine a ≡ x .mine a) (d : Bool) (p : ℕ) (part : List ℕ)
+    (goes : (h : Head) → Then P (x .contents h p part) → Then Q (y .contents h p part)) where
+  then-length : (a s : ℕ) (l : LengthRead) → Then P (askLength (front v o x) d p part a s l) → Then Q (askLength (front w o y) d p part a s l)
+  unfolding askLength
+  then-length a s (LengthRead.Fault k) e = void
+  then-length a s (LengthRead.Definite k n) e = then-blamed (w .owner) (goes (head a (s + k) (definite n)) (unblamed (v .owner) _ e))
+  then-length a s LengthRead.Indefinite e = then-blamed (w .owner) (goes (head a (s + 1) indefinite) (unblamed (v .owner) _ e))
+
+  then-mine : (b c : Bool) → c ≡ b → (f g : Fault) (z : Got A) (u : Got B) → (Then P z → Then Q u) → Then P (check b f z) → Then Q (check c g u)
+  unfolding check
+  then-mine true true i f g z u h e = h e
+  then-mine true false i f g z u h e = void
+  then-mine false true i f g z u h e = absurd (false≢true (sym i))
+  then-mine false false i f g z u h e = void
+
+  then-by : (e : EndRead) (t : TagRead) → Then P (byFront (front v o x) d p part e t) → Then Q (byFront (front w o y) d p part e t)
+  unfolding byFront atEnd
+  then-by EndRead.Ended t e = void
+  then-by EndRead.Unfinished t e = void
+  then-by EndRead.More (TagRead.Fault k) e = void
+  then-by EndRead.More (TagRead.Tag a s) e = then-mine (x .mine a) (y .mine a) (same a) _ _ _ _ (then-length a s (lengthOf (drop s part) (constructorOf a))) e
+
+  pub then-front : ltb 0 (v .left) ≡ true → ltb 0 (w .left) ≡ true → Then P (ask (front v o x) d p part) → Then Q (ask (front w o y) d p part)
+  then-front i j e = rw (ask-front (front w o y) d p part refl j) (then-by (endOf d part) (frontOf 1 part) (rw (ask-front (front v o x) d p part refl i) at e))
+
+module _ {A : Type 0} (x : Item A) (m : List ℕ) (at stop : ℕ) (a : A) (g : Gives x m at stop a) where
+  pub gives-where : (w : Where) → ltb 0 (w .left) ≡ true → Then (λ b n. b ≡ a) (ask (front w FaultKind.Another x) (finite stop) at (part m at stop))
+  gives-where w deep = then-front (λ b n. b ≡ a) (λ b n. b ≡ a) x x (level 1) w FaultKind.Another (λ b. refl) (finite stop) at (part m at stop) (λ h e. e) refl deep g
+
+  pub gives-map : {B : Type 0} (f : A → B) → Gives (mapItem f x) m at stop (f a)
+  gives-map f = then-front (λ b n. b ≡ a) (λ b n. b ≡ f a) x (mapItem f x) (level 1) (level 1) FaultKind.Another (λ b. refl) (finite stop) at (part m at stop) (λ h e. then-next e (λ b n q. fact (ap f q))) refl refl g
+
+  pub gives-first : (y : Item A) → ((b s : ℕ) → frontOf 1 (part m at stop) ≡ TagRead.Tag b s → y .mine b ≡ false) → Gives (orItem x y) m at stop a
+  gives-first y h = rw (or-left (level 1) FaultKind.Another x y (finite stop) at (part m at stop) refl h) g
+
+  pub gives-second : (y : Item A) → ((b s : ℕ) → frontOf 1 (part m at stop) ≡ TagRead.Tag b s → y .mine b ≡ false) → Gives (orItem y x) m at stop a
+  gives-second y h = rw (or-right (level 1) FaultKind.Another y x (finite stop) at (part m at stop) refl h) g
+
+  -- and then the rest
+  module _ (r : ℕ) (e : Reads x m at stop r) (near : Near r) (w : Where) (keeps : Keeps (w .owner)) (deep : ltb 0 (w .left) ≡ true) where
+    there : Placed at (until stop) (ask (front w FaultKind.Another x) (finite stop) at (part m at stop)) r
+    there = placed-where x FaultKind.Another w keeps (finite stop) at (part m at stop) (until stop) r deep e
+
+    pub bind-has : {B : Type 0} (note : A → Fault → Fault) (y : A → Body B) (b : B) → Has (y a) m r stop b → Has (bindBody w note x y) m at stop (a, b)
+    bind-has {B} note y b h =
+        then-weaken (bind-value w x m at stop r there near (λ c n. c ≡ a) (gives-where w deep) note y (λ c u. (c ≡ a) × (u ≡ b)) (λ c i. then-weaken {P = λ u n. u ≡ b} (rw i h) (λ u n j. (i, j)))) (λ v n q. ap₂ (λ (c : A) (u : B). (c, u)) (q .0) (q .1))
+
+    pub then-has : {B : Type 0} (y : Body B) (b : B) → Has y m r stop b → Has (thenBody w x y) m at stop (a, b)
+    then-has y b h = bind-has silently (λ c. y) b h
+
+    pub only-has : Has (onlyBody w x) m at stop a
+    only-has =
+        rw (ask-only w x (finite stop) at (part m at stop)) (step w x m at stop r there near (λ c n. c ≡ a) (gives-where w deep) (λ v n. v ≡ a) _ (λ c n q z.
+        behind-value w x m at stop r there near (λ c n. c ≡ a) (gives-where w deep) (done w c) (λ b. c) n z (λ b. b ≡ c) (λ v. v ≡ a) (λ b i. q) (done-value w x m at stop r there near (λ c n. c ≡ a) (gives-where w deep) c (finite stop) r (part m r stop))))
+
+    pub last-has : (endOf (finite stop) (part m at stop) ≡ EndRead.Ended → ⊥) → Has (lastBody w x) m at stop (some a)
+    last-has more = then-weaken (last-value w x m at stop r there near (λ c n. c ≡ a) (gives-where w deep) more (λ c. c ≡ a) (λ c q. q)) (λ v n q. q .1 ∙ ap (λ (t : A). some t) (q .2))
+
+pub none-has : {A : Type 0} (w : Where) (x : Item A) (m : List ℕ) (at stop : ℕ) → endOf (finite stop) (part m at stop) ≡ EndRead.Ended → Has (lastBody w x) m at stop none
+none-has w x m at stop e = rw (ask-last-ended w x (finite stop) at (part m at stop) e) (fact refl)
+
+pub map-has : {A B : Type 0} (f : A → B) (b : Body A) (m : List ℕ) (at stop : ℕ) (v : A) → Has b m at stop v → Has (mapBody f b) m at stop (f v)
+map-has f b m at stop v h = map-value f b (finite stop) at (part m at stop) (λ a. a ≡ v) (λ c. c ≡ f v) (λ a q. ap f q) h
+
+-- one that may be left out, and whose value does not matter
+whatever : {A : Type 0} (x : Got A) → Then (λ a n. Unit {0}) x
+whatever (got a n) = fact tt
+whatever (bad f) = void
+
+module _ {A B : Type 0} (tag : ℕ) (x : Item A) (only : (a : ℕ) → x .mine a ≡ eqb a tag) (y : Body B) (full : y .full ≡ false) (deep : ltb 0 (y .left) ≡ true) (another : y .other ≡ FaultKind.Another) (keeps : Keeps (y .owner)) (leads : Leads tag)
+    (m : List ℕ) (at stop : ℕ) (g : at ≤ until stop) (h : until stop ≤ length m) (r : ℕ) (e : Passes tag x m at stop r) (near : Near r) (v : B) where
+  pub pass-has : Has y m r stop v → Has (mapBody (λ u. u .1) (optBody x y)) m at stop v
+  unfolding Passed
+  pass-has q = map-value (λ u. u .1) (optBody x y) (finite stop) at (part m at stop) (λ u. u .1 ≡ v) (λ c. c ≡ v) (λ u i. i) (go (standsOf m at stop tag) refl e)
+    where
+      go : (b : Bool) → standsOf m at stop tag ≡ b → Passed b x m at stop r → Then (λ u n. u .1 ≡ v) (ask (optBody x y) (finite stop) at (part m at stop))
+      go true t e = then-weaken (opt-some-value tag x only y full deep another keeps leads m at stop g h true (sym t) (λ u. u ≡ v) refl r e near (λ a n. Unit {0}) (whatever _) q) (λ u n i. i .1)
+      go false t e = then-weaken (opt-none-value tag x only y full deep another keeps leads m at stop g h false (sym t) (λ u. u ≡ v) refl (rw e at q)) (λ u n i. i .1)
+
+-- A constructor gives what its contents have
+
+module _ {A : Type 0} (tag : ℕ) (leads : Leads tag) (kind : constructorOf tag ≡ true) (b : Body A) (m : List ℕ) (at stop inner : ℕ) (g : at ≤ until stop) (h : until stop ≤ length m) (entry : inner ≡ entryPlace true m at stop tag)
+    (top : length m ≤ 65535) (near : Near inner) (st : ℕ) (start : st ≡ at + 1 + lengthSize (getD m (at + 1) 0)) (v : A) where
+  around-by : (i : Entered true m at stop tag inner) (n : LengthRead) → i .len ≡ n → Has b m st inner v → Gives (aroundItem tag b) m at stop v
+  unfolding lengthPlace askLength inside SizeIs
+  around-by i (LengthRead.Fault k) e f = absurd (omega (arith, near, far k, (i .answer ∙ ap (lengthPlace at (at + 1) (until stop)) e)))
+  around-by i (LengthRead.Definite k n) e f =
+      let q : lengthOf (part m (at + 1) stop) true ≡ LengthRead.Definite k n = i .len-is ∙ e in
+      let a : inner ≡ at + 1 + (k + n) = i .answer ∙ ap (lengthPlace at (at + 1) (until stop)) e in
+      let z = definite-size (part m (at + 1) stop) true k n (LengthRead.Definite k n) (sym q) refl in
+      let room : at + 1 + (k + n) ≤ until stop = omega (arith, z, span-length m (at + 1) (until stop) h, i .here) in
+      let size : k ≡ lengthSize (getD m (at + 1) 0) = size-is m at stop h (LengthRead.Definite k n) q (omega (arith, z)) in
+      let from : st ≡ at + (1 + k) = omega (arith, start, size) in
+      let low : inner < opening = omega (arith, a, room, h, top) in
+      let same : until inner ≡ inner = omega (arith, low) in
+      let to : at + (1 + k) + n ≡ inner = omega (arith, a) in
+      rw (ask-entered true m at stop tag inner g h entry (aroundItem tag b) leads kind (λ a. refl) i, e) (then-blamed (λ f. f)
+      (rw (span-inner m at (until stop) (1 + k) n (omega (arith, room)) h, to) (then-next {P = λ u j. u .0 ≡ v} (then-next (rw (lt-ltb inner opening low, same, from) at f) (λ u j w. fact w)) (λ u j w. fact w))))
+  around-by i LengthRead.Indefinite e f =
+      let q : lengthOf (part m (at + 1) stop) true ≡ LengthRead.Indefinite = i .len-is ∙ e in
+      let a : inner ≡ opening + until stop = i .answer ∙ ap (lengthPlace at (at + 1) (until stop)) e in
+      let z = indefinite-size (part m (at + 1) stop) true LengthRead.Indefinite (sym q) refl in
+      let size : 1 ≡ lengthSize (getD m (at + 1) 0) = size-is m at stop h LengthRead.Indefinite q (z .0) in
+      let from : st ≡ at + 2 = omega (arith, start, size) in
+      let high : opening ≤ inner = omega (arith, a) in
+      let same : until inner ≡ until stop = omega (arith, a) in
+      rw (ask-entered true m at stop tag inner g h entry (aroundItem tag b) leads kind (λ a. refl) i, e) (then-blamed (λ f. f)
+      (rw (span-drop m at (until stop) 2) (then-next {P = λ u j. u .0 ≡ v} (then-next (rw (le-ltb inner opening high, same, from) at f) (λ u j w. fact w)) (λ u j w. fact w))))
+
+  pub around-gives : Has b m st inner v → Gives (aroundItem tag b) m at stop v
+  around-gives f = let i = entered true m at stop tag inner g h entry near in around-by i (i .len) refl f
