@@ -3,3 +3,4 @@ pub mod Externals
 pub mod Pdus
 pub mod Names
 pub mod Gives
+pub mod Values
