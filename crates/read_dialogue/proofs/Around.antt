@@ -111,10 +111,10 @@ module _ {A B : Type 0} (f : A → B) (b : Body A) where
   around-named t m at stop r e = reads-alike t (mapItem f (aroundItem t b) .contents) (aroundItem t (mapBody f b) .contents) (named-around t) m at stop r (reads-map f (aroundItem t b) m at stop r e)
 
 -- how many octets a length takes is told by its first
-pub size-is : (m : List ℕ) (at stop : ℕ) → until stop ≤ length m → (n : LengthRead) → lengthOf (part m (at + 1) stop) true ≡ n → 1 ≤ length (part m (at + 1) stop) → SizeIs (getD m (at + 1) 0) n
-size-is m at stop h n e l =
+pub size-is : (m : List ℕ) (at stop : ℕ) → until stop ≤ length m → (c : Bool) (n : LengthRead) → lengthOf (part m (at + 1) stop) c ≡ n → 1 ≤ length (part m (at + 1) stop) → SizeIs (getD m (at + 1) 0) n
+size-is m at stop h c n e l =
     let q : getD (part m (at + 1) stop) 0 0 ≡ getD m (at + 1) 0 = rw add-zero at (span-get m (at + 1) (until stop) 0 (omega (arith, l, span-length m (at + 1) (until stop) h))) in
-    rw (e, q) at (length-sized (part m (at + 1) stop) true)
+    rw (e, q) at (length-sized (part m (at + 1) stop) c)
 
 -- One that is kept as its contents octets, whose body depends on how many there are
 
@@ -133,7 +133,7 @@ module _ {A : Type 0} (tag : ℕ) (leads : Leads tag) (kind : constructorOf tag 
       let a : inner ≡ at + 1 + (k + n) = i .answer ∙ ap (lengthPlace at (at + 1) (until stop)) e in
       let z = definite-size (part m (at + 1) stop) true k n (LengthRead.Definite k n) (sym q) refl in
       let room : at + 1 + (k + n) ≤ until stop = omega (arith, z, span-length m (at + 1) (until stop) h, i .here) in
-      let size : k ≡ lengthSize (getD m (at + 1) 0) = size-is m at stop h (LengthRead.Definite k n) q (omega (arith, z)) in
+      let size : k ≡ lengthSize (getD m (at + 1) 0) = size-is m at stop h true (LengthRead.Definite k n) q (omega (arith, z)) in
       let same : until inner ≡ inner = omega (arith, a, room, h, top) in
       let held : length (part m st inner) ≡ n = span-length m st (until inner) (omega (arith, same, a, room, h)) ∙ omega (arith, same, a, start, size) in
       rw (ask-entered true m at stop tag inner g h entry (keptItem tag b) leads kind (λ a. refl) i, e) (kept-of _ at (until stop) r
@@ -142,7 +142,7 @@ module _ {A : Type 0} (tag : ℕ) (leads : Leads tag) (kind : constructorOf tag 
       let q : lengthOf (part m (at + 1) stop) true ≡ LengthRead.Indefinite = i .len-is ∙ e in
       let a : inner ≡ opening + until stop = i .answer ∙ ap (lengthPlace at (at + 1) (until stop)) e in
       let z = indefinite-size (part m (at + 1) stop) true LengthRead.Indefinite (sym q) refl in
-      let size : 1 ≡ lengthSize (getD m (at + 1) 0) = size-is m at stop h LengthRead.Indefinite q (z .0) in
+      let size : 1 ≡ lengthSize (getD m (at + 1) 0) = size-is m at stop h true LengthRead.Indefinite q (z .0) in
       let same : until inner ≡ until stop = omega (arith, a) in
       let from : st ≡ at + 2 = omega (arith, start, size) in
       let held : part m st inner ≡ drop 2 (part m at stop) = rw (same, from) (sym (span-drop m at (until stop) 2)) in

@@ -139,7 +139,7 @@ module _ {A : Type 0} (tag : ℕ) (leads : Leads tag) (kind : constructorOf tag 
       let a : inner ≡ at + 1 + (k + n) = i .answer ∙ ap (lengthPlace at (at + 1) (until stop)) e in
       let z = definite-size (part m (at + 1) stop) true k n (LengthRead.Definite k n) (sym q) refl in
       let room : at + 1 + (k + n) ≤ until stop = omega (arith, z, span-length m (at + 1) (until stop) h, i .here) in
-      let size : k ≡ lengthSize (getD m (at + 1) 0) = size-is m at stop h (LengthRead.Definite k n) q (omega (arith, z)) in
+      let size : k ≡ lengthSize (getD m (at + 1) 0) = size-is m at stop h true (LengthRead.Definite k n) q (omega (arith, z)) in
       let from : st ≡ at + (1 + k) = omega (arith, start, size) in
       let low : inner < opening = omega (arith, a, room, h, top) in
       let same : until inner ≡ inner = omega (arith, low) in
@@ -150,7 +150,7 @@ module _ {A : Type 0} (tag : ℕ) (leads : Leads tag) (kind : constructorOf tag 
       let q : lengthOf (part m (at + 1) stop) true ≡ LengthRead.Indefinite = i .len-is ∙ e in
       let a : inner ≡ opening + until stop = i .answer ∙ ap (lengthPlace at (at + 1) (until stop)) e in
       let z = indefinite-size (part m (at + 1) stop) true LengthRead.Indefinite (sym q) refl in
-      let size : 1 ≡ lengthSize (getD m (at + 1) 0) = size-is m at stop h LengthRead.Indefinite q (z .0) in
+      let size : 1 ≡ lengthSize (getD m (at + 1) 0) = size-is m at stop h true LengthRead.Indefinite q (z .0) in
       let from : st ≡ at + 2 = omega (arith, start, size) in
       let high : opening ≤ inner = omega (arith, a) in
       let same : until inner ≡ until stop = omega (arith, a) in

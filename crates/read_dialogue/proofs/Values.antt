@@ -1,37 +1,40 @@
 -- A dialogue's values from the places that its readers told. Assumes nothing.
 use Prim.Native.Nat.{ℕ, _+_, _-_, _≤_, _<_}
 use mathlib.Core.Path.{_≡_, refl, sym, ap, ap₂, _∙_}
-use mathlib.Core.Bool.{Bool, true, false, cond, _||_}
-use mathlib.Core.List.{List}
+use mathlib.Core.Bool.{Bool, true, false, cond, _||_, false≢true}
+use mathlib.Core.List.{List, [], _∷_}
 use mathlib.Core.Option.{Option, none, some}
 use native.Mathlib.Omega.{arith}
-use lib.ListN.{length, getD, drop, take}
+use lib.ListN.{length, getD, drop, take, length-drop}
 use lib.Dec.{eqb, ltb}
-use lib.Seq.{getD-take, getD-drop}
+use lib.Seq.{take-all, take-take, getD-take, getD-drop}
 use borrow.Author.Tests.{lt-ltb, le-ltb}
 use Rattle.base.specs.Value.{same}
 use Rattle.element.specs.declared.FaultKind.{FaultKind}
+use Rattle.element.specs.declared.EndRead.{EndRead}
 use Rattle.element.specs.declared.TagRead.{TagRead}
 use Rattle.element.specs.declared.LengthRead.{LengthRead}
 use Rattle.element.specs.Element.{constructorOf}
 use Rattle.element.specs.Fault.{Text, at}
 use Rattle.element.specs.Head.{endOf, lengthOf}
 use Rattle.element.specs.Answers.{frontOf}
-use Rattle.element.specs.Ask.{Got, got, bad, next, Body, askLength}
-use Rattle.element.specs.Parts.{Item, Where, level, leafItem, inside, aroundItem, keptItem, mapItem, orItem, bindBody, silently, thenBody, onlyBody, mapBody}
-use Rattle.element.proofs.Asking.{Then, fact, void, then-next, then-blamed}
+use Rattle.element.specs.Ask.{Got, got, bad, next, check, Body, askLength, ask}
+use Rattle.element.specs.Parts.{Item, Where, level, done, leafContents, leafItem, inside, aroundItem, keptItem, mapItem, orItem, bindBody, silently, thenBody, onlyBody, mapBody}
+use Rattle.element.specs.Walk.{walkItem}
+use Rattle.element.proofs.Asking.{Then, fact, void, then-next, then-blamed, ask-sound}
 use Rattle.element.proofs.Reading.{definite-size, indefinite-size}
 use Rattle.primitive.specs.Primitive.{identifierOk}
 use Rattle.tcap.specs.declared.Diagnostic.{Diagnostic}
-use Rattle.tcap.specs.Meaning.{Dialogue, request, unidialogue, response, aborted, structured, unstructured}
+use Rattle.tcap.specs.Meaning.{Dialogue, request, unidialogue, response, aborted, single, octets, structured, unstructured}
 use Rattle.tcap.specs.WellFormed.{deepestLevel}
 use Rattle.tcap.specs.Productions.{single?, octetItem, nameItem, versionBody, contextItem, infoBody, numberItem, sourceItem, askedItem, answeredItem, abortedItem, heldItem, externalBody, inside6B, dialogueItem}
 use Rattle.read_place.specs.Places.{Near, until, finite, part, Placed, Closing, Shut, Reads, Finishes, Leads, endedOf, entryPlace, lengthPlace, lengthSize, opening}
 use Rattle.read_place.proofs.Views.{span-length, span-drop, span-get, span-take, span-cut}
 use Rattle.read_place.proofs.Answers.{Keeps, far, placed-near}
 use Rattle.read_place.proofs.Fronts.{ended-is, not-ended}
+use Rattle.read_place.proofs.Onto.{ask-only}
 use Rattle.read_place.proofs.Items.{SizeIs, Entered, entered, ask-entered, front-octet}
-use Rattle.read_place.proofs.Values.{placed-got, value-leaf}
+use Rattle.read_place.proofs.Values.{placed-got, value-leaf, value-walk}
 use Rattle.read_field.proofs.Fields.{name-sized, single-sized}
 use Rattle.read_dialogue.specs.Dialogues.{externalsBody, versionItem, Passes, diagnosticItem, askedBody, acceptedBody, answeredBody, abortedBody, pduItem}
 use Rattle.read_dialogue.proofs.Around.{size-is, kept-near}
@@ -81,7 +84,7 @@ module _ {A : Type 0} (tag : ℕ) (leads : Leads tag) (kind : constructorOf tag 
       let a : inner ≡ at + 1 + (k + n) = i .answer ∙ ap (lengthPlace at (at + 1) (until stop)) e in
       let z = definite-size (part m (at + 1) stop) true k n (LengthRead.Definite k n) (sym q) refl in
       let room : at + 1 + (k + n) ≤ until stop = omega (arith, z, span-length m (at + 1) (until stop) h, i .here) in
-      let size : k ≡ lengthSize (getD m (at + 1) 0) = size-is m at stop h (LengthRead.Definite k n) q (omega (arith, z)) in
+      let size : k ≡ lengthSize (getD m (at + 1) 0) = size-is m at stop h true (LengthRead.Definite k n) q (omega (arith, z)) in
       let from : st ≡ at + (1 + k) = omega (arith, start, size) in
       let low : inner < opening = omega (arith, a, room, h, top) in
       let same : until inner ≡ inner = omega (arith, low) in
@@ -95,7 +98,7 @@ module _ {A : Type 0} (tag : ℕ) (leads : Leads tag) (kind : constructorOf tag 
       let q : lengthOf (part m (at + 1) stop) true ≡ LengthRead.Indefinite = i .len-is ∙ e in
       let a : inner ≡ opening + until stop = i .answer ∙ ap (lengthPlace at (at + 1) (until stop)) e in
       let z = indefinite-size (part m (at + 1) stop) true LengthRead.Indefinite (sym q) refl in
-      let size : 1 ≡ lengthSize (getD m (at + 1) 0) = size-is m at stop h LengthRead.Indefinite q (z .0) in
+      let size : 1 ≡ lengthSize (getD m (at + 1) 0) = size-is m at stop h true LengthRead.Indefinite q (z .0) in
       let from : st ≡ at + 2 = omega (arith, start, size) in
       let high : opening ≤ inner = omega (arith, a) in
       let same : until inner ≡ until stop = omega (arith, a) in
@@ -199,6 +202,36 @@ module _ (m : List ℕ) (at stop inner : ℕ) (g : at ≤ until stop) (h : until
       (around-gives 100 (omega arith, omega arith, omega arith) refl (mapBody (λ v. aborted (v .0) (v .1)) abortedBody) m at stop inner g h entry top near st start (aborted c i) (map-has (λ v. aborted (v .0) (v .1)) abortedBody m st inner (c, i) has))
       (answeredItem deepestLevel) (only-here m at stop 100 inner g h entry near (λ a. eqb a 97) refl)) (askedItem deepestLevel request) (only-here m at stop 100 inner g h entry near (λ a. eqb a 96) refl)
 
+-- One element that fills its contents
+
+done-ended : {A : Type 0} (w : Where) (a : A) (d : Bool) (p : ℕ) (l : List ℕ) → Then (λ b k. (k ≡ 0) × (endOf d l ≡ EndRead.Ended)) (ask (done w a) d p l)
+done-ended w a d p l = ask-sound (λ b k. (k ≡ 0) × (endOf d l ≡ EndRead.Ended)) (done w a) d p l (λ v e f. (refl, f)) (λ h i m. absurd (false≢true m))
+
+sole-value : (l : ℕ) (d : Bool) (p : ℕ) (part : List ℕ) → Then (λ v n. (v ≡ (p, take n part)) × (endOf d (drop n part) ≡ EndRead.Ended)) (ask (onlyBody (level l) (walkItem l)) d p part)
+sole-value l d p part =
+    rw (ask-only (level l) (walkItem l) d p part) (then-next (value-walk l (level l) d p part) (λ a n q. then-next (done-ended (level l) a d (p + n) (drop n part)) (λ b k z.
+    let whole : n + k ≡ n = omega (arith, z .0) in fact (rw whole (q, z .1)))))
+
+nothing-left : (l : List ℕ) → endOf true l ≡ EndRead.Ended → length l ≡ 0
+unfolding endOf
+nothing-left [] e = refl
+nothing-left (x ∷ r) e = let z : _≡_ {A = ℕ} 0 1 = cc in absurd (omega arith)
+
+module _ (m : List ℕ) (st inner s : ℕ) (from : st ≤ until inner) (to : until inner ≤ length m) (near : Near s) where
+  filled : (d : Bool) → finite inner ≡ d → (x : Got Text) → Closing d st (until inner) x s → Then (λ v n. (v ≡ (st, take n (part m st inner))) × (endOf d (drop n (part m st inner)) ≡ EndRead.Ended)) x → Then (λ v n. v ≡ textAt m st (contentsEnd inner s)) x
+  unfolding Closing Shut contentsEnd
+  filled true f (got a n) e (fact q) =
+      let all : length (part m st inner) ≤ n = omega (arith, nothing-left (drop n (part m st inner)) (q .1), length-drop n (part m st inner)) in
+      let long : until inner - st ≡ s - st = omega (arith, e) in
+      fact (q .0 ∙ rw (take-all n (part m st inner) all, span-cut m st (until inner) from to, f, long))
+  filled false f (got a n) e (fact q) =
+      let long : n ≡ s - 2 - st = omega (arith, e) in
+      fact (q .0 ∙ rw (span-cut m st (until inner) from to, take-take n (until inner - st) (drop st m) (omega (arith, e)), f, long))
+  filled d f (bad g) e q = void
+
+  pub sole-has : (l : ℕ) → Finishes (onlyBody (level l) (walkItem l)) m st inner s → Has (onlyBody (level l) (walkItem l)) m st inner (textAt m st (contentsEnd inner s))
+  sole-has l e = filled (finite inner) refl _ e (sole-value l (finite inner) st (part m st inner))
+
 -- What stands behind a name
 
 module _ (m : List ℕ) (at stop inner : ℕ) (g : at ≤ until stop) (h : until stop ≤ length m) (top : length m ≤ 65535) (near : Near inner) (st : ℕ) (start : st ≡ at + 1 + lengthSize (getD m (at + 1) 0)) (entry : inner ≡ entryPlace true m at stop 160) where
@@ -209,6 +242,36 @@ module _ (m : List ℕ) (at stop inner : ℕ) (g : at ≤ until stop) (h : until
   pub unstructured-gives : (r : ℕ) → Reads (pduItem false) m st inner r → Near r → (v : Dialogue Text) → Gives (pduItem false) m st inner v → (n : Text) → Gives (heldItem deepestLevel n false true) m at stop v
   unfolding pduItem constructorOf
   unstructured-gives r e found v given n = one-gives 160 (level 12) (omega arith, omega arith, omega arith) refl refl (pduItem false) m at stop inner g h entry top near st start r e found v given (λ f. refl)
+
+  pub single-gives : st ≤ until inner → until inner ≤ length m → (s : ℕ) → Near s → Finishes (onlyBody (level 12) (walkItem 12)) m st inner s → (n : Text) → Gives (heldItem deepestLevel n false false) m at stop (single n (textAt m st (contentsEnd inner s)))
+  unfolding constructorOf
+  single-gives from to s found e n =
+      gives-first (mapItem (single n) (aroundItem 160 (onlyBody (level 12) (walkItem 12)))) m at stop (single n (textAt m st (contentsEnd inner s)))
+      (gives-map (aroundItem 160 (onlyBody (level 12) (walkItem 12))) m at stop (textAt m st (contentsEnd inner s)) (around-gives 160 (omega arith, omega arith, omega arith) refl (onlyBody (level 12) (walkItem 12)) m at stop inner g h entry top near st start (textAt m st (contentsEnd inner s)) (sole-has m st inner s from to found 12 e)) (single n))
+      (mapItem (octets n) (leafItem 129 (λ c. true))) (only-here m at stop 160 inner g h entry near (λ a. eqb a 129) refl)
+
+-- octets of which nothing is asked
+module _ (m : List ℕ) (at stop r : ℕ) (g : at ≤ until stop) (h : until stop ≤ length m) (entry : r ≡ entryPlace false m at stop 129) (near : Near r) (st : ℕ) (start : st ≡ at + 1 + lengthSize (getD m (at + 1) 0)) where
+  any-by : (i : Entered false m at stop 129 r) (n : LengthRead) → i .len ≡ n → Gives (leafItem 129 (λ c. true)) m at stop (textAt m st r)
+  unfolding lengthPlace askLength leafContents check SizeIs constructorOf
+  any-by i (LengthRead.Fault k) e = absurd (omega (arith, near, far k, (i .answer ∙ ap (lengthPlace at (at + 1) (until stop)) e)))
+  any-by i (LengthRead.Definite k n) e =
+      let q : lengthOf (part m (at + 1) stop) false ≡ LengthRead.Definite k n = i .len-is ∙ e in
+      let a : r ≡ at + 1 + (k + n) = i .answer ∙ ap (lengthPlace at (at + 1) (until stop)) e in
+      let z = definite-size (part m (at + 1) stop) false k n (LengthRead.Definite k n) (sym q) refl in
+      let room : at + 1 + (k + n) ≤ until stop = omega (arith, z, span-length m (at + 1) (until stop) h, i .here) in
+      let size : k ≡ lengthSize (getD m (at + 1) 0) = size-is m at stop h false (LengthRead.Definite k n) q (omega (arith, z)) in
+      let from : st ≡ at + (1 + k) = omega (arith, start, size) in
+      let count : n ≡ r - st = omega (arith, a, from) in
+      rw (ask-entered false m at stop 129 r g h entry (leafItem 129 (λ c. true)) (omega arith, omega arith, omega arith) refl (λ a. refl) i, e) (then-blamed (λ f. f)
+      (fact (ap₂ (λ (x : ℕ) (y : List ℕ). (x, y)) (sym from) (span-take m at (until stop) (1 + k) n (omega (arith, room)) h ∙ rw (← from, count)))))
+  any-by i LengthRead.Indefinite e = absurd (false≢true (indefinite-size (part m (at + 1) stop) false LengthRead.Indefinite (sym (i .len-is ∙ e)) refl .1))
+
+  pub octets-gives : (n : Text) → Gives (heldItem deepestLevel n false false) m at stop (octets n (textAt m st r))
+  octets-gives n =
+      let i = entered false m at stop 129 r g h entry near in
+      gives-second (mapItem (octets n) (leafItem 129 (λ c. true))) m at stop (octets n (textAt m st r)) (gives-map (leafItem 129 (λ c. true)) m at stop (textAt m st r) (any-by i (i .len) refl) (octets n))
+      (mapItem (single n) (aroundItem 160 (onlyBody (level 12) (walkItem 12)))) (λ a s z. ap (λ (q : ℕ). eqb q 160) (sym (front-octet m at (until stop) a s h z .1) ∙ i .first))
 
 -- The contents of 28, 28 and 6B
 
