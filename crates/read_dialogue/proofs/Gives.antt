@@ -1,13 +1,11 @@
 -- The value of what was read, from the values of its parts: an element gives it, contents have it. Assumes nothing.
-use Prim.Native.Nat.{ℕ, _+_, _-_, _≤_, _<_}
+use Prim.Native.Nat.{ℕ, _+_, _-_, _≤_}
 use mathlib.Core.Path.{_≡_, refl, sym, ap, ap₂, _∙_}
 use mathlib.Core.Bool.{Bool, true, false, false≢true}
 use mathlib.Core.List.{List}
 use mathlib.Core.Option.{none, some}
-use native.Mathlib.Omega.{arith}
 use lib.ListN.{length, getD, drop, take}
 use lib.Dec.{eqb, ltb}
-use borrow.Author.Tests.{lt-ltb, le-ltb}
 use Rattle.element.specs.declared.FaultKind.{FaultKind}
 use Rattle.element.specs.declared.EndRead.{EndRead}
 use Rattle.element.specs.declared.TagRead.{TagRead}
@@ -17,19 +15,17 @@ use Rattle.element.specs.Fault.{Fault, Text, at}
 use Rattle.element.specs.Head.{endOf, lengthOf}
 use Rattle.element.specs.Answers.{frontOf}
 use Rattle.element.specs.Ask.{Got, got, bad, check, blamed, Head, definite, indefinite, head, Body, askLength, atEnd, ask}
-use Rattle.element.specs.Parts.{Item, Where, level, done, inside, aroundItem, mapItem, orItem, bindBody, silently, thenBody, onlyBody, lastBody, optBody, mapBody}
+use Rattle.element.specs.Parts.{Item, Where, level, done, aroundItem, mapItem, orItem, bindBody, silently, thenBody, onlyBody, lastBody, optBody, mapBody}
 use Rattle.element.proofs.Asking.{Then, fact, void, then-next, then-weaken, then-blamed}
-use Rattle.element.proofs.Reading.{definite-size, indefinite-size}
-use Rattle.read_place.specs.Places.{Near, until, finite, part, front, Placed, Reads, Leads, standsOf, entryPlace, lengthPlace, lengthSize, opening}
-use Rattle.read_place.proofs.Views.{span-length, span-drop, span-inner}
-use Rattle.read_place.proofs.Answers.{Keeps, far}
+use Rattle.read_place.specs.Places.{Near, until, finite, part, front, Placed, Reads, Leads, standsOf, entryPlace, lengthSize}
+use Rattle.read_place.proofs.Answers.{Keeps}
 use Rattle.read_place.proofs.Fronts.{byFront, ask-front}
 use Rattle.read_place.proofs.Onto.{ask-only, ask-last-ended}
 use Rattle.read_place.proofs.Bodies.{placed-where}
-use Rattle.read_place.proofs.Items.{SizeIs, Entered, entered, ask-entered, or-left, or-right}
+use Rattle.read_place.proofs.Items.{or-left, or-right}
 use Rattle.read_place.proofs.Values.{step, behind-value, done-value, bind-value, last-value, map-value, opt-none-value, opt-some-value}
 use Rattle.read_dialogue.specs.Dialogues.{Passed, Passes}
-use Rattle.read_dialogue.proofs.Around.{size-is}
+use Rattle.read_dialogue.proofs.Around.{around-opened}
 
 abbrev pub Gives : {A : Type 0} → Item A → List ℕ → ℕ → ℕ → A → Type 0
 Gives x m at stop v = Then (λ a n. a ≡ v) (ask (front (level 1) FaultKind.Another x) (finite stop) at (part m at stop))
@@ -130,32 +126,6 @@ module _ {A B : Type 0} (tag : ℕ) (x : Item A) (only : (a : ℕ) → x .mine a
 -- A constructor gives what its contents have
 
 module _ {A : Type 0} (tag : ℕ) (leads : Leads tag) (kind : constructorOf tag ≡ true) (b : Body A) (m : List ℕ) (at stop inner : ℕ) (g : at ≤ until stop) (h : until stop ≤ length m) (entry : inner ≡ entryPlace true m at stop tag)
-    (top : length m ≤ 65535) (near : Near inner) (st : ℕ) (start : st ≡ at + 1 + lengthSize (getD m (at + 1) 0)) (v : A) where
-  around-by : (i : Entered true m at stop tag inner) (n : LengthRead) → i .len ≡ n → Has b m st inner v → Gives (aroundItem tag b) m at stop v
-  unfolding lengthPlace askLength inside SizeIs
-  around-by i (LengthRead.Fault k) e f = absurd (omega (arith, near, far k, (i .answer ∙ ap (lengthPlace at (at + 1) (until stop)) e)))
-  around-by i (LengthRead.Definite k n) e f =
-      let q : lengthOf (part m (at + 1) stop) true ≡ LengthRead.Definite k n = i .len-is ∙ e in
-      let a : inner ≡ at + 1 + (k + n) = i .answer ∙ ap (lengthPlace at (at + 1) (until stop)) e in
-      let z = definite-size (part m (at + 1) stop) true k n (LengthRead.Definite k n) (sym q) refl in
-      let room : at + 1 + (k + n) ≤ until stop = omega (arith, z, span-length m (at + 1) (until stop) h, i .here) in
-      let size : k ≡ lengthSize (getD m (at + 1) 0) = size-is m at stop h true (LengthRead.Definite k n) q (omega (arith, z)) in
-      let from : st ≡ at + (1 + k) = omega (arith, start, size) in
-      let low : inner < opening = omega (arith, a, room, h, top) in
-      let same : until inner ≡ inner = omega (arith, low) in
-      let to : at + (1 + k) + n ≡ inner = omega (arith, a) in
-      rw (ask-entered true m at stop tag inner g h entry (aroundItem tag b) leads kind (λ a. refl) i, e) (then-blamed (λ f. f)
-      (rw (span-inner m at (until stop) (1 + k) n (omega (arith, room)) h, to) (then-next {P = λ u j. u .0 ≡ v} (then-next (rw (lt-ltb inner opening low, same, from) at f) (λ u j w. fact w)) (λ u j w. fact w))))
-  around-by i LengthRead.Indefinite e f =
-      let q : lengthOf (part m (at + 1) stop) true ≡ LengthRead.Indefinite = i .len-is ∙ e in
-      let a : inner ≡ opening + until stop = i .answer ∙ ap (lengthPlace at (at + 1) (until stop)) e in
-      let z = indefinite-size (part m (at + 1) stop) true LengthRead.Indefinite (sym q) refl in
-      let size : 1 ≡ lengthSize (getD m (at + 1) 0) = size-is m at stop h true LengthRead.Indefinite q (z .0) in
-      let from : st ≡ at + 2 = omega (arith, start, size) in
-      let high : opening ≤ inner = omega (arith, a) in
-      let same : until inner ≡ until stop = omega (arith, a) in
-      rw (ask-entered true m at stop tag inner g h entry (aroundItem tag b) leads kind (λ a. refl) i, e) (then-blamed (λ f. f)
-      (rw (span-drop m at (until stop) 2) (then-next {P = λ u j. u .0 ≡ v} (then-next (rw (le-ltb inner opening high, same, from) at f) (λ u j w. fact w)) (λ u j w. fact w))))
-
-  pub around-gives : Has b m st inner v → Gives (aroundItem tag b) m at stop v
-  around-gives f = let i = entered true m at stop tag inner g h entry near in around-by i (i .len) refl f
+    (top : length m ≤ 65535) (near : Near inner) (st : ℕ) (start : st ≡ at + 1 + lengthSize (getD m (at + 1) 0)) where
+  pub around-gives : (v : A) → Has b m st inner v → Gives (aroundItem tag b) m at stop v
+  around-gives v f = let o = around-opened tag leads kind b m at stop inner g h entry top near st start in rw (o .is) (then-blamed (λ f. f) (then-next {P = λ u j. u .0 ≡ v} (then-next f (λ u j w. fact w)) (λ u j w. fact w)))
