@@ -4,3 +4,4 @@ pub mod Pdus
 pub mod Names
 pub mod Gives
 pub mod Values
+pub mod Owners

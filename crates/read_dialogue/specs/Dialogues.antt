@@ -4,9 +4,9 @@ use Prim.Native.Nat.{ℕ}
 use mathlib.Core.{Path._≡_, Bool.Bool, Bool.true, Bool.false, Bool._&&_, List.List, List.[], Option.Option, Option.some}
 use lib.{ListN.getD, Dec.eqb}
 use Rattle.base.specs.Value.{same}
-use Rattle.element.specs.{declared.FaultKind.FaultKind, Fault.Text, Ask.Body, Parts.Item, Parts.level, Parts.leafItem, Parts.aroundItem, Parts.mapItem, Parts.orItem, Parts.thenBody, Parts.onlyBody, Parts.seriesBody, Walk.walkTagItem}
-use Rattle.tcap.specs.{declared.Diagnostic.Diagnostic, Meaning.Dialogue, Meaning.request, Meaning.unidialogue, Meaning.structured, Meaning.unstructured, Meaning.version, WellFormed.deepestLevel, Productions.octetItem, Productions.levelAt, Productions.versionBody, Productions.contextItem, Productions.infoBody, Productions.numberItem, Productions.sourceItem, Productions.askedItem, Productions.answeredItem, Productions.abortedItem, Productions.heldItem}
-use Rattle.read_place.specs.Places.{standsOf, Reads}
+use Rattle.element.specs.{declared.FaultKind.FaultKind, Fault.Text, Fault.Owner, Fault.portion, Fault.dialogue, Fault.fault, Ask.Got, Ask.got, Ask.bad, Ask.Body, Ask.ask, Parts.Item, Parts.level, Parts.leafItem, Parts.aroundItem, Parts.mapItem, Parts.orItem, Parts.thenBody, Parts.onlyBody, Parts.seriesBody, Walk.walkTagItem}
+use Rattle.tcap.specs.{declared.Diagnostic.Diagnostic, Meaning.Dialogue, Meaning.request, Meaning.unidialogue, Meaning.structured, Meaning.unstructured, Meaning.version, WellFormed.deepestLevel, Productions.octetItem, Productions.levelAt, Productions.versionBody, Productions.contextItem, Productions.infoBody, Productions.numberItem, Productions.sourceItem, Productions.askedItem, Productions.answeredItem, Productions.abortedItem, Productions.heldItem, Productions.dialogueItem}
+use Rattle.read_place.specs.Places.{finite, part, front, standsOf, Reads}
 
 -- the elements in BE, of which n may come: as many as there are octets
 abbrev pub externalsBody : ℕ → Body (List Text)
@@ -65,3 +65,15 @@ nameKind c = kindOf (same structured c) (same unstructured c)
 -- what stands behind a name, whatever its octets were: the structured dialogue, the unstructured, another
 unfoldable pub Holds : Bool → Bool → List ℕ → ℕ → ℕ → ℕ → Type 0
 Holds s u m at stop r = (n : Text) → Reads (heldItem deepestLevel n s u) m at stop r
+
+-- whom the first fault in 6B belongs to: what stands inside its contents, or the transaction portion
+unfoldable pub Belongs : {A : Type 0} → Owner → Got A → Type 0
+Belongs w (got a n) = Unit {0}
+Belongs w (bad (fault k q o i t)) = o ≡ w
+
+unfoldable pub ownerOf : Bool → Owner
+ownerOf true = dialogue
+ownerOf false = portion
+
+abbrev pub Owns : Bool → List ℕ → ℕ → ℕ → Type 0
+Owns b m at stop = Belongs (ownerOf b) (ask (front (level 1) FaultKind.Another (dialogueItem deepestLevel)) (finite stop) at (part m at stop))

@@ -9,7 +9,7 @@ ghost use Rattle.read_place.specs.Places.{Leads, Reads, Finishes, Ready, part};
 ghost use Rattle.tcap.specs.Meaning.{version, structured, unstructured};
 ghost use Rattle.tcap.specs.WellFormed.{deepestLevel};
 ghost use Rattle.tcap.specs.Productions.{levelAt, contextItem, sourceItem, infoBody, parameterItem, externalBody, dialogueItem};
-ghost use Rattle.read_dialogue.specs.Dialogues.{externalsBody, versionItem, Passes, numberIn, diagnosticItem, askedBody, acceptedBody, answeredBody, abortedBody, pduItem, common, nameKind, Holds};
+ghost use Rattle.read_dialogue.specs.Dialogues.{externalsBody, versionItem, Passes, numberIn, diagnosticItem, askedBody, acceptedBody, answeredBody, abortedBody, pduItem, common, nameKind, Holds, Owns};
 use base::piece;
 use read_field::name_at;
 use read_field::small_at;
@@ -27,6 +27,7 @@ use read_place::field_asked;
 use read_place::leave;
 use read_place::stands;
 use read_place::start_of;
+use read_place::unfinished;
 use read_place::walk_element;
 use read_place::wrong_at;
 
@@ -420,4 +421,30 @@ pub fn dialogue_at(m: &[u8], at: usize, stop: usize) -> usize
         return r;
     }
     leave(m, r, inner)
+}
+
+// Whether the first fault in 6B belongs to what stands inside its contents: all but its tag, its length and its own end.
+pub fn blames_dialogue(m: &[u8], at: usize, stop: usize) -> bool
+    requires { ⌜ Ready (now m) at stop ⌝ }
+    ensures { λ r. ⌜ Owns r (now (m .entry)) at stop ⌝ }
+{
+    let inner = entry_at(m, at, stop, 0x6B);
+    if inner >= FAULT {
+        return false;
+    }
+    let from = start_of(m, at + 1);
+    if ended(m, from, inner) {
+        return false;
+    }
+    if unfinished(m, from, inner) {
+        return false;
+    }
+    let r = wrapped_at(m, from, inner);
+    if r >= FAULT {
+        return true;
+    }
+    if unfinished(m, r, inner) {
+        return false;
+    }
+    true
 }

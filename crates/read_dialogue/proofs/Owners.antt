@@ -1,0 +1,189 @@
+-- Whom the first fault in 6B belongs to: not in the number that is answered. Assumes nothing.
+use Prim.Native.Nat.{ℕ, _+_, _≤_}
+use mathlib.Core.Path.{_≡_, refl, sym, _∙_}
+use mathlib.Core.Bool.{Bool, true, false, cond}
+use mathlib.Core.List.{List}
+use native.Mathlib.Omega.{arith}
+use lib.ListN.{length, getD, drop}
+use Rattle.element.specs.declared.FaultKind.{FaultKind}
+use Rattle.element.specs.declared.EndRead.{EndRead}
+use Rattle.element.specs.declared.TagRead.{TagRead}
+use Rattle.element.specs.declared.LengthRead.{LengthRead}
+use Rattle.element.specs.Element.{constructorOf}
+use Rattle.element.specs.Fault.{Owner, portion, dialogue, Fault, fault, Text, at, inDialogue}
+use Rattle.element.specs.Head.{endOf, lengthOf}
+use Rattle.element.specs.Answers.{frontOf}
+use Rattle.element.specs.Ask.{Got, got, bad, next, check, blamed, definite, indefinite, head, Body, askLength, atEnd, askEnd, ask}
+use Rattle.element.specs.Parts.{Item, level, done, aroundItem, onlyBody}
+use Rattle.element.proofs.Reading.{definite-size}
+use Rattle.tcap.specs.Meaning.{Dialogue}
+use Rattle.tcap.specs.WellFormed.{deepestLevel}
+use Rattle.tcap.specs.Productions.{externalBody, inside6B, dialogueItem}
+use Rattle.read_place.specs.Places.{Far, Near, until, finite, part, front, Placed, Reads, Leads, endedOf, unfinishedOf, standsOf, entryPlace, lengthPlace, lengthSize, wrongPlace, base}
+use Rattle.read_place.proofs.Views.{span-length, span-drop}
+use Rattle.read_place.proofs.Answers.{far-fault}
+use Rattle.read_place.proofs.Fronts.{byFront, ask-front, ended-is, more-here}
+use Rattle.read_place.proofs.Walks.{unfinished-is}
+use Rattle.read_place.proofs.Onto.{ask-only}
+use Rattle.read_place.proofs.Bodies.{placed-where}
+use Rattle.read_place.proofs.Items.{Entered, ask-entered, stands-here, stands-other}
+use Rattle.read_dialogue.specs.Dialogues.{Belongs, ownerOf, Owns}
+use Rattle.read_dialogue.proofs.Around.{around-opened}
+use Rattle.read_dialogue.proofs.Names.{dialogue-keeps}
+
+-- What is put around a fault does not change whom it belongs to
+
+held-belongs : {A : Type 0} (w : Owner) (x : Got A) (t : ℕ → Text) (u : ℕ → ℕ) → Belongs w x → Belongs w (blamed (λ f. f) (next {A = A × Text} (next x (λ v k. got (v, t k) (u k))) (λ v n. got (v .0) n)))
+unfolding Belongs blamed next
+held-belongs w (got a n) t u e = tt
+held-belongs w (bad (fault k q o i s)) t u e = e
+
+rest-belongs : {A B : Type 0} (w : Owner) (f : A → B) (n : ℕ) (x : Got A) → Belongs w x → Belongs w (next x (λ b k. got (f b) (n + k)))
+unfolding Belongs next
+rest-belongs w f n (got a k) e = tt
+rest-belongs w f n (bad (fault k q o i s)) e = e
+
+inside-belongs : {A : Type 0} (x : Got A) → Belongs dialogue (blamed inDialogue x)
+unfolding Belongs blamed inDialogue
+inside-belongs (got a n) = tt
+inside-belongs (bad (fault k q o i s)) = refl
+
+module _ {A B : Type 0} (x : Got A) (f : A → ℕ → Got B) (p end r : ℕ) (e : Placed p end x r) (w : Owner) where
+  belongs-far : Near end → Far r → Belongs w x → Belongs w (next x f)
+  unfolding Placed Belongs next
+  belongs-far b h t = go x e t
+    where
+      go : (x : Got A) → Placed p end x r → Belongs w x → Belongs w (next x f)
+      go (got a n) e t = absurd (omega (arith, b, e, h))
+      go (bad (fault k q o i s)) e t = t
+
+  belongs-near : Near r → ((a : A) (n : ℕ) → r ≡ p + n → Belongs w (f a n)) → Belongs w (next x f)
+  unfolding Placed Belongs next
+  belongs-near h g = go x e
+    where
+      go : (x : Got A) → Placed p end x r → Belongs w (next x f)
+      go (got a n) e = g a n (e .0)
+      go (bad b) e = absurd (omega (arith, e, h, far-fault b))
+
+-- The tag and the length of an element belong to what is around it
+
+module _ {A : Type 0} (x : Item A) (d : Bool) (p : ℕ) (part : List ℕ) where
+  other-belongs : (e : EndRead) (t : TagRead) → ((a s : ℕ) → t ≡ TagRead.Tag a s → x .mine a ≡ false) → Belongs portion (byFront (front (level 1) FaultKind.Another x) d p part e t)
+  unfolding byFront atEnd check Belongs
+  other-belongs EndRead.Ended t h = refl
+  other-belongs EndRead.Unfinished t h = refl
+  other-belongs EndRead.More (TagRead.Fault k) h = refl
+  other-belongs EndRead.More (TagRead.Tag a s) h = rw (h a s refl)
+
+module _ {A : Type 0} (tag : ℕ) (leads : Leads tag) (kind : constructorOf tag ≡ true) (b : Body A) (m : List ℕ) (at stop inner : ℕ) (g : at ≤ until stop) (h : until stop ≤ length m) (entry : inner ≡ entryPlace true m at stop tag) (far : Far inner) where
+  abbrev around : Got A
+  around = ask (front (level 1) FaultKind.Another (aroundItem tag b)) (finite stop) at (part m at stop)
+
+  length-belongs : (n : LengthRead) → lengthOf (part m (at + 1) stop) true ≡ n → at ≤ until stop → inner ≡ lengthPlace at (at + 1) (until stop) n → at + 1 ≤ until stop → Belongs portion (askLength (front (level 1) FaultKind.Another (aroundItem tag b)) (finite stop) at (part m at stop) tag 1 n)
+  unfolding askLength lengthPlace Belongs
+  length-belongs (LengthRead.Fault k) q l e i = refl
+  length-belongs (LengthRead.Definite k n) q l e i =
+      let z = definite-size (part m (at + 1) stop) true k n (LengthRead.Definite k n) (sym q) refl in
+      absurd (omega (arith, z, span-length m (at + 1) (until stop) h, e, far, i))
+  length-belongs LengthRead.Indefinite q l e i = absurd (omega (arith, e, far))
+
+  pub entry-belongs : Belongs portion around
+  unfolding entryPlace
+  entry-belongs = go (standsOf m at stop tag) refl entry
+    where
+      go : (c : Bool) → standsOf m at stop tag ≡ c → inner ≡ cond c (lengthPlace at (at + 1) (until stop) (lengthOf (part m (at + 1) stop) true)) (wrongPlace m at stop (base FaultKind.Another)) → Belongs portion around
+      go true t e =
+          let z = stands-here m at stop tag h g t in
+          let i : Entered true m at stop tag inner = record { here = z .0; first = z .1; len = lengthOf (part m (at + 1) stop) true; len-is = refl; answer = e } in
+          rw (ask-entered true m at stop tag inner g h entry (aroundItem tag b) leads kind (λ a. refl) i) (length-belongs (lengthOf (part m (at + 1) stop) true) refl g e (omega (arith, z .0)))
+      go false t e = rw (ask-front (front (level 1) FaultKind.Another (aroundItem tag b)) (finite stop) at (part m at stop) refl refl) (other-belongs (aroundItem tag b) (finite stop) at (part m at stop) (endOf (finite stop) (part m at stop)) (frontOf 1 (part m at stop)) (λ a s z. stands-other m at stop tag h t a s z))
+
+-- An element inside 6B, and what must not come behind it
+
+module _ {A : Type 0} (d : Bool) (p : ℕ) (part : List ℕ) where
+  owned-length : (x : Item A) (a s : ℕ) (l : LengthRead) → Belongs dialogue (askLength (front (inside6B deepestLevel) FaultKind.Another x) d p part a s l)
+  unfolding askLength
+  owned-length x a s (LengthRead.Fault k) = unfold Belongs inDialogue in refl
+  owned-length x a s (LengthRead.Definite k n) = inside-belongs (x .contents (head a (s + k) (definite n)) p part)
+  owned-length x a s LengthRead.Indefinite = inside-belongs (x .contents (head a (s + 1) indefinite) p part)
+
+  owned-check : (c : Bool) (k : FaultKind) (z : Got A) → Belongs dialogue z → Belongs dialogue (check c (inDialogue (at k p)) z)
+  unfolding check
+  owned-check true k z e = e
+  owned-check false k z e = unfold Belongs inDialogue in refl
+
+  owned-front : (x : Item A) (t : TagRead) → Belongs dialogue (byFront (front (inside6B deepestLevel) FaultKind.Another x) d p part EndRead.More t)
+  unfolding byFront
+  owned-front x (TagRead.Fault k) = unfold Belongs inDialogue in refl
+  owned-front x (TagRead.Tag a s) = owned-check (x .mine a) FaultKind.Another _ (owned-length x a s (lengthOf (drop s part) (constructorOf a)))
+
+  more-belongs : (x : Item A) → endOf d part ≡ EndRead.More → Belongs dialogue (ask (front (inside6B deepestLevel) FaultKind.Another x) d p part)
+  more-belongs x e = rw (ask-front (front (inside6B deepestLevel) FaultKind.Another x) d p part refl refl, e) (owned-front x (frontOf 1 part))
+
+  done-by : (a : A) (e : EndRead) (t : TagRead) → (e ≡ EndRead.Unfinished → ⊥) → Belongs dialogue (byFront (done (inside6B deepestLevel) a) d p part e t)
+  unfolding byFront atEnd check
+  done-by a EndRead.Ended t h = unfold Belongs in tt
+  done-by a EndRead.Unfinished t h = absurd (h refl)
+  done-by a EndRead.More (TagRead.Fault k) h = unfold Belongs inDialogue in refl
+  done-by a EndRead.More (TagRead.Tag b s) h = unfold Belongs inDialogue in refl
+
+  done-belongs : (a : A) → (endOf d part ≡ EndRead.Unfinished → ⊥) → Belongs dialogue (ask (done (inside6B deepestLevel) a) d p part)
+  done-belongs a h = rw (ask-front (done (inside6B deepestLevel) a) d p part refl refl) (done-by a (endOf d part) (frontOf 1 part) h)
+
+  cut-belongs : (b : Body A) → endOf d part ≡ EndRead.Unfinished → Belongs portion (ask b d p part)
+  unfolding ask askEnd Belongs
+  cut-belongs b e = rw e
+
+finished : (e : EndRead) (c : Bool) → c ≡ unfinishedOf e → c ≡ false → e ≡ EndRead.Unfinished → ⊥
+unfolding unfinishedOf
+finished EndRead.Ended c i t e = let z : _≡_ {A = ℕ} 0 1 = cc in omega arith
+finished EndRead.Unfinished c i t e = let z : _≡_ {A = Bool} true false = sym i ∙ t in let y : _≡_ {A = ℕ} 0 1 = cc in omega arith
+finished EndRead.More c i t e = let z : _≡_ {A = ℕ} 0 1 = cc in omega arith
+
+-- 6B
+
+abbrev external : Item (Dialogue Text)
+external = aroundItem 40 (externalBody deepestLevel)
+
+module _ (m : List ℕ) (at stop inner : ℕ) (g : at ≤ until stop) (h : until stop ≤ length m) (entry : inner ≡ entryPlace true m at stop 107) where
+  pub blames-entry : Far inner → Owns false m at stop
+  unfolding ownerOf constructorOf
+  blames-entry f = entry-belongs 107 (omega arith, omega arith, omega arith) refl (onlyBody (inside6B deepestLevel) external) m at stop inner g h entry f
+
+  module _ (top : length m ≤ 65535) (near : Near inner) (st : ℕ) (start : st ≡ at + 1 + lengthSize (getD m (at + 1) 0)) (b : Bool) (is : b ≡ endedOf (endOf (finite inner) (part m st inner))) where
+    within : (w : Owner) → Belongs w (ask (onlyBody (inside6B deepestLevel) external) (finite inner) st (part m st inner)) → Belongs w (ask (front (level 1) FaultKind.Another (dialogueItem deepestLevel)) (finite stop) at (part m at stop))
+    unfolding constructorOf
+    within w e = let o = around-opened 107 (omega arith, omega arith, omega arith) refl (onlyBody (inside6B deepestLevel) external) m at stop inner g h entry top near st start in rw (o .is) (held-belongs w _ (o .text) (o .size) e)
+
+    pub blames-missing : b ≡ true → Owns false m at stop
+    unfolding ownerOf ask askEnd atEnd Belongs
+    blames-missing t = within portion (rw (ended-is (endOf (finite inner) (part m st inner)) b is t))
+
+    module _ (left : b ≡ false) (c : Bool) (also : c ≡ unfinishedOf (endOf (finite inner) (part m st inner))) where
+      pub blames-cut : c ≡ true → Owns false m at stop
+      unfolding ownerOf
+      blames-cut t = within portion (cut-belongs (finite inner) st (part m st inner) (onlyBody (inside6B deepestLevel) external) (unfinished-is (endOf (finite inner) (part m st inner)) c also t))
+
+      module _ (whole : c ≡ false) (r : ℕ) (e : Reads external m st inner r) where
+        here : Placed st (until inner) (ask (front (inside6B deepestLevel) FaultKind.Another external) (finite inner) st (part m st inner)) r
+        here = placed-where external FaultKind.Another (inside6B deepestLevel) dialogue-keeps (finite inner) st (part m st inner) (until inner) r refl e
+
+        pub blames-inside : Far r → Owns true m at stop
+        unfolding ownerOf
+        blames-inside f =
+            within dialogue (rw (ask-only (inside6B deepestLevel) external (finite inner) st (part m st inner)) (belongs-far _ _ st (until inner) r here dialogue (omega arith) f
+            (more-belongs (finite inner) st (part m st inner) external (more-here (endOf (finite inner) (part m st inner)) b c is also left whole))))
+
+        module _ (found : Near r) (d : Bool) (last : d ≡ unfinishedOf (endOf (finite inner) (part m r inner))) where
+          behind-it : (w : Owner) → ((a : Dialogue Text) → Belongs w (ask (done (inside6B deepestLevel) a) (finite inner) r (part m r inner))) → Belongs w (ask (front (level 1) FaultKind.Another (dialogueItem deepestLevel)) (finite stop) at (part m at stop))
+          behind-it w q =
+              within w (rw (ask-only (inside6B deepestLevel) external (finite inner) st (part m st inner)) (belongs-near _ _ st (until inner) r here w found (λ a n z.
+              rw (span-drop m st (until inner) n) (rest-belongs w (λ b. a) n (ask (done (inside6B deepestLevel) a) (finite inner) (st + n) (part m (st + n) inner)) (rw z at (q a))))))
+
+          pub blames-end : d ≡ true → Owns false m at stop
+          unfolding ownerOf
+          blames-end t = behind-it portion (λ a. cut-belongs (finite inner) r (part m r inner) (done (inside6B deepestLevel) a) (unfinished-is (endOf (finite inner) (part m r inner)) d last t))
+
+          pub blames-behind : d ≡ false → Owns true m at stop
+          unfolding ownerOf
+          blames-behind t = behind-it dialogue (λ a. done-belongs (finite inner) r (part m r inner) a (finished (endOf (finite inner) (part m r inner)) d last t))
