@@ -3,7 +3,7 @@ use Prim.Native.Nat.{ℕ, _+_, _-_, _≤_}
 use mathlib.Core.Path.{_≡_, refl, sym, ap, ap₂, _∙_}
 use mathlib.Core.Bool.{Bool, true, false, false≢true}
 use mathlib.Core.List.{List}
-use mathlib.Core.Option.{none, some}
+use mathlib.Core.Option.{Option, none, some}
 use lib.ListN.{length, getD, drop, take}
 use lib.Dec.{eqb, ltb}
 use Rattle.element.specs.declared.FaultKind.{FaultKind}
@@ -122,6 +122,17 @@ module _ {A B : Type 0} (tag : ℕ) (x : Item A) (only : (a : ℕ) → x .mine a
       go : (b : Bool) → standsOf m at stop tag ≡ b → Passed b x m at stop r → Then (λ u n. u .1 ≡ v) (ask (optBody x y) (finite stop) at (part m at stop))
       go true t e = then-weaken (opt-some-value tag x only y full deep another keeps leads m at stop g h true (sym t) (λ u. u ≡ v) refl r e near (λ a n. Unit {0}) (whatever _) q) (λ u n i. i .1)
       go false t e = then-weaken (opt-none-value tag x only y full deep another keeps leads m at stop g h false (sym t) (λ u. u ≡ v) refl (rw e at q)) (λ u n i. i .1)
+
+-- one that may be left out, and whose value does matter
+module _ {A B : Type 0} (tag : ℕ) (x : Item A) (only : (a : ℕ) → x .mine a ≡ eqb a tag) (y : Body B) (full : y .full ≡ false) (deep : ltb 0 (y .left) ≡ true) (another : y .other ≡ FaultKind.Another) (keeps : Keeps (y .owner)) (leads : Leads tag)
+    (m : List ℕ) (at stop : ℕ) (g : at ≤ until stop) (h : until stop ≤ length m) (b : Bool) (is : b ≡ standsOf m at stop tag) (v : B) where
+  pub opt-has-none : b ≡ false → Has y m at stop v → Has (optBody x y) m at stop (none, v)
+  opt-has-none t q = then-weaken (opt-none-value tag x only y full deep another keeps leads m at stop g h b is (λ u. u ≡ v) t q) (λ u n i. ap₂ (λ (c : Option A) (z : B). (c, z)) (i .0) (i .1))
+
+  pub opt-has-some : b ≡ true → (r : ℕ) → Reads x m at stop r → Near r → (a : A) → Gives x m at stop a → Has y m r stop v → Has (optBody x y) m at stop (some a, v)
+  opt-has-some t r e near a given q =
+      then-weaken (opt-some-value tag x only y full deep another keeps leads m at stop g h b is (λ u. u ≡ v) t r e near (λ c n. c ≡ a) (gives-where x m at stop a given (record { left = y .left; owner = y .owner }) deep) q)
+      (λ u n i. ap₂ (λ (c : Option A) (z : B). (c, z)) (i .0 .1 ∙ ap (λ (c : A). some c) (i .0 .2)) (i .1))
 
 -- A constructor gives what its contents have
 

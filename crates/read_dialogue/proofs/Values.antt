@@ -53,11 +53,15 @@ known x p end r P v e f h g = let z = placed-got x p end r P e f h in rw (z .1) 
 -- A name, and a number
 
 module _ (m : List ℕ) (at stop r : ℕ) (h : until stop ≤ length m) (near : Near r) where
-  pub name-gives : Reads nameItem m at stop r → Gives nameItem m at stop (textAt m (at + 2) r)
-  name-gives e =
+  -- contents of few octets stand two octets on
+  pub leaf-gives : (tag most : ℕ) (fits : List ℕ → Bool) → Leads tag → most ≤ 127 → ((c : List ℕ) → fits c ≡ true → (1 ≤ length c) × (length c ≤ most)) → Reads (leafItem tag fits) m at stop r → Gives (leafItem tag fits) m at stop (textAt m (at + 2) r)
+  leaf-gives tag most fits leads few sized e =
       let l = placed-near _ at (until stop) r e near in
-      known _ at (until stop) r _ (textAt m (at + 2) r) e near (value-leaf 6 16 identifierOk (omega arith, omega arith, omega arith) (omega arith) name-sized at (part m at stop) (level 1) (finite stop)) (λ v q.
+      known _ at (until stop) r _ (textAt m (at + 2) r) e near (value-leaf tag most fits leads few sized at (part m at stop) (level 1) (finite stop)) (λ v q.
       let k : r - at - 2 ≡ r - (at + 2) = omega arith in q .1 ∙ rw (span-take m at (until stop) 2 (r - at - 2) (omega (arith, l, q .0)) h, k))
+
+  pub name-gives : Reads nameItem m at stop r → Gives nameItem m at stop (textAt m (at + 2) r)
+  name-gives e = leaf-gives 6 16 identifierOk (omega arith, omega arith, omega arith) (omega arith) name-sized e
 
   pub octet-gives : (tag most : ℕ) → Leads tag → Reads (octetItem tag most) m at stop r → Gives (octetItem tag most) m at stop (getD m (at + 2) 0)
   octet-gives tag most leads e =
@@ -145,7 +149,7 @@ module _ (m : List ℕ) (at stop inner : ℕ) (g : at ≤ until stop) (h : until
 
 -- The tag that was entered is the only one that stands here
 
-only-here : (m : List ℕ) (at stop tag inner : ℕ) → at ≤ until stop → until stop ≤ length m → inner ≡ entryPlace true m at stop tag → Near inner → (f : ℕ → Bool) → f tag ≡ false → (a s : ℕ) → frontOf 1 (part m at stop) ≡ TagRead.Tag a s → f a ≡ false
+pub only-here : (m : List ℕ) (at stop tag inner : ℕ) → at ≤ until stop → until stop ≤ length m → inner ≡ entryPlace true m at stop tag → Near inner → (f : ℕ → Bool) → f tag ≡ false → (a s : ℕ) → frontOf 1 (part m at stop) ≡ TagRead.Tag a s → f a ≡ false
 only-here m at stop tag inner g h entry near f other a s z = let i = entered true m at stop tag inner g h entry near in ap f (sym (front-octet m at (until stop) a s h z .1) ∙ i .first) ∙ other
 
 module _ (m : List ℕ) (at stop inner : ℕ) (g : at ≤ until stop) (h : until stop ≤ length m) (near : Near inner) (n : ℕ) where

@@ -134,7 +134,7 @@ module _ (m : List ℕ) (at stop r : ℕ) (h : until stop ≤ length m) where
 
 -- A transaction ID
 
-transaction-sized : (c : List ℕ) → idOk c ≡ true → (1 ≤ length c) × (length c ≤ 4)
+pub transaction-sized : (c : List ℕ) → idOk c ≡ true → (1 ≤ length c) × (length c ≤ 4)
 unfolding idOk
 transaction-sized c e = go (leb 1 (length c)) (leb (length c) 4) refl refl e
   where

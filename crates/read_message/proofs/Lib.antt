@@ -1,2 +1,3 @@
 pub mod Portions
 pub mod Whole
+pub mod Values
