@@ -44,9 +44,9 @@ unfolding blamed
 unblamed f (got a n) e = e
 unblamed f (bad g) e = void
 
-module _ {A B : Type 0} (P : A → ℕ → Type 0) (Q : B → ℕ → Type 0) (x : Item A) (y : Item B) (v w : Where) (o : FaultKind) (same : (a : ℕ) → y .mine a ≡ x .mine a) (d : Bool) (p : ℕ) (part : List ℕ)
+module _ {A B : Type 0} (P : A → ℕ → Type 0) (Q : B → ℕ → Type 0) (x : Item A) (y : Item B) (v w : Where) (o u : FaultKind) (same : (a : ℕ) → y .mine a ≡ x .mine a) (d : Bool) (p : ℕ) (part : List ℕ)
     (goes : (h : Head) → Then P (x .contents h p part) → Then Q (y .contents h p part)) where
-  then-length : (a s : ℕ) (l : LengthRead) → Then P (askLength (front v o x) d p part a s l) → Then Q (askLength (front w o y) d p part a s l)
+  then-length : (a s : ℕ) (l : LengthRead) → Then P (askLength (front v o x) d p part a s l) → Then Q (askLength (front w u y) d p part a s l)
   unfolding askLength
   then-length a s (LengthRead.Fault k) e = void
   then-length a s (LengthRead.Definite k n) e = then-blamed (w .owner) (goes (head a (s + k) (definite n)) (unblamed (v .owner) _ e))
@@ -59,22 +59,22 @@ module _ {A B : Type 0} (P : A → ℕ → Type 0) (Q : B → ℕ → Type 0) (x
   then-mine false true i f g z u h e = absurd (false≢true (sym i))
   then-mine false false i f g z u h e = void
 
-  then-by : (e : EndRead) (t : TagRead) → Then P (byFront (front v o x) d p part e t) → Then Q (byFront (front w o y) d p part e t)
+  then-by : (e : EndRead) (t : TagRead) → Then P (byFront (front v o x) d p part e t) → Then Q (byFront (front w u y) d p part e t)
   unfolding byFront atEnd
   then-by EndRead.Ended t e = void
   then-by EndRead.Unfinished t e = void
   then-by EndRead.More (TagRead.Fault k) e = void
   then-by EndRead.More (TagRead.Tag a s) e = then-mine (x .mine a) (y .mine a) (same a) _ _ _ _ (then-length a s (lengthOf (drop s part) (constructorOf a))) e
 
-  pub then-front : ltb 0 (v .left) ≡ true → ltb 0 (w .left) ≡ true → Then P (ask (front v o x) d p part) → Then Q (ask (front w o y) d p part)
-  then-front i j e = rw (ask-front (front w o y) d p part refl j) (then-by (endOf d part) (frontOf 1 part) (rw (ask-front (front v o x) d p part refl i) at e))
+  pub then-front : ltb 0 (v .left) ≡ true → ltb 0 (w .left) ≡ true → Then P (ask (front v o x) d p part) → Then Q (ask (front w u y) d p part)
+  then-front i j e = rw (ask-front (front w u y) d p part refl j) (then-by (endOf d part) (frontOf 1 part) (rw (ask-front (front v o x) d p part refl i) at e))
 
 module _ {A : Type 0} (x : Item A) (m : List ℕ) (at stop : ℕ) (a : A) (g : Gives x m at stop a) where
   pub gives-where : (w : Where) → ltb 0 (w .left) ≡ true → Then (λ b n. b ≡ a) (ask (front w FaultKind.Another x) (finite stop) at (part m at stop))
-  gives-where w deep = then-front (λ b n. b ≡ a) (λ b n. b ≡ a) x x (level 1) w FaultKind.Another (λ b. refl) (finite stop) at (part m at stop) (λ h e. e) refl deep g
+  gives-where w deep = then-front (λ b n. b ≡ a) (λ b n. b ≡ a) x x (level 1) w FaultKind.Another FaultKind.Another (λ b. refl) (finite stop) at (part m at stop) (λ h e. e) refl deep g
 
   pub gives-map : {B : Type 0} (f : A → B) → Gives (mapItem f x) m at stop (f a)
-  gives-map f = then-front (λ b n. b ≡ a) (λ b n. b ≡ f a) x (mapItem f x) (level 1) (level 1) FaultKind.Another (λ b. refl) (finite stop) at (part m at stop) (λ h e. then-next e (λ b n q. fact (ap f q))) refl refl g
+  gives-map f = then-front (λ b n. b ≡ a) (λ b n. b ≡ f a) x (mapItem f x) (level 1) (level 1) FaultKind.Another FaultKind.Another (λ b. refl) (finite stop) at (part m at stop) (λ h e. then-next e (λ b n q. fact (ap f q))) refl refl g
 
   pub gives-first : (y : Item A) → ((b s : ℕ) → frontOf 1 (part m at stop) ≡ TagRead.Tag b s → y .mine b ≡ false) → Gives (orItem x y) m at stop a
   gives-first y h = rw (or-left (level 1) FaultKind.Another x y (finite stop) at (part m at stop) refl h) g

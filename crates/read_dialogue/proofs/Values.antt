@@ -67,7 +67,7 @@ module _ (m : List ℕ) (at stop r : ℕ) (h : until stop ≤ length m) (near : 
   octet-gives tag most leads e =
       let l = placed-near _ at (until stop) r e near in
       known _ at (until stop) r (λ v n. (3 ≤ n) × (v ≡ getD (drop 2 (part m at stop)) 0 0)) (getD m (at + 2) 0) e near
-      (then-front _ (λ v n. (3 ≤ n) × (v ≡ getD (drop 2 (part m at stop)) 0 0)) (leafItem tag (single? most)) (octetItem tag most) (level 1) (level 1) FaultKind.Another (λ b. refl) (finite stop) at (part m at stop)
+      (then-front _ (λ v n. (3 ≤ n) × (v ≡ getD (drop 2 (part m at stop)) 0 0)) (leafItem tag (single? most)) (octetItem tag most) (level 1) (level 1) FaultKind.Another FaultKind.Another (λ b. refl) (finite stop) at (part m at stop)
       (λ k w. then-next w (λ v n q. fact (q .0, rw (q .1) (getD-take (n - 2) (drop 2 (part m at stop)) 0 0 (omega (arith, q .0)))))) refl refl (value-leaf tag 1 (single? most) leads (omega arith) (single-sized most) at (part m at stop) (level 1) (finite stop)))
       (λ v q. q .1 ∙ getD-drop 2 (part m at stop) 0 0 ∙ span-get m at (until stop) 2 (omega (arith, q .0, l)))
 

@@ -1,27 +1,33 @@
 -- A message's values from the places that its readers told, and from those of its portions. Assumes nothing.
-use Prim.Native.Nat.{ℕ, _+_, _≤_}
+use Prim.Native.Nat.{ℕ, _+_, _-_, _≤_}
 use mathlib.Core.Path.{_≡_, refl, sym, ap, _∙_}
 use mathlib.Core.Bool.{Bool, true, false, _||_}
 use mathlib.Core.List.{List, []}
 use mathlib.Core.Option.{Option, none, some, Option·getD}
 use native.Mathlib.Omega.{arith}
 use lib.ListN.{length, getD}
-use lib.Dec.{eqb}
+use lib.Dec.{eqb, leb}
+use borrow.Author.Tests.{lt-ltb}
+use Rattle.element.specs.declared.FaultKind.{FaultKind}
 use Rattle.element.specs.Element.{constructorOf}
 use Rattle.element.specs.Fault.{Text}
 use Rattle.element.specs.Head.{endOf}
-use Rattle.element.specs.Ask.{Body}
+use Rattle.element.specs.Ask.{got, Body, ask}
 use Rattle.element.specs.Parts.{Item, level, leafItem, aroundItem, mapItem, orItem, bindBody, thenBody, onlyBody, lastBody, optBody, mapBody}
 use Rattle.tcap.specs.Meaning.{orig, dest, Component, Dialogue, Ending, cause, says, silent, Message, unidirectional, begin, finish, continue, abort}
 use Rattle.tcap.specs.WellFormed.{deepestLevel, idOk}
 use Rattle.tcap.specs.Productions.{octetItem, origItem, destItem, carried, componentsItem, dialogueItem, tailBody, uniBody, beginBody, endBody, continueBody, abortBody, messageItem}
-use Rattle.read_place.specs.Places.{Near, until, finite, part, Reads, endedOf, standsOf, entryPlace, lengthSize}
+use Rattle.read_place.specs.Places.{Near, until, finite, part, front, opening, Reads, endedOf, standsOf, entryPlace, lengthSize}
+use Rattle.tcap.specs.Reading.{learnt, readFirst, locatedUpTo}
+use Rattle.element.proofs.Asking.{Then, fact, then-next, then-check, then-blamed}
+use Rattle.read_place.proofs.Values.{placed-got}
 use Rattle.read_place.proofs.Fronts.{ended-is, not-ended}
 use Rattle.read_place.proofs.Items.{stands-only, stands-other}
 use Rattle.read_field.proofs.Choices.{reads-map, transaction-sized}
-use Rattle.read_dialogue.proofs.Gives.{Gives, Has, textAt, gives-map, gives-first, gives-second, bind-has, then-has, last-has, none-has, map-has, opt-has-none, opt-has-some, around-gives}
+use Rattle.read_dialogue.proofs.Gives.{Gives, Has, textAt, then-front, gives-map, gives-first, gives-second, bind-has, then-has, last-has, none-has, map-has, opt-has-none, opt-has-some, around-gives}
 use Rattle.read_dialogue.proofs.Values.{leaf-gives, octet-gives, only-here}
-use Rattle.read_message.specs.Messages.{componentsBody, endingItem}
+use Rattle.read_message.specs.Messages.{componentsBody, endingItem, Answers}
+use Rattle.read_message.proofs.Whole.{alone-is, first-is, all-of-it}
 
 -- What may be left out at the end
 
@@ -133,3 +139,21 @@ module _ (m : List ℕ) (at stop inner : ℕ) (g : at ≤ until stop) (h : until
       (gives-second (orItem (aroundItem 101 (continueBody deepestLevel)) (aroundItem 103 (abortBody deepestLevel))) m at stop v
       (gives-second (aroundItem 103 (abortBody deepestLevel)) m at stop v
       (around-gives 103 (omega arith, omega arith, omega arith) refl (abortBody deepestLevel) m at stop inner g h entry top near st start v has) (aroundItem 101 (continueBody deepestLevel)) (only-here m at stop 103 inner g h entry near (λ a. eqb a 101) refl)) (aroundItem 100 (endBody deepestLevel)) (only-here m at stop 103 inner g h entry near (λ a. eqb a 100) refl)) (aroundItem 98 (beginBody deepestLevel)) (only-here m at stop 103 inner g h entry near (λ a. eqb a 98) refl)) (aroundItem 97 (uniBody deepestLevel)) (only-here m at stop 103 inner g h entry near (λ a. eqb a 97) refl)
+
+-- The value of a message that is accepted
+
+module _ (m : List ℕ) (len : ℕ) (is : len ≡ length m) (some : 1 ≤ len) (short : len ≤ 255) (v : Message Text) (given : Gives (messageItem deepestLevel) m 0 len v) where
+  here : Then (λ a n. a ≡ v) (ask (front (level 16) FaultKind.NoMessage (messageItem deepestLevel)) true 0 m)
+  here =
+      let z : until len ≡ length m = omega (arith, is, short) in
+      then-front (λ a n. a ≡ v) (λ a n. a ≡ v) (messageItem deepestLevel) (messageItem deepestLevel) (level 1) (level 16) FaultKind.Another FaultKind.NoMessage (λ a. refl) true 0 m (λ h e. e) refl refl
+      (rw (z, lt-ltb len opening (omega (arith, short)), all-of-it m len is some short) at given)
+
+  first-value : Then (λ a n. a ≡ v) (readFirst deepestLevel (messageItem deepestLevel) m)
+  first-value = rw (first-is m len is some short) (then-check (messageItem deepestLevel .mine (getD m 0 0)) _ (λ t. rw (alone-is m) (then-next here (λ a n q. then-blamed (learnt a) (then-check (eqb n (length m)) _ (λ u. fact q))))))
+
+  pub accepted : (r : ℕ) → Answers m (locatedUpTo deepestLevel m) r → Near r → locatedUpTo deepestLevel m ≡ got v r
+  unfolding locatedUpTo
+  accepted r e f =
+      let z = placed-got (locatedUpTo deepestLevel m) 0 (length m) r (λ a n. a ≡ v) e f (then-check (leb (length m) 255) _ (λ t. first-value)) in
+      let whole : r - 0 ≡ r = omega arith in z .1 ∙ rw (z .2, whole)

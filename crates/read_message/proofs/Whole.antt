@@ -149,16 +149,16 @@ module _ (m : List ℕ) where
   plain-is : front (level 16) FaultKind.NoMessage kinds ≡ plain
   plain-is = ap (λ (g : Bool → Head → ℕ → List ℕ → Got (Message Text)). place (level 16) none (kinds .mine) FaultKind.NoMessage g) (fun-ext λ d. fun-ext λ h. fun-ext λ p. fun-ext λ part. blamed-same (kinds .contents h p part))
 
-  alone-is : ask (aloneBody deepestLevel kinds) true 0 m ≡ next (ask (front (level 16) FaultKind.NoMessage kinds) true 0 m) closing
+  pub alone-is : ask (aloneBody deepestLevel kinds) true 0 m ≡ next (ask (front (level 16) FaultKind.NoMessage kinds) true 0 m) closing
   alone-is =
       ask-onto plain none (λ d p part v n. blamed (learnt v) (check (eqb n (length part)) (at FaultKind.OctetsAfter (p + n)) (got v n))) true 0 m (λ e. missing-both plain _ true 0 m _)
       ∙ ap (λ (b : Body (Message Text)). next (ask b true 0 m) closing) (sym plain-is)
 
   module _ (len : ℕ) (is : len ≡ length m) (some : 1 ≤ len) (short : len ≤ 255) where
-    all-of-it : drop 0 (take (length m) m) ≡ m
+    pub all-of-it : drop 0 (take (length m) m) ≡ m
     all-of-it = take-all (length m) m (omega arith)
 
-    first-is : readFirst deepestLevel kinds m ≡ check (kinds .mine (getD m 0 0)) (at FaultKind.NoMessage 0) (ask (aloneBody deepestLevel kinds) true 0 m)
+    pub first-is : readFirst deepestLevel kinds m ≡ check (kinds .mine (getD m 0 0)) (at FaultKind.NoMessage 0) (ask (aloneBody deepestLevel kinds) true 0 m)
     unfolding readFirst
     first-is = go m is
       where
