@@ -1,0 +1,67 @@
+// The number of a fault, taken apart.
+ghost use mathlib.Core.Path.{_≡_};
+ghost use Rattle.read_fault.specs.Faults.{earlyKind, lateKind, kindFrom};
+use element::FaultKind;
+use read_place::OPEN;
+
+fn early_kind(block: usize) -> FaultKind
+    ensures { λ r. ⌜ r ≡ earlyKind block ⌝ }
+{
+    if block == 2 {
+        return FaultKind::CutOff;
+    }
+    if block == 3 {
+        return FaultKind::BadTag;
+    }
+    if block == 4 {
+        return FaultKind::BadLength;
+    }
+    if block == 5 {
+        return FaultKind::PassesEnd;
+    }
+    if block == 6 {
+        return FaultKind::TooDeep;
+    }
+    if block == 7 {
+        return FaultKind::CodeZero;
+    }
+    FaultKind::Overlong
+}
+
+fn late_kind(block: usize) -> FaultKind
+    ensures { λ r. ⌜ r ≡ lateKind block ⌝ }
+{
+    if block == 9 {
+        return FaultKind::NoMessage;
+    }
+    if block == 10 {
+        return FaultKind::OctetsAfter;
+    }
+    if block == 11 {
+        return FaultKind::Missing;
+    }
+    if block == 12 {
+        return FaultKind::Another;
+    }
+    if block == 13 {
+        return FaultKind::TooMany;
+    }
+    if block == 14 {
+        return FaultKind::BadContents;
+    }
+    if block == 15 {
+        return FaultKind::Seventeenth;
+    }
+    FaultKind::UnknownComponent
+}
+
+// The kind of a fault; its place is the number's rest by OPEN.
+pub fn kind_from(fault: usize) -> FaultKind
+    ensures { λ r. ⌜ r ≡ kindFrom fault ⌝ }
+{
+    let block = fault / OPEN;
+    if block <= 8 {
+        return early_kind(block);
+    }
+    late_kind(block)
+}
