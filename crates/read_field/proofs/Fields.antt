@@ -18,7 +18,7 @@ use lib.Seq.{drop-cons}
 use Rattle.base.specs.Value.{Every, same}
 use Rattle.primitive.specs.Primitive.{identifierOk, numbers, integerOk, integerOctets, signedOf}
 use Rattle.primitive.specs.Answers.{integerOf}
-use Rattle.primitive.proofs.Integers.{firstNine, fewest-test}
+use Rattle.primitive.proofs.Integers.{fewest-range}
 use Rattle.primitive.specs.declared.IntegerRead.{IntegerRead}
 use Rattle.tcap.specs.Meaning.{local, global}
 use Rattle.tcap.specs.Productions.{single?, octetItem, nameItem, codeItem}
@@ -68,8 +68,8 @@ unfolding constructorOf
 plain tag e = ne-eqb (tag / 32 % 2) 1 (λ z. omega (arith, e, z))
 
 one-octet : (x : ℕ) → x < 256 → integerOk 1 (x ∷ []) ≡ true
-unfolding integerOk Every firstNine
-one-octet x h = rw (fewest-test (x ∷ []) (h, tt) (omega arith) (omega arith))
+unfolding integerOk Every
+one-octet x h = rw (fewest-range (x ∷ []) (h, tt) (omega arith) (omega arith))
 
 pub single-sized : (most : ℕ) (c : List ℕ) → single? most c ≡ true → (1 ≤ length c) × (length c ≤ 1)
 unfolding single?
