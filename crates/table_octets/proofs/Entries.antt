@@ -124,7 +124,7 @@ abbrev pub Octet : List ℕ → Type 0
 Octet l = (i : ℕ) → Fits w8 (getD l i 0)
 
 module _ (c id : List ℕ) (h : Octet c) (k : Octet id) where
-  held-holds : heldIn c (wordOf id) (length id) ≡ holds id (entryOf c)
+  pub held-holds : heldIn c (wordOf id) (length id) ≡ holds id (entryOf c)
   unfolding heldIn holds sameId entryOf
   held-holds =
       rw
@@ -136,7 +136,7 @@ module _ (c id : List ℕ) (h : Octet c) (k : Octet id) where
       (eqb (getD c 1 0) (length id))
       (isOpen (stateIn (getD c 0 0))))
 
-dropped : (l : List ℕ) (n : ℕ) → Octet l → Octet (drop n l)
+pub dropped : (l : List ℕ) (n : ℕ) → Octet l → Octet (drop n l)
 dropped l n h i = rw getD-drop (h (n + i))
 
 pub held-at : (l id : List ℕ) (n : ℕ) {w : ℕ} {part : List ℕ} {b c : Bool} → Octet l → Octet id → w ≡ wordOf id → part ≡ drop n l → b ≡ heldIn part w (length id) → b ≡ c → holds id (entryOf (drop n l)) ≡ c

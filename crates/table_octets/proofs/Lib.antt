@@ -1,3 +1,5 @@
 pub mod Entries
+pub mod Walking
+pub mod Putting
 pub mod Numbers
 pub mod Promises

@@ -17,6 +17,7 @@ use Rattle.open_transactions.proofs.Doing.{deed-doable}
 use Rattle.table_octets.specs.declared.{Reply.Reply}
 use Rattle.table_octets.specs.Octets.{stateIn, stateOctet, eventIn, entryOf, entriesFrom, entriesIn, tableIn, entryOctets, blankOctets, octetsDone, replying, leaving, replyNumber, InTable}
 use Rattle.table_octets.proofs.Entries.{length-entries, entry-at}
+use Rattle.table_octets.proofs.Putting.{outside}
 use Rattle.table_octets.proofs.Numbers.{reply-room, Fields, taken-fields}
 
 -- All zeros is the empty table
@@ -32,19 +33,6 @@ unfolding entryOf
 same-entry a b h =
     rw
     (h 0 (omega arith), h 1 (omega arith), h 2 (omega arith), h 4 (omega arith), h 5 (omega arith), h 6 (omega arith), h 7 (omega arith), h 8 (omega arith), h 9 (omega arith), h 10 (omega arith), h 11 (omega arith))
-
--- octets outside those that are set stay
-outside : (xs l : List ℕ) (at m : ℕ) → ((m < at) ⊎ (at + length xs ≤ m)) → getD (sets l at xs) m 0 ≡ getD l m 0
-outside [] l at m h = refl
-outside (x ∷ xs) l at m h = outside xs (set l at x) (suc at) m (further h) ∙ getD-set-other l at m x 0 (λ e. apart h e)
-  where
-    further : ((m < at) ⊎ (at + suc (length xs) ≤ m)) → ((m < suc at) ⊎ (suc at + length xs ≤ m))
-    further (inl g) = inl (omega (arith, g))
-    further (inr g) = inr (omega (arith, g))
-
-    apart : ((m < at) ⊎ (at + suc (length xs) ≤ m)) → m ≡ at → ⊥
-    apart (inl g) e = omega (arith, g, e)
-    apart (inr g) e = omega (arith, g, e)
 
 side : (i j k : ℕ) → k < 12 → (j ≡ i → ⊥) → (j * 12 + k < i * 12) ⊎ (i * 12 + 12 ≤ j * 12 + k)
 side i j k h n = by-test (ltb j i) refl (ltb i j) refl

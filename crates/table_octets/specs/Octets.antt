@@ -1,8 +1,9 @@
 -- The table of open transactions as octets, in the layout of docs/LAYOUT.md: 64 entries of 12 octets. Assumes nothing: these are definitions.
-use Prim.Native.Nat.{ℕ, zero, suc, _+_, _*_, _<_}
-use mathlib.Core.{Bool.Bool, Bool.false, Bool.cond, List.List, List.[], List._∷_, List._++_}
+use Prim.Native.Nat.{ℕ, zero, suc, _+_, _*_, _/_, _%_, _<_}
+use mathlib.Core.Path.{_≡_}
+use mathlib.Core.{Bool.Bool, Bool.true, Bool.false, Bool.cond, List.List, List.[], List._∷_, List._++_}
 use lib.{ListN.set, ListN.length, ListN.getD, ListN.drop, ListN.replicate, Seq.sets, Dec.eqb, Dec.ltb}
-use Rattle.open_transactions.specs.Table.{capacity, isOpen, partnerOf, refusalNumber, toldBy, deedOf, takenOf}
+use Rattle.open_transactions.specs.Table.{capacity, isOpen, holds, partnerOf, refusalNumber, toldBy, deedOf, takenOf}
 use Rattle.open_transactions.specs.declared.{State.State, Event.Event, Entry.Entry, Table.Table, Deed.Deed, Taken.Taken}
 use Rattle.table_octets.specs.declared.{Reply.Reply}
 
@@ -111,3 +112,24 @@ wordOf id = wordFrom (getD id 0 0) (getD id 1 0) (getD id 2 0) (getD id 3 0)
 
 unfoldable pub heldIn : List ℕ → ℕ → ℕ → Bool
 heldIn c w n = cond (eqb (wordFrom (getD c 4 0) (getD c 5 0) (getD c 6 0) (getD c 7 0)) w) (cond (eqb (getD c 1 0) n) (isOpen (stateIn (getD c 0 0))) false) false
+
+-- how many of n entries stand before the first that is held: n if none is
+unfoldable pub passedIn : List ℕ → ℕ → ℕ → ℕ → ℕ
+passedIn c w n zero = 0
+passedIn c w n (suc k) = cond (heldIn c w n) 0 (suc (passedIn (drop 12 c) w n k))
+
+-- How it puts: four octets from one number, and a partner's ID beside ours, which stands there
+
+abbrev pub octetsOf : ℕ → List ℕ
+octetsOf w = w % 256 ∷ w / 256 % 256 ∷ w / 65536 % 256 ∷ w / 16777216 % 256 ∷ []
+
+abbrev pub partnerPut : List ℕ → ℕ → List ℕ → List ℕ → List ℕ
+partnerPut l at o p = sets (sets l at (3 ∷ length o ∷ length p ∷ 0 ∷ [])) (at + 8) (fourOf p)
+
+abbrev pub Known : List ℕ → List ℕ → Deed → Type 0
+Known l o (Deed.Refused k) = Unit {0}
+Known l o (Deed.Opens i s) = Unit {0}
+Known l o (Deed.Keeps i) = Unit {0}
+Known l o (Deed.Activates i) = Unit {0}
+Known l o (Deed.Learns i) = holds o (entryOf (drop (i * 12) l)) ≡ true
+Known l o (Deed.Closes i) = Unit {0}

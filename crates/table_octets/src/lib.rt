@@ -5,7 +5,7 @@ ghost use Prim.Native.Nat.{_+_, _*_, _≤_, _<_};
 ghost use lib.ListN.{length, getD, drop};
 ghost use Rattle.base.specs.Put.{Put};
 ghost use Rattle.open_transactions.specs.Table.{isOpen, holds, refusalNumber, isFree, findFrom, beginsOf, beginDeed, otherDeed, foundDeed, deedOf, takenOf, Inside, Doable};
-ghost use Rattle.table_octets.specs.Octets.{tableSize, stateIn, stateOctet, eventIn, wordFrom, heldIn, fourOf, entryOctets, blankOctets, entriesIn, octetsDone, replying, leaving, doneNumber, takenNumber, replyNumber, InTable};
+ghost use Rattle.table_octets.specs.Octets.{tableSize, stateIn, stateOctet, eventIn, wordFrom, heldIn, wordOf, passedIn, octetsOf, fourOf, entryOctets, partnerPut, blankOctets, entriesIn, octetsDone, replying, leaving, doneNumber, takenNumber, replyNumber, InTable, Known};
 use base::after;
 use base::wide;
 use open_transactions::Begins;
@@ -120,24 +120,71 @@ fn holds_in(entry: &[u8], word: usize, len: usize) -> bool
     is_open(state_in(entry[0]))
 }
 
+// How many of four entries stand before the first under an ID; 4 if none is.
+fn passed_four(part: &[u8], word: usize, len: usize) -> usize
+    requires { ⌜ 48 ≤ length (now part) ⌝ }
+    ensures { λ r. ⌜ r ≡ passedIn (now (part .entry)) word len 4 ⌝ }
+{
+    if holds_in(part, word, len) {
+        return 0;
+    }
+    let second = after(part, ENTRY_SIZE);
+    if holds_in(second, word, len) {
+        return 1;
+    }
+    let third = after(second, ENTRY_SIZE);
+    if holds_in(third, word, len) {
+        return 2;
+    }
+    let fourth = after(third, ENTRY_SIZE);
+    if holds_in(fourth, word, len) {
+        return 3;
+    }
+    4
+}
+
+// The same of eight: the walk asks once for eight entries whether it is at its end.
+fn passed_eight(part: &[u8], word: usize, len: usize) -> usize
+    requires { ⌜ 96 ≤ length (now part) ⌝ }
+    ensures { λ r. ⌜ r ≡ passedIn (now (part .entry)) word len 8 ⌝ }
+{
+    let passed = passed_four(part, word, len);
+    if passed < 4 {
+        return passed;
+    }
+    let rest = after(part, 48);
+    4 + passed_four(rest, word, len)
+}
+
+// An ID's four octets as one number; of four octets they are read at once.
+fn id_word(id: &[u8]) -> usize
+    ensures { λ r. ⌜ r ≡ wordOf (now (id .entry)) ⌝ }
+{
+    if id.len() == 4 {
+        return word_of(id[0], id[1], id[2], id[3]);
+    }
+    word_of(
+        octet_at(id, 0),
+        octet_at(id, 1),
+        octet_at(id, 2),
+        octet_at(id, 3),
+    )
+}
+
 // The first open entry under an ID.
 fn find_in(table: &[u8], id: &[u8]) -> Room
     requires { ⌜ tableSize ≤ length (now table) ⌝ }
     ensures { λ r. ⌜ r ≡ findFrom (holds (now (id .entry))) 0 (entriesIn (now (table .entry))) ⌝ }
 {
-    let word = word_of(
-        octet_at(id, 0),
-        octet_at(id, 1),
-        octet_at(id, 2),
-        octet_at(id, 3),
-    );
+    let word = id_word(id);
     let mut i: usize = 0;
     while i < ENTRIES {
-        let entry = after(table, i * ENTRY_SIZE);
-        if holds_in(entry, word, id.len()) {
-            return Room::At(i);
+        let part = after(table, i * ENTRY_SIZE);
+        let passed = passed_eight(part, word, id.len());
+        if passed < 8 {
+            return Room::At(i + passed);
         }
-        i += 1;
+        i += 8;
     }
     Room::Nowhere
 }
@@ -202,19 +249,27 @@ fn choose_other(table: &[u8], event: Event, found: Room) -> Deed
     }
 }
 
+// A number of four octets, the least significant first, and the place after it.
+fn put_word(out: &mut [u8], at: usize, word: usize) -> usize
+    requires { ⌜ at + 4 ≤ length (now out) ⌝ }
+    ensures { λ r. ⌜ Put (now (out .entry)) at (octetsOf word) r (now (out .exit)) ⌝ }
+{
+    put_four(
+        out,
+        at,
+        (word % 256) as u8,
+        (word / 256 % 256) as u8,
+        (word / 65536 % 256) as u8,
+        (word / 16777216 % 256) as u8,
+    )
+}
+
 // An ID in four octets, and the place after it.
 fn put_id(out: &mut [u8], at: usize, id: &[u8]) -> usize
     requires { ⌜ at + 4 ≤ length (now out) ⌝ }
     ensures { λ r. ⌜ Put (now (out .entry)) at (fourOf (now (id .entry))) r (now (out .exit)) ⌝ }
 {
-    put_four(
-        out,
-        at,
-        octet_at(id, 0),
-        octet_at(id, 1),
-        octet_at(id, 2),
-        octet_at(id, 3),
-    )
+    put_word(out, at, id_word(id))
 }
 
 // An entry, and the place after it.
@@ -235,6 +290,16 @@ fn put_entry(out: &mut [u8], at: usize, state: State, ours: &[u8], partner: &[u8
     put_id(out, second, partner)
 }
 
+// Active, with the partner's ID: ours stands there and is not put again.
+fn put_partner(out: &mut [u8], at: usize, ours: &[u8], partner: &[u8])
+    requires { ⌜ at + 12 ≤ length (now out) ⌝ }
+    requires { ⌜ (length (now ours) < 5) × (length (now partner) < 5) ⌝ }
+    ensures { λ r. ⌜ now (out .exit) ≡ partnerPut (now (out .entry)) at (now (ours .entry)) (now (partner .entry)) ⌝ }
+{
+    put_four(out, at, 3, ours.len() as u8, partner.len() as u8, 0);
+    put_id(out, at + 8, partner);
+}
+
 fn put_blank(out: &mut [u8], at: usize) -> usize
     requires { ⌜ at + 12 ≤ length (now out) ⌝ }
     ensures { λ r. ⌜ Put (now (out .entry)) at blankOctets r (now (out .exit)) ⌝ }
@@ -246,6 +311,7 @@ fn put_blank(out: &mut [u8], at: usize) -> usize
 
 fn carry_out_in(table: &mut [u8], deed: Deed, ours: &[u8], partner: &[u8]) -> Taken
     requires { ⌜ (tableSize ≤ length (now table)) × Doable (now ours) (now partner) deed ⌝ }
+    requires { ⌜ Known (now table) (now ours) deed ⌝ }
     ensures { λ r. ⌜ (r ≡ takenOf deed) × (now (table .exit) ≡ octetsDone (now (table .entry)) (now (ours .entry)) (now (partner .entry)) deed) ⌝ }
 {
     let taken = taken_of(deed);
@@ -261,7 +327,7 @@ fn carry_out_in(table: &mut [u8], deed: Deed, ours: &[u8], partner: &[u8]) -> Ta
             taken
         }
         Deed::Learns(room) => {
-            put_entry(table, room * ENTRY_SIZE, State::Active, ours, partner);
+            put_partner(table, room * ENTRY_SIZE, ours, partner);
             taken
         }
         Deed::Closes(room) => {
@@ -280,8 +346,8 @@ pub fn step_octets(table: &mut [u8], number: u8, ours: &[u8], partner: &[u8]) ->
         return Reply::NoRoom;
     }
     let event = event_in(number);
-    let deed = choose_in(table, event, ours, partner);
     let told = told_by(event, partner);
+    let deed = choose_in(table, event, ours, partner);
     let taken = carry_out_in(table, deed, ours, told);
     Reply::Answer(taken)
 }

@@ -2,6 +2,7 @@
 use native.Mathlib.Omega.{arith}
 use Rattle.open_transactions.proofs.Doing.{opens-kept, activates-kept, learns-kept, closes-kept}
 use Rattle.table_octets.specs.Octets.{octetsDone}
+use Rattle.table_octets.proofs.Putting.{learns-done}
 use borrow.Author.Needs.{needs}
 use Rattle.table_octets.proofs.carry_out_in.Statement.{statement}
 use Rattle.table_octets.proofs.carry_out_in.Tie as tie
@@ -16,10 +17,10 @@ enum-known-deed : tie.Need-enum-known-deed
 enum-known-deed c = search needs
 
 mul-put-entry : tie.Need-mul-put-entry
-mul-put-entry c = let k = opens-kept _ _ _ _ _ (c .before .before .deed .given .1) (c .before .before .before .before .before .before .before .before .pre .1) in omega (arith, k .inside)
+mul-put-entry c = let k = opens-kept _ _ _ _ _ (c .before .before .deed .given .1) (c .before .before .before .before .before .before .before .before .pre .0 .1) in omega (arith, k .inside)
 
 put-entry-requires : tie.Need-put-entry-requires
-put-entry-requires c κs = let k = opens-kept _ _ _ _ _ (c .before .before .deed .given .1) (c .before .before .before .before .before .before .before .before .pre .1) in (omega (arith, k .inside), (k .ours, k .partner))
+put-entry-requires c κs = let k = opens-kept _ _ _ _ _ (c .before .before .deed .given .1) (c .before .before .before .before .before .before .before .before .pre .0 .1) in (omega (arith, k .inside), (k .ours, k .partner))
 
 enum-told-2 : tie.Need-enum-told-2
 enum-told-2 c = search needs
@@ -28,28 +29,28 @@ enum-known-deed-2 : tie.Need-enum-known-deed-2
 enum-known-deed-2 c = search needs
 
 mul-table : tie.Need-mul-table
-mul-table c = let k = activates-kept _ _ _ _ (c .before .deed2 .given .1) (c .before .before .before .before .before .before .before .pre .1) in omega (arith, k .inside)
+mul-table c = let k = activates-kept _ _ _ _ (c .before .deed2 .given .1) (c .before .before .before .before .before .before .before .pre .0 .1) in omega (arith, k .inside)
 
 slice-write-table : tie.Need-slice-write-table
-slice-write-table c = let k = activates-kept _ _ _ _ (c .before .deed2 .given .1) (c .before .before .before .before .before .before .before .pre .1) in omega (arith, k .inside)
+slice-write-table c = let k = activates-kept _ _ _ _ (c .before .deed2 .given .1) (c .before .before .before .before .before .before .before .pre .0 .1) in omega (arith, k .inside)
 
 enum-known-deed-3 : tie.Need-enum-known-deed-3
 enum-known-deed-3 c = search needs
 
-mul-put-entry-2 : tie.Need-mul-put-entry-2
-mul-put-entry-2 c = let k = learns-kept _ _ _ _ (c .before .before .deed3 .given .1) (c .before .before .before .before .before .before .before .before .pre .1) in omega (arith, k .inside)
+mul-put-partner : tie.Need-mul-put-partner
+mul-put-partner c = let k = learns-kept _ _ _ _ (c .before .before .deed3 .given .1) (c .before .before .before .before .before .before .before .before .pre .0 .1) in omega (arith, k .inside)
 
-put-entry-requires-2 : tie.Need-put-entry-requires-2
-put-entry-requires-2 c κs = let k = learns-kept _ _ _ _ (c .before .before .deed3 .given .1) (c .before .before .before .before .before .before .before .before .pre .1) in (omega (arith, k .inside), (k .ours, k .partner))
+put-partner-requires : tie.Need-put-partner-requires
+put-partner-requires c κs = let k = learns-kept _ _ _ _ (c .before .before .deed3 .given .1) (c .before .before .before .before .before .before .before .before .pre .0 .1) in (omega (arith, k .inside), (k .ours, k .partner))
 
 enum-known-deed-4 : tie.Need-enum-known-deed-4
 enum-known-deed-4 c = search needs
 
 mul-put-blank : tie.Need-mul-put-blank
-mul-put-blank c = let k = closes-kept _ _ _ _ (c .before .before .deed4 .given .1) (c .before .before .before .before .before .before .before .before .pre .1) in omega (arith, k .inside)
+mul-put-blank c = let k = closes-kept _ _ _ _ (c .before .before .deed4 .given .1) (c .before .before .before .before .before .before .before .before .pre .0 .1) in omega (arith, k .inside)
 
 put-blank-requires : tie.Need-put-blank-requires
-put-blank-requires c κs = let k = closes-kept _ _ _ _ (c .before .before .deed4 .given .1) (c .before .before .before .before .before .before .before .before .pre .1) in omega (arith, k .inside)
+put-blank-requires c κs = let k = closes-kept _ _ _ _ (c .before .before .deed4 .given .1) (c .before .before .before .before .before .before .before .before .pre .0 .1) in omega (arith, k .inside)
 
 returns : tie.Need-returns
 unfolding octetsDone
@@ -77,8 +78,7 @@ same-length-3 : tie.Need-same-length-3
 same-length-3 c = search needs
 
 returns-5 : tie.Need-returns-5
-unfolding octetsDone
-returns-5 c = (c .before .before .before .before .before .before .before .taken-of .ensures, rw (c .before .before .before .before .before .deed3 .given .1) (c .before .before .put-entry2 .ensures .holds))
+returns-5 c = (c .before .before .before .before .before .before .before .taken-of .ensures, learns-done _ _ _ _ _ (c .before .before .before .before .before .deed3 .given .1) (c .before .before .before .before .before .before .before .before .before .before .before .pre .1) (c .before .before .put-partner .ensures))
 
 same-length-4 : tie.Need-same-length-4
 same-length-4 c = search needs
@@ -101,8 +101,8 @@ carry-out-in-spec =
     mul-table
     slice-write-table
     enum-known-deed-3
-    mul-put-entry-2
-    put-entry-requires-2
+    mul-put-partner
+    put-partner-requires
     enum-known-deed-4
     mul-put-blank
     put-blank-requires

@@ -1,0 +1,112 @@
+-- The entries that stand before the first under an ID, and what a walk over them finds. Assumes nothing.
+use Prim.Native.Nat.{ℕ, zero, suc, _+_, _*_, _<_, _≤_}
+use native.Mathlib.Omega.{arith}
+use native.Mathlib.Nat.{add-zero}
+use mathlib.Core.Path.{_≡_, refl, sym, ap, _∙_}
+use mathlib.Core.Bool.{Bool, true, false}
+use mathlib.Core.List.{List}
+use lib.ListN.{length, drop, length-drop}
+use lib.Seq.{drop-drop}
+use Rattle.open_transactions.specs.declared.{Room.Room}
+use Rattle.open_transactions.specs.Table.{holds, findFrom}
+use Rattle.table_octets.specs.Octets.{entryOf, entriesIn, wordOf, heldIn, passedIn}
+use Rattle.table_octets.proofs.Entries.{Octet, at-here, at-next, held-holds, dropped}
+
+-- what is left behind an entry
+pub one-less : (l m : List ℕ) (n : ℕ) → m ≡ drop 12 l → n + 12 ≤ length l → n ≤ length m
+one-less l m n e h = rw e (simp length-drop (omega (arith, h)))
+
+-- Twice four are eight
+
+module _ (w n : ℕ) where
+  pub passed-most : (c : List ℕ) (k : ℕ) → passedIn c w n k ≤ k
+  unfolding passedIn
+  passed-most c zero = omega arith
+  passed-most c (suc k) = by-held (heldIn c w n) refl (passed-most (drop 12 c) k)
+    where
+      by-held : (b : Bool) → heldIn c w n ≡ b → passedIn (drop 12 c) w n k ≤ k → passedIn c w n (suc k) ≤ suc k
+      by-held true e h = rw e (omega arith)
+      by-held false e h = rw e (omega (arith, h))
+
+  short : (c : List ℕ) (a b : ℕ) → passedIn c w n a < a → passedIn c w n (a + b) ≡ passedIn c w n a
+  unfolding passedIn
+  short c zero b h = absurd (omega (arith, h))
+  short c (suc a) b h = by-held (heldIn c w n) refl (short (drop 12 c) a b)
+    where
+      by-held : (t : Bool) → heldIn c w n ≡ t → (passedIn (drop 12 c) w n a < a → passedIn (drop 12 c) w n (a + b) ≡ passedIn (drop 12 c) w n a) → passedIn c w n (suc a + b) ≡ passedIn c w n (suc a)
+      by-held true e s = let z : suc a + b ≡ suc (a + b) = omega arith in rw (z, e)
+      by-held false e s =
+          let g : suc (passedIn (drop 12 c) w n a) < suc a = rw e at h in
+          let z : suc a + b ≡ suc (a + b) = omega arith in
+          rw (z, e) (ap suc (s (omega (arith, g))))
+
+  long : (c : List ℕ) (a b : ℕ) → a ≤ passedIn c w n a → passedIn c w n (a + b) ≡ a + passedIn (drop (a * 12) c) w n b
+  unfolding passedIn
+  long c zero b h = let z : 0 + b ≡ b = omega arith in let y : 0 + passedIn c w n b ≡ passedIn c w n b = omega arith in rw (z, y)
+  long c (suc a) b h = by-held (heldIn c w n) refl (long (drop 12 c) a b)
+    where
+      by-held : (t : Bool) → heldIn c w n ≡ t → (a ≤ passedIn (drop 12 c) w n a → passedIn (drop 12 c) w n (a + b) ≡ a + passedIn (drop (a * 12) (drop 12 c)) w n b) → passedIn c w n (suc a + b) ≡ suc a + passedIn (drop (suc a * 12) c) w n b
+      by-held true e s = let g : suc a ≤ 0 = rw e at h in absurd (omega (arith, g))
+      by-held false e s =
+          let g : suc a ≤ suc (passedIn (drop 12 c) w n a) = rw e at h in
+          let z : drop (a * 12) (drop 12 c) ≡ drop (suc a * 12) c = drop-drop (a * 12) 12 c ∙ (let q : 12 + a * 12 ≡ suc a * 12 = omega arith in rw q) in
+          let y : suc a + b ≡ suc (a + b) = omega arith in
+          let x : suc a + passedIn (drop (suc a * 12) c) w n b ≡ suc (a + passedIn (drop (suc a * 12) c) w n b) = omega arith in
+          rw (y, x, e) (ap suc (s (omega (arith, g)) ∙ rw z))
+
+  pub eight-short : (c : List ℕ) {r : ℕ} → r ≡ passedIn c w n 4 → r < 4 → r ≡ passedIn c w n 8
+  eight-short c q h = q ∙ sym (short c 4 4 (rw q at h))
+
+  pub eight-long : (c : List ℕ) {r s : ℕ} {part : List ℕ} → r ≡ passedIn c w n 4 → 4 ≤ r → part ≡ drop 48 c → s ≡ passedIn part w n 4 → 4 + s ≡ passedIn c w n 8
+  eight-long c q h e f = rw (f, e) (sym (long c 4 4 (rw q at h)))
+
+-- What the walk finds
+
+module _ (l id : List ℕ) (h : Octet l) (k : Octet id) where
+  abbrev passed : ℕ → ℕ → ℕ
+  passed i n = passedIn (drop (i * 12) l) (wordOf id) (length id) n
+
+  held : (i : ℕ) {b : Bool} → heldIn (drop (i * 12) l) (wordOf id) (length id) ≡ b → holds id (entryOf (drop (i * 12) l)) ≡ b
+  held i e = sym (held-holds (drop (i * 12) l) id (dropped l (i * 12) h) k) ∙ e
+
+  further : (i n : ℕ) → heldIn (drop (i * 12) l) (wordOf id) (length id) ≡ false → passed i (suc n) ≡ suc (passed (i + 1) n)
+  unfolding passedIn
+  further i n e =
+      let q : i * 12 + 12 ≡ (i + 1) * 12 = omega arith in
+      let z : drop 12 (drop (i * 12) l) ≡ drop ((i + 1) * 12) l = drop-drop 12 (i * 12) l ∙ rw q in
+      rw (e, z)
+
+  walk-here : (n i : ℕ) → i + n ≤ 64 → passed i n < n → findFrom (holds id) i (drop i (entriesIn l)) ≡ Room.At (i + passed i n)
+  unfolding passedIn
+  walk-here zero i s t = absurd (omega (arith, t))
+  walk-here (suc n) i s t = by-held (heldIn (drop (i * 12) l) (wordOf id) (length id)) refl (walk-here n (i + 1))
+    where
+      by-held : (b : Bool) → heldIn (drop (i * 12) l) (wordOf id) (length id) ≡ b → (i + 1 + n ≤ 64 → passed (i + 1) n < n → findFrom (holds id) (i + 1) (drop (i + 1) (entriesIn l)) ≡ Room.At (i + 1 + passed (i + 1) n)) → findFrom (holds id) i (drop i (entriesIn l)) ≡ Room.At (i + passed i (suc n))
+      by-held true e r = rw (e, add-zero) (at-here (holds id) l i (omega (arith, s)) (held i e))
+      by-held false e r =
+          let q = further i n e in
+          let z : i + 1 + passed (i + 1) n ≡ i + passed i (suc n) = omega (arith, q) in
+          at-next (holds id) l i (omega (arith, s)) (held i e) ∙ r (omega (arith, s)) (omega (arith, t, q)) ∙ ap Room.At z
+
+  walk-past : (n i : ℕ) → i + n ≤ 64 → n ≤ passed i n → findFrom (holds id) i (drop i (entriesIn l)) ≡ findFrom (holds id) (i + n) (drop (i + n) (entriesIn l))
+  unfolding passedIn
+  walk-past zero i s t = rw add-zero
+  walk-past (suc n) i s t = by-held (heldIn (drop (i * 12) l) (wordOf id) (length id)) refl (walk-past n (i + 1))
+    where
+      by-held : (b : Bool) → heldIn (drop (i * 12) l) (wordOf id) (length id) ≡ b → (i + 1 + n ≤ 64 → n ≤ passed (i + 1) n → findFrom (holds id) (i + 1) (drop (i + 1) (entriesIn l)) ≡ findFrom (holds id) (i + 1 + n) (drop (i + 1 + n) (entriesIn l))) → findFrom (holds id) i (drop i (entriesIn l)) ≡ findFrom (holds id) (i + suc n) (drop (i + suc n) (entriesIn l))
+      by-held true e r = let g : suc n ≤ 0 = rw e at t in absurd (omega (arith, g))
+      by-held false e r =
+          let q = further i n e in
+          let z : i + 1 + n ≡ i + suc n = omega arith in
+          at-next (holds id) l i (omega (arith, s)) (held i e) ∙ r (omega (arith, s)) (omega (arith, t, q)) ∙ rw z
+
+-- the same of what the code has: eight entries from one on
+module _ (l id : List ℕ) (i : ℕ) {w r : ℕ} {part : List ℕ} (h : Octet l) (k : Octet id) (s : i + 8 ≤ 64) (q : w ≡ wordOf id) (e : part ≡ drop (i * 12) l) (p : r ≡ passedIn part w (length id) 8) where
+  told : r ≡ passedIn (drop (i * 12) l) (wordOf id) (length id) 8
+  told = p ∙ rw (q, e)
+
+  pub walk-found : r < 8 → findFrom (holds id) i (drop i (entriesIn l)) ≡ Room.At (i + r)
+  walk-found t = rw told (walk-here l id h k 8 i s (omega (arith, t, told)))
+
+  pub walk-on : 8 ≤ r → findFrom (holds id) i (drop i (entriesIn l)) ≡ findFrom (holds id) (i + 8) (drop (i + 8) (entriesIn l))
+  walk-on t = walk-past l id h k 8 i s (omega (arith, t, told))

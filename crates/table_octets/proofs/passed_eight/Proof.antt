@@ -1,0 +1,36 @@
+-- Four, then four more. Assumes nothing.
+use native.Mathlib.Omega.{arith}
+use lib.ListN.{length-drop}
+use Rattle.table_octets.proofs.Walking.{passed-most, eight-short, eight-long}
+use borrow.Author.Needs.{needs}
+use Rattle.table_octets.proofs.passed_eight.Statement.{statement}
+use Rattle.table_octets.proofs.passed_eight.Tie as tie
+
+passed-four-requires : tie.Need-passed-four-requires
+passed-four-requires c κs = search needs
+
+returns : tie.Need-returns
+returns c = eight-short _ _ _ (c .before .passed-four .ensures) (c .if1 .taken)
+
+after-requires : tie.Need-after-requires
+after-requires c κs = search needs
+
+passed-four-requires-2 : tie.Need-passed-four-requires-2
+passed-four-requires-2 c κs = rw (c .after .ensures) (simp length-drop (omega arith))
+
+add-result : tie.Need-add-result
+add-result c = let h = passed-most (c .before .before .before .before .before .args .word) (c .before .before .before .before .before .args .len) (c .before .after .result .now) 4 in omega (arith, c .passed-four2 .ensures, h)
+
+returns-2 : tie.Need-returns-2
+returns-2 c = eight-long _ _ _ (c .before .before .before .passed-four .ensures) (c .before .before .if1 .left) (c .before .after .ensures) (c .passed-four2 .ensures)
+
+pub passed-eight-spec : {M : Type 1} → statement M
+passed-eight-spec =
+    tie.close
+    (tie.spec
+    passed-four-requires
+    returns
+    after-requires
+    passed-four-requires-2
+    add-result
+    returns-2)
