@@ -7,7 +7,8 @@ use mathlib.Core.Bool.{Bool, true, false, cond, not}
 use mathlib.Core.List.{List, [], _∷_}
 use lib.ListN.{length, getD, set}
 use lib.Seq.{getD-set-other}
-use Rattle.open_transactions.specs.declared.{Entry.Entry, Room.Room}
+use Rattle.transaction_states.specs.declared.{Room.Room}
+use Rattle.open_transactions.specs.declared.{Entry.Entry}
 use Rattle.open_transactions.specs.Table.{blankEntry, findFrom}
 use Rattle.open_transactions.specs.History.{one, countIn, knownAt}
 

@@ -8,8 +8,10 @@ use lib.ListN.{length, getD}
 use lib.Dec.{leb}
 use borrow.Author.Tests.{leb-true}
 use Rattle.tcap.specs.WellFormed.{idOk}
-use Rattle.open_transactions.specs.declared.{State.State, Event.Event, Move.Move, Entry.Entry, Room.Room, Table.Table, Begins.Begins, Deed.Deed, Taken.Taken}
-use Rattle.open_transactions.specs.Table.{blankEntry, holds, isFree, findFrom, moveOf, beginsOf, tells, toldBy, idsOk, opening, moving, beginDeed, otherDeed, foundDeed, deedOf, takenOf, withEntry, activeNow, done, outcome, Inside, Kept, Doable}
+use Rattle.transaction_states.specs.declared.{State.State, Event.Event, Move.Move, Room.Room, Begins.Begins, Deed.Deed, Taken.Taken}
+use Rattle.open_transactions.specs.declared.{Entry.Entry, Table.Table}
+use Rattle.transaction_states.specs.Events.{moveOf, beginsOf, tells, toldBy, idsOk, opening, moving, takenOf}
+use Rattle.open_transactions.specs.Table.{blankEntry, holds, isFree, findFrom, beginDeed, otherDeed, foundDeed, deedOf, withEntry, activeNow, done, outcome, Inside, Kept, Doable}
 use Rattle.open_transactions.proofs.Finding.{found-below, same-entry, pastEntry}
 
 -- the room of a find

@@ -7,7 +7,8 @@ use mathlib.Core.List.{List, [], _∷_}
 use lib.ListN.{length, drop, getD, drop-of-length-le}
 use lib.Seq.{drop-cons}
 use Rattle.tcap.specs.declared.{OptionalDest.OptionalDest}
-use Rattle.open_transactions.specs.declared.{State.State, Entry.Entry, Room.Room}
+use Rattle.transaction_states.specs.declared.{State.State, Room.Room}
+use Rattle.open_transactions.specs.declared.{Entry.Entry}
 use Rattle.open_transactions.specs.Table.{blankEntry, findFrom}
 
 module _ (t : Entry → Bool) (all : List Entry) (i : ℕ) (d : Entry) where

@@ -8,8 +8,10 @@ use lib.ListN.{length, getD, set, replicate, length-set}
 use lib.Seq.{getD-set-same, getD-set-other}
 use lib.Dec.{eqb}
 use borrow.Author.Tests.{eqb-true, eqb-false}
-use Rattle.open_transactions.specs.declared.{State.State, Event.Event, Move.Move, Entry.Entry, Table.Table, Room.Room, TableRefusal.TableRefusal, Begins.Begins, Deed.Deed, Taken.Taken}
-use Rattle.open_transactions.specs.Table.{blankEntry, emptyTable, isOpen, isFree, holds, findFrom, entryFor, activeNow, moveOf, beginsOf, toldBy, idsOk, opening, moving, beginDeed, otherDeed, foundDeed, deedOf, takenOf, done, stepped}
+use Rattle.transaction_states.specs.declared.{State.State, Event.Event, Move.Move, Room.Room, TableRefusal.TableRefusal, Begins.Begins, Deed.Deed, Taken.Taken}
+use Rattle.open_transactions.specs.declared.{Entry.Entry, Table.Table}
+use Rattle.transaction_states.specs.Events.{isOpen, moveOf, beginsOf, toldBy, idsOk, opening, moving, takenOf}
+use Rattle.open_transactions.specs.Table.{blankEntry, emptyTable, isFree, holds, findFrom, entryFor, activeNow, beginDeed, otherDeed, foundDeed, deedOf, done, stepped}
 use Rattle.open_transactions.specs.History.{one, countIn, isOpenEntry, isOpened, isClosed, knownAt}
 use Rattle.open_transactions.proofs.Doing.{ids-short}
 use Rattle.open_transactions.proofs.Counting.{first-of, set-count, none-count, known-stays}

@@ -8,8 +8,10 @@ use lib.ListN.{length, getD, take, drop}
 use lib.Seq.{ext-getD}
 use lib.Dec.{eqb}
 use borrow.Author.Tests.{eqb-true, eq-eqb}
-use Rattle.open_transactions.specs.declared.{State.State, Entry.Entry}
-use Rattle.open_transactions.specs.Table.{blankEntry, isOpen, isFree, sameId, holds, partnerOf, entryFor, activeNow}
+use Rattle.transaction_states.specs.declared.{State.State}
+use Rattle.open_transactions.specs.declared.{Entry.Entry}
+use Rattle.transaction_states.specs.Events.{isOpen}
+use Rattle.open_transactions.specs.Table.{blankEntry, isFree, sameId, holds, partnerOf, entryFor, activeNow}
 use Rattle.open_transactions.specs.History.{partnerIn, given}
 
 -- two tests that both hold

@@ -10,9 +10,11 @@ use lib.ListN.{length, getD, set}
 use lib.Seq.{getD-set-same}
 use lib.Dec.{eqb}
 use borrow.Author.Tests.{eq-eqb, ne-eqb}
-use Rattle.open_transactions.specs.declared.{State.State, Event.Event, Move.Move, Entry.Entry, Table.Table, Room.Room, TableRefusal.TableRefusal, Begins.Begins, Deed.Deed}
+use Rattle.transaction_states.specs.declared.{State.State, Event.Event, Move.Move, Room.Room, TableRefusal.TableRefusal, Begins.Begins, Deed.Deed}
+use Rattle.open_transactions.specs.declared.{Entry.Entry, Table.Table}
 use Rattle.tcap.specs.WellFormed.{idOk}
-use Rattle.open_transactions.specs.Table.{blankEntry, isOpen, isFree, holds, findFrom, entryFor, activeNow, refusalNumber, moveOf, beginsOf, toldBy, idsOk, opening, moving, beginDeed, otherDeed, foundDeed, deedOf, takenOf, withEntry, done, stepped}
+use Rattle.transaction_states.specs.Events.{isOpen, moveOf, beginsOf, toldBy, idsOk, opening, moving, takenOf}
+use Rattle.open_transactions.specs.Table.{blankEntry, isFree, holds, findFrom, entryFor, activeNow, refusalNumber, beginDeed, otherDeed, foundDeed, deedOf, withEntry, done, stepped}
 use Rattle.open_transactions.specs.History.{one, countIn, isOpenEntry, openIn, Known, knownEntry, knownAt, knownOf, Answer, refused, opened, kept, closed, answerOf, given, pageMoves, pageOpens, pageKnows, pageSays}
 use Rattle.open_transactions.proofs.Doing.{ids-short}
 use Rattle.open_transactions.proofs.Counting.{first-of, set-count, none-count, count-none, passes-counted, set-found, count-both, Late}

@@ -9,8 +9,10 @@ use mathlib.Core.Option.{Option, none}
 use lib.ListN.{getD, replicate}
 use lib.Dec.{eqb}
 use borrow.Author.Tests.{eq-eqb, eqb-true}
-use Rattle.open_transactions.specs.declared.{Event.Event, Entry.Entry, Table.Table, Room.Room, TableRefusal.TableRefusal, Deed.Deed, Taken.Taken}
-use Rattle.open_transactions.specs.Table.{blankEntry, emptyTable, isFree, holds, findFrom, beginsOf, toldBy, idsOk, deedOf, takenOf, done, stepped}
+use Rattle.transaction_states.specs.declared.{Event.Event, Room.Room, TableRefusal.TableRefusal, Deed.Deed, Taken.Taken}
+use Rattle.open_transactions.specs.declared.{Entry.Entry, Table.Table}
+use Rattle.transaction_states.specs.Events.{beginsOf, toldBy, idsOk, takenOf}
+use Rattle.open_transactions.specs.Table.{blankEntry, emptyTable, isFree, holds, findFrom, deedOf, done, stepped}
 use Rattle.open_transactions.specs.History.{Happening, after, tableFrom, reached, one, countIn, isOpenEntry, openIn, isOpened, isClosed, takenStatus, howMany, Known, knownOf, Answer, answerOf, pageSays}
 use Rattle.open_transactions.proofs.Counting.{first-of, only-one, set-found, count-both}
 use Rattle.open_transactions.proofs.Holding.{oursIn}

@@ -3,8 +3,10 @@ use Prim.Native.Nat.{ℕ, _+_}
 use mathlib.Core.{Bool.Bool, Bool.true, Bool.false, Bool.cond, List.List, List.[], List._∷_, Option.Option, Option.none, Option.some}
 use lib.{ListN.getD, ListN.take, ListN.drop}
 use Rattle.tcap.specs.declared.OptionalDest.{OptionalDest}
-use Rattle.open_transactions.specs.declared.{State.State, Event.Event, Move.Move, Entry.Entry, Table.Table, Room.Room, TableRefusal.TableRefusal, Begins.Begins, Taken.Taken, Stepped.Stepped}
-use Rattle.open_transactions.specs.Table.{blankEntry, emptyTable, isOpen, holds, findFrom, refusalNumber, moveOf, beginsOf, toldBy, idsOk, stepped}
+use Rattle.transaction_states.specs.declared.{State.State, Event.Event, Move.Move, Room.Room, TableRefusal.TableRefusal, Begins.Begins, Taken.Taken}
+use Rattle.open_transactions.specs.declared.{Entry.Entry, Table.Table, Stepped.Stepped}
+use Rattle.transaction_states.specs.Events.{isOpen, moveOf, beginsOf, toldBy, idsOk}
+use Rattle.open_transactions.specs.Table.{blankEntry, emptyTable, holds, findFrom, refusalNumber, stepped}
 
 -- A history: events from the first to the last, with the IDs that they name
 

@@ -11,8 +11,10 @@ use lib.Dec.{eqb}
 use mir.Syntax.{w8}
 use mir.Val.{Fits}
 use borrow.Author.Tests.{eqb-true, eqb-false, eq-eqb, ne-eqb}
-use Rattle.open_transactions.specs.declared.{State.State, Event.Event, Move.Move, Entry.Entry, Room.Room, Deed.Deed}
-use Rattle.open_transactions.specs.Table.{blankEntry, isOpen, isFree, holds, sameId, findFrom, moveOf, moving, otherDeed, Inside}
+use Rattle.transaction_states.specs.declared.{State.State, Event.Event, Move.Move, Room.Room, Deed.Deed}
+use Rattle.open_transactions.specs.declared.{Entry.Entry}
+use Rattle.transaction_states.specs.Events.{isOpen, moveOf, moving}
+use Rattle.open_transactions.specs.Table.{blankEntry, isFree, holds, sameId, findFrom, otherDeed, Inside}
 use Rattle.open_transactions.proofs.Finding.{find-here, find-next, find-none}
 use Rattle.open_transactions.proofs.Doing.{inside-at}
 use Rattle.table_octets.specs.Octets.{stateIn, entryOf, entriesFrom, entriesIn, wordFrom, wordOf, heldIn}

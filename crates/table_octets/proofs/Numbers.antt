@@ -6,8 +6,9 @@ use lib.ListN.{length}
 use mathlib.Core.Bool.{Bool, true, false}
 use native.Mathlib.Omega.{arith}
 use lib.Dec.{ltb}
-use Rattle.open_transactions.specs.declared.{TableRefusal.TableRefusal, Deed.Deed, Taken.Taken}
-use Rattle.open_transactions.specs.Table.{refusalNumber, toldBy, deedOf, takenOf, Doable}
+use Rattle.transaction_states.specs.declared.{TableRefusal.TableRefusal, Deed.Deed, Taken.Taken}
+use Rattle.transaction_states.specs.Events.{toldBy, takenOf}
+use Rattle.open_transactions.specs.Table.{refusalNumber, deedOf, Doable}
 use Rattle.open_transactions.specs.History.{takenStatus}
 use Rattle.open_transactions.proofs.Doing.{deed-doable}
 use Rattle.table_octets.specs.declared.{Reply.Reply}

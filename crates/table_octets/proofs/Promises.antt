@@ -10,8 +10,10 @@ use lib.ListN.{length, getD, set, take, drop, replicate, length-set, length-appe
 use lib.Seq.{sets, length-take-le, sets-eq, length-sets, getD-drop, getD-set-same, getD-set-other, ext-getD, drop-cons, drop-set-add, drop-at, drop-set-lt}
 use lib.Dec.{ltb, eqb}
 use borrow.Author.Tests.{le-ltb, lt-ltb, ltb-true, ltb-false, eqb-true, eqb-false}
-use Rattle.open_transactions.specs.declared.{State.State, Entry.Entry, Table.Table, Deed.Deed}
-use Rattle.open_transactions.specs.Table.{blankEntry, emptyTable, partnerOf, entryFor, activeNow, toldBy, deedOf, done, stepped, Doable}
+use Rattle.transaction_states.specs.declared.{State.State, Deed.Deed}
+use Rattle.open_transactions.specs.declared.{Entry.Entry, Table.Table}
+use Rattle.transaction_states.specs.Events.{toldBy}
+use Rattle.open_transactions.specs.Table.{blankEntry, emptyTable, partnerOf, entryFor, activeNow, deedOf, done, stepped, Doable}
 use Rattle.open_transactions.specs.History.{Happening, tableFrom, reached}
 use Rattle.open_transactions.proofs.Doing.{deed-doable}
 use Rattle.table_octets.specs.declared.{Reply.Reply}

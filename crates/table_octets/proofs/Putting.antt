@@ -10,8 +10,10 @@ use lib.Seq.{sets, getD-drop, getD-set-other, set-getD}
 use lib.Dec.{eqb}
 use borrow.Author.Tests.{eqb-true}
 use Rattle.base.specs.Put.{Put}
-use Rattle.open_transactions.specs.declared.{State.State, Event.Event, Move.Move, Entry.Entry, Room.Room, Begins.Begins, Deed.Deed}
-use Rattle.open_transactions.specs.Table.{blankEntry, isOpen, isFree, holds, sameId, findFrom, moveOf, beginsOf, idsOk, opening, moving, beginDeed, otherDeed, foundDeed, deedOf}
+use Rattle.transaction_states.specs.declared.{State.State, Event.Event, Move.Move, Room.Room, Begins.Begins, Deed.Deed}
+use Rattle.open_transactions.specs.declared.{Entry.Entry}
+use Rattle.transaction_states.specs.Events.{isOpen, moveOf, beginsOf, idsOk, opening, moving}
+use Rattle.open_transactions.specs.Table.{blankEntry, isFree, holds, sameId, findFrom, beginDeed, otherDeed, foundDeed, deedOf}
 use Rattle.open_transactions.proofs.Counting.{first-of}
 use Rattle.table_octets.specs.Octets.{stateIn, entryOf, entriesIn, wordFrom, wordOf, octetsOf, fourOf, entryOctets, octetsDone, partnerPut, Known}
 use Rattle.table_octets.proofs.Entries.{Octet, length-entries, entry-at}

@@ -7,7 +7,7 @@ use mathlib.Core.Bool.{Bool, true, false}
 use mathlib.Core.List.{List}
 use lib.ListN.{length, drop, length-drop}
 use lib.Seq.{drop-drop}
-use Rattle.open_transactions.specs.declared.{Room.Room}
+use Rattle.transaction_states.specs.declared.{Room.Room}
 use Rattle.open_transactions.specs.Table.{holds, findFrom}
 use Rattle.table_octets.specs.Octets.{entryOf, entriesIn, wordOf, heldIn, passedIn}
 use Rattle.table_octets.proofs.Entries.{Octet, at-here, at-next, held-holds, dropped}

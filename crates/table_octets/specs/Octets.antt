@@ -3,8 +3,10 @@ use Prim.Native.Nat.{ℕ, zero, suc, _+_, _*_, _/_, _%_, _<_}
 use mathlib.Core.Path.{_≡_}
 use mathlib.Core.{Bool.Bool, Bool.true, Bool.false, Bool.cond, List.List, List.[], List._∷_, List._++_}
 use lib.{ListN.set, ListN.length, ListN.getD, ListN.drop, ListN.replicate, Seq.sets, Dec.eqb, Dec.ltb}
-use Rattle.open_transactions.specs.Table.{capacity, isOpen, holds, partnerOf, refusalNumber, toldBy, deedOf, takenOf}
-use Rattle.open_transactions.specs.declared.{State.State, Event.Event, Entry.Entry, Table.Table, Deed.Deed, Taken.Taken}
+use Rattle.transaction_states.specs.Events.{isOpen, toldBy, takenOf}
+use Rattle.open_transactions.specs.Table.{capacity, holds, partnerOf, refusalNumber, deedOf}
+use Rattle.transaction_states.specs.declared.{State.State, Event.Event, Deed.Deed, Taken.Taken}
+use Rattle.open_transactions.specs.declared.{Entry.Entry, Table.Table}
 use Rattle.table_octets.specs.declared.{Reply.Reply}
 
 abbrev pub tableSize : ℕ

@@ -1,8 +1,8 @@
 -- Our ID, then the partner's where the event carries it. Assumes nothing.
-use Rattle.open_transactions.specs.Table.{idsOk}
+use Rattle.transaction_states.specs.Events.{idsOk}
 use borrow.Author.Needs.{needs}
-use Rattle.open_transactions.proofs.ids_ok.Statement.{statement}
-use Rattle.open_transactions.proofs.ids_ok.Tie as tie
+use Rattle.transaction_states.proofs.ids_ok.Statement.{statement}
+use Rattle.transaction_states.proofs.ids_ok.Tie as tie
 
 id-ok-requires : tie.Need-id-ok-requires
 id-ok-requires c κs = search needs

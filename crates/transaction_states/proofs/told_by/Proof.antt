@@ -2,8 +2,8 @@
 use mathlib.Core.Path.{_∙_}
 use lib.Seq.{drop-length}
 use borrow.Author.Needs.{needs}
-use Rattle.open_transactions.proofs.told_by.Statement.{statement}
-use Rattle.open_transactions.proofs.told_by.Tie as tie
+use Rattle.transaction_states.proofs.told_by.Statement.{statement}
+use Rattle.transaction_states.proofs.told_by.Tie as tie
 
 tells-partner-requires : tie.Need-tells-partner-requires
 tells-partner-requires c κs = search needs

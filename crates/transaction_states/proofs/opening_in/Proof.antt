@@ -1,7 +1,7 @@
 -- By whether a room is free. Assumes nothing.
 use borrow.Author.Needs.{needs}
-use Rattle.open_transactions.proofs.opening_in.Statement.{statement}
-use Rattle.open_transactions.proofs.opening_in.Tie as tie
+use Rattle.transaction_states.proofs.opening_in.Statement.{statement}
+use Rattle.transaction_states.proofs.opening_in.Tie as tie
 
 enum-told : tie.Need-enum-told
 enum-told c = search needs

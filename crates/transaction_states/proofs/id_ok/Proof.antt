@@ -1,8 +1,8 @@
 -- By the two ends of the range. Assumes nothing.
 use borrow.Author.Tests.{lt-leb, le-leb}
 use Rattle.tcap.specs.WellFormed.{idOk}
-use Rattle.open_transactions.proofs.id_ok.Statement.{statement}
-use Rattle.open_transactions.proofs.id_ok.Tie as tie
+use Rattle.transaction_states.proofs.id_ok.Statement.{statement}
+use Rattle.transaction_states.proofs.id_ok.Tie as tie
 
 returns : tie.Need-returns
 unfolding idOk

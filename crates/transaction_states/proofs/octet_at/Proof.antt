@@ -3,8 +3,8 @@ use native.Mathlib.Omega.{arith}
 use mathlib.Core.Path.{sym}
 use lib.ListN.{List·getD-eq-default}
 use borrow.Author.Needs.{needs}
-use Rattle.open_transactions.proofs.octet_at.Statement.{statement}
-use Rattle.open_transactions.proofs.octet_at.Tie as tie
+use Rattle.transaction_states.proofs.octet_at.Statement.{statement}
+use Rattle.transaction_states.proofs.octet_at.Tie as tie
 
 shared-slice-read-result : tie.Need-shared-slice-read-result
 shared-slice-read-result c = search needs

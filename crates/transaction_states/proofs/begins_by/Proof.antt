@@ -1,7 +1,7 @@
 -- Two events begin. Assumes nothing.
 use borrow.Author.Needs.{needs}
-use Rattle.open_transactions.proofs.begins_by.Statement.{statement}
-use Rattle.open_transactions.proofs.begins_by.Tie as tie
+use Rattle.transaction_states.proofs.begins_by.Statement.{statement}
+use Rattle.transaction_states.proofs.begins_by.Tie as tie
 
 enum-told : tie.Need-enum-told
 enum-told c = search needs

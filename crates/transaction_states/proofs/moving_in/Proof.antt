@@ -1,7 +1,7 @@
 -- One line for each move. Assumes nothing.
 use borrow.Author.Needs.{needs}
-use Rattle.open_transactions.proofs.moving_in.Statement.{statement}
-use Rattle.open_transactions.proofs.moving_in.Tie as tie
+use Rattle.transaction_states.proofs.moving_in.Statement.{statement}
+use Rattle.transaction_states.proofs.moving_in.Tie as tie
 
 enum-told : tie.Need-enum-told
 enum-told c = search needs

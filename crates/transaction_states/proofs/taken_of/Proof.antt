@@ -1,7 +1,7 @@
 -- One line for each deed. Assumes nothing.
 use borrow.Author.Needs.{needs}
-use Rattle.open_transactions.proofs.taken_of.Statement.{statement}
-use Rattle.open_transactions.proofs.taken_of.Tie as tie
+use Rattle.transaction_states.proofs.taken_of.Statement.{statement}
+use Rattle.transaction_states.proofs.taken_of.Tie as tie
 
 enum-known-deed : tie.Need-enum-known-deed
 enum-known-deed c = search needs
