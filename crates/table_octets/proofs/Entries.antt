@@ -8,8 +8,6 @@ use mathlib.Core.List.{List}
 use lib.ListN.{length, getD, drop}
 use lib.Seq.{getD-drop}
 use lib.Dec.{eqb}
-use mir.Syntax.{w8}
-use mir.Val.{Fits}
 use borrow.Author.Tests.{eqb-true, eqb-false, eq-eqb, ne-eqb}
 use Rattle.transaction_states.specs.declared.{State.State, Event.Event, Move.Move, Room.Room, Deed.Deed}
 use Rattle.open_transactions.specs.declared.{Entry.Entry}
@@ -17,7 +15,9 @@ use Rattle.transaction_states.specs.Events.{isOpen, moveOf, moving}
 use Rattle.open_transactions.specs.Table.{blankEntry, isFree, holds, sameId, findFrom, otherDeed, Inside}
 use Rattle.open_transactions.proofs.Finding.{find-here, find-next, find-none}
 use Rattle.open_transactions.proofs.Doing.{inside-at}
-use Rattle.table_octets.specs.Octets.{stateIn, entryOf, entriesFrom, entriesIn, wordFrom, wordOf, heldIn}
+use Rattle.entry_octets.proofs.Putting.{Octet}
+use Rattle.entry_octets.specs.Entries.{stateIn, wordFrom, wordOf, heldIn}
+use Rattle.table_octets.specs.Octets.{entryOf, entriesFrom, entriesIn}
 
 -- The entry in a room
 
@@ -121,9 +121,6 @@ in-order false true true = refl
 in-order false true false = refl
 in-order false false true = refl
 in-order false false false = refl
-
-abbrev pub Octet : List ℕ → Type 0
-Octet l = (i : ℕ) → Fits w8 (getD l i 0)
 
 module _ (c id : List ℕ) (h : Octet c) (k : Octet id) where
   pub held-holds : heldIn c (wordOf id) (length id) ≡ holds id (entryOf c)

@@ -1,5 +1,5 @@
 pub mod Entries
 pub mod Walking
-pub mod Putting
+pub mod Learning
 pub mod Numbers
 pub mod Promises

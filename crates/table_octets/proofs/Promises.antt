@@ -17,9 +17,10 @@ use Rattle.open_transactions.specs.Table.{blankEntry, emptyTable, partnerOf, en
 use Rattle.open_transactions.specs.History.{Happening, tableFrom, reached}
 use Rattle.open_transactions.proofs.Doing.{deed-doable}
 use Rattle.table_octets.specs.declared.{Reply.Reply}
-use Rattle.table_octets.specs.Octets.{stateIn, stateOctet, eventIn, entryOf, entriesFrom, entriesIn, tableIn, entryOctets, blankOctets, octetsDone, replying, leaving, replyNumber, InTable}
+use Rattle.entry_octets.specs.Entries.{stateIn, stateOctet, entryOctets, blankOctets}
+use Rattle.table_octets.specs.Octets.{eventIn, entryOf, entriesFrom, entriesIn, tableIn, octetsDone, replying, leaving, replyNumber, InTable}
 use Rattle.table_octets.proofs.Entries.{length-entries, entry-at}
-use Rattle.table_octets.proofs.Putting.{outside}
+use Rattle.table_octets.proofs.Learning.{outside}
 use Rattle.table_octets.proofs.Numbers.{reply-room, Fields, taken-fields}
 
 -- All zeros is the empty table

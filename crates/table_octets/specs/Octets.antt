@@ -8,19 +8,10 @@ use Rattle.open_transactions.specs.Table.{capacity, holds, partnerOf, refusalNu
 use Rattle.transaction_states.specs.declared.{State.State, Event.Event, Deed.Deed, Taken.Taken}
 use Rattle.open_transactions.specs.declared.{Entry.Entry, Table.Table}
 use Rattle.table_octets.specs.declared.{Reply.Reply}
+use Rattle.entry_octets.specs.Entries.{stateIn, entryOctets, blankOctets}
 
 abbrev pub tableSize : ℕ
 tableSize = 768
-
--- a state: with an octet other than 1, 2, 3 the room is free
-abbrev pub stateIn : ℕ → State
-stateIn n = cond (eqb n 1) State.InitiationSent (cond (eqb n 2) State.InitiationReceived (cond (eqb n 3) State.Active State.Idle))
-
-abbrev pub stateOctet : State → ℕ
-stateOctet State.Idle = 0
-stateOctet State.InitiationSent = 1
-stateOctet State.InitiationReceived = 2
-stateOctet State.Active = 3
 
 -- events 1 to 9 in the page's order, each sent then received; every other number is an event that is not named
 unfoldable pub eventIn : ℕ → Event
@@ -53,17 +44,6 @@ entriesIn l = entriesFrom l capacity 0
 
 abbrev pub tableIn : List ℕ → Table
 tableIn l = record { entries = entriesIn l }
-
--- The octets of an entry
-
-abbrev pub fourOf : List ℕ → List ℕ
-fourOf id = getD id 0 0 ∷ getD id 1 0 ∷ getD id 2 0 ∷ getD id 3 0 ∷ []
-
-abbrev pub entryOctets : State → List ℕ → List ℕ → List ℕ
-entryOctets s o p = stateOctet s ∷ length o ∷ length p ∷ 0 ∷ fourOf o ++ fourOf p
-
-abbrev pub blankOctets : List ℕ
-blankOctets = replicate 12 0
 
 -- What is left of the octets, and what is answered
 
@@ -104,30 +84,7 @@ InTable (Taken.Opened i) = i < capacity
 InTable (Taken.Kept i) = i < capacity
 InTable (Taken.Closed i) = i < capacity
 
--- How the code compares: four octets as one number, then the length, then the state
-
-abbrev pub wordFrom : ℕ → ℕ → ℕ → ℕ → ℕ
-wordFrom a b c d = a + (b * 256 + (c * 65536 + d * 16777216))
-
-abbrev pub wordOf : List ℕ → ℕ
-wordOf id = wordFrom (getD id 0 0) (getD id 1 0) (getD id 2 0) (getD id 3 0)
-
-unfoldable pub heldIn : List ℕ → ℕ → ℕ → Bool
-heldIn c w n = cond (eqb (wordFrom (getD c 4 0) (getD c 5 0) (getD c 6 0) (getD c 7 0)) w) (cond (eqb (getD c 1 0) n) (isOpen (stateIn (getD c 0 0))) false) false
-
--- how many of n entries stand before the first that is held: n if none is
-unfoldable pub passedIn : List ℕ → ℕ → ℕ → ℕ → ℕ
-passedIn c w n zero = 0
-passedIn c w n (suc k) = cond (heldIn c w n) 0 (suc (passedIn (drop 12 c) w n k))
-
--- How it puts: four octets from one number, and a partner's ID beside ours, which stands there
-
-abbrev pub octetsOf : ℕ → List ℕ
-octetsOf w = w % 256 ∷ w / 256 % 256 ∷ w / 65536 % 256 ∷ w / 16777216 % 256 ∷ []
-
-abbrev pub partnerPut : List ℕ → ℕ → List ℕ → List ℕ → List ℕ
-partnerPut l at o p = sets (sets l at (3 ∷ length o ∷ length p ∷ 0 ∷ [])) (at + 8) (fourOf p)
-
+-- a partner's ID is stored in an entry under ours
 abbrev pub Known : List ℕ → List ℕ → Deed → Type 0
 Known l o (Deed.Refused k) = Unit {0}
 Known l o (Deed.Opens i s) = Unit {0}

@@ -2,7 +2,7 @@
 use native.Mathlib.Omega.{arith}
 use Rattle.open_transactions.proofs.Doing.{opens-kept, activates-kept, learns-kept, closes-kept}
 use Rattle.table_octets.specs.Octets.{octetsDone}
-use Rattle.table_octets.proofs.Putting.{learns-done}
+use Rattle.table_octets.proofs.Learning.{learns-done}
 use borrow.Author.Needs.{needs}
 use Rattle.table_octets.proofs.carry_out_in.Statement.{statement}
 use Rattle.table_octets.proofs.carry_out_in.Tie as tie

@@ -7,7 +7,7 @@ use Rattle.table_octets.specs.declared.{Reply.Reply}
 use Rattle.table_octets.specs.Octets.{replying, leaving}
 use Rattle.open_transactions.proofs.Doing.{deed-doable}
 use Rattle.table_octets.proofs.Entries.{length-entries}
-use Rattle.table_octets.proofs.Putting.{deed-known}
+use Rattle.table_octets.proofs.Learning.{deed-known}
 use Rattle.table_octets.proofs.step_octets.Statement.{statement}
 use Rattle.table_octets.proofs.step_octets.Tie as tie
 

@@ -1,10 +1,10 @@
 -- One test an entry, in their order. Assumes nothing.
 use native.Mathlib.Omega.{arith}
-use Rattle.table_octets.proofs.Walking.{one-less}
-use Rattle.table_octets.specs.Octets.{passedIn}
+use Rattle.entry_octets.proofs.Passing.{one-less}
+use Rattle.entry_octets.specs.Entries.{passedIn}
 use borrow.Author.Needs.{needs}
-use Rattle.table_octets.proofs.passed_four.Statement.{statement}
-use Rattle.table_octets.proofs.passed_four.Tie as tie
+use Rattle.entry_octets.proofs.passed_four.Statement.{statement}
+use Rattle.entry_octets.proofs.passed_four.Tie as tie
 
 holds-in-requires : tie.Need-holds-in-requires
 holds-in-requires c κs = search needs

@@ -1,4 +1,4 @@
--- An ID put as one number, and a partner's ID beside ours, which stands there. Assumes nothing.
+-- A partner's ID is put beside ours, which stands there. Assumes nothing.
 use Prim.Native.Nat.{ℕ, suc, _+_, _*_, _/_, _%_, _<_, _≤_}
 use native.Mathlib.Omega.{arith}
 use mathlib.Core.Path.{_≡_, refl, sym, ap, _∙_}
@@ -9,30 +9,15 @@ use lib.ListN.{length, getD, set, drop}
 use lib.Seq.{sets, getD-drop, getD-set-other, set-getD}
 use lib.Dec.{eqb}
 use borrow.Author.Tests.{eqb-true}
-use Rattle.base.specs.Put.{Put}
 use Rattle.transaction_states.specs.declared.{State.State, Event.Event, Move.Move, Room.Room, Begins.Begins, Deed.Deed}
 use Rattle.open_transactions.specs.declared.{Entry.Entry}
 use Rattle.transaction_states.specs.Events.{isOpen, moveOf, beginsOf, idsOk, opening, moving}
 use Rattle.open_transactions.specs.Table.{blankEntry, isFree, holds, sameId, findFrom, beginDeed, otherDeed, foundDeed, deedOf}
 use Rattle.open_transactions.proofs.Counting.{first-of}
-use Rattle.table_octets.specs.Octets.{stateIn, entryOf, entriesIn, wordFrom, wordOf, octetsOf, fourOf, entryOctets, octetsDone, partnerPut, Known}
-use Rattle.table_octets.proofs.Entries.{Octet, length-entries, entry-at}
-
--- The octets of an ID's number are the ID's
-
-octets-four : (a b c d : ℕ) → a < 256 → b < 256 → c < 256 → d < 256 → octetsOf (wordFrom a b c d) ≡ a ∷ b ∷ c ∷ d ∷ []
-octets-four a b c d h i j k =
-    let t : wordFrom a b c d / 256 ≡ b + (c * 256 + d * 65536) = omega (arith, h) in
-    let u : wordFrom a b c d / 65536 ≡ c + d * 256 = omega (arith, h, i) in
-    let v : wordFrom a b c d / 16777216 ≡ d = omega (arith, h, i, j) in
-    let w : wordFrom a b c d % 256 ≡ a = omega (arith, h) in
-    let x : (b + (c * 256 + d * 65536)) % 256 ≡ b = omega (arith, i) in
-    let y : (c + d * 256) % 256 ≡ c = omega (arith, j) in
-    let z : d % 256 ≡ d = omega (arith, k) in
-    rw (t, u, v, w, x, y, z)
-
-pub put-same : (id : List ℕ) {d e : List ℕ} {at w r : ℕ} → Octet id → w ≡ wordOf id → Put d at (octetsOf w) r e → Put d at (fourOf id) r e
-put-same id h q p = rw (q, octets-four (getD id 0 0) (getD id 1 0) (getD id 2 0) (getD id 3 0) (h 0 .fits) (h 1 .fits) (h 2 .fits) (h 3 .fits)) at p
+use Rattle.entry_octets.specs.Entries.{stateIn, fourOf, entryOctets, partnerPut}
+use Rattle.table_octets.specs.Octets.{entryOf, entriesIn, octetsDone, Known}
+use Rattle.table_octets.proofs.Entries.{length-entries, entry-at}
+use Rattle.entry_octets.proofs.Putting.{header}
 
 -- What is known of our ID in its entry
 
@@ -82,9 +67,6 @@ stands-four : (m : List ℕ) (n a b c d : ℕ) (xs : List ℕ) → getD m n 0 �
 stands-four m n a b c d xs e f g h =
     stands m n a (b ∷ c ∷ d ∷ xs) e ∙ stands m (suc n) b (c ∷ d ∷ xs) f ∙ stands m (suc (suc n)) c (d ∷ xs) g ∙ stands m (suc (suc (suc n))) d xs h
 
-abbrev header : List ℕ → List ℕ → List ℕ
-header o p = 3 ∷ length o ∷ length p ∷ 0 ∷ []
-
 beside : (l : List ℕ) (n : ℕ) (o p : List ℕ) → Stands l n o → partnerPut l n o p ≡ sets l n (entryOctets State.Active o p)
 beside l n o p s =
     let a : suc (suc (suc (suc n))) ≡ n + 4 = omega arith in
@@ -106,9 +88,6 @@ beside l n o p s =
     (outside (header o p) l n (suc (suc (suc (suc (suc (suc n)))))) (inr (omega arith)) ∙ rw c (s .three))
     (outside (header o p) l n (suc (suc (suc (suc (suc (suc (suc n))))))) (inr (omega arith)) ∙ rw d (s .four)) ∙
     rw e)
-
-pub partner-puts : (o p : List ℕ) {l m e : List ℕ} {at r s : ℕ} → Put l at (header o p) r m → Put m (at + 8) (fourOf p) s e → e ≡ partnerPut l at o p
-partner-puts o p {at = at} a b = b .holds ∙ ap (λ (z : List ℕ). sets z (at + 8) (fourOf p)) (a .holds)
 
 pub learns-done : (l o p : List ℕ) (i : ℕ) (d : Deed) {m : List ℕ} → d ≡ Deed.Learns i → Known l o d → m ≡ partnerPut l (i * 12) o p → m ≡ octetsDone l o p d
 unfolding octetsDone

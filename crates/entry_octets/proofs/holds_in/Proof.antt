@@ -1,9 +1,9 @@
 -- Four octets, length, state. Assumes nothing.
 use borrow.Author.Tests.{eq-eqb, ne-eqb}
-use Rattle.table_octets.specs.Octets.{heldIn}
+use Rattle.entry_octets.specs.Entries.{heldIn}
 use borrow.Author.Needs.{needs}
-use Rattle.table_octets.proofs.holds_in.Statement.{statement}
-use Rattle.table_octets.proofs.holds_in.Tie as tie
+use Rattle.entry_octets.proofs.holds_in.Statement.{statement}
+use Rattle.entry_octets.proofs.holds_in.Tie as tie
 
 shared-slice-read-word-of : tie.Need-shared-slice-read-word-of
 shared-slice-read-word-of c = search needs

@@ -1,10 +1,10 @@
 -- Four, then four more. Assumes nothing.
 use native.Mathlib.Omega.{arith}
 use lib.ListN.{length-drop}
-use Rattle.table_octets.proofs.Walking.{passed-most, eight-short, eight-long}
+use Rattle.entry_octets.proofs.Passing.{passed-most, eight-short, eight-long}
 use borrow.Author.Needs.{needs}
-use Rattle.table_octets.proofs.passed_eight.Statement.{statement}
-use Rattle.table_octets.proofs.passed_eight.Tie as tie
+use Rattle.entry_octets.proofs.passed_eight.Statement.{statement}
+use Rattle.entry_octets.proofs.passed_eight.Tie as tie
 
 passed-four-requires : tie.Need-passed-four-requires
 passed-four-requires c κs = search needs

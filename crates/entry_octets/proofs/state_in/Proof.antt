@@ -1,7 +1,7 @@
 -- By the three numbers of open states. Assumes nothing.
 use borrow.Author.Tests.{eq-eqb, ne-eqb}
-use Rattle.table_octets.proofs.state_in.Statement.{statement}
-use Rattle.table_octets.proofs.state_in.Tie as tie
+use Rattle.entry_octets.proofs.state_in.Statement.{statement}
+use Rattle.entry_octets.proofs.state_in.Tie as tie
 
 returns : tie.Need-returns
 returns c = rw (eq-eqb _ _ (c .if1 .taken))

@@ -1,8 +1,8 @@
 -- Four octets, and four behind ours. Assumes nothing.
-use Rattle.table_octets.proofs.Putting.{partner-puts}
+use Rattle.entry_octets.proofs.Putting.{partner-puts}
 use borrow.Author.Needs.{needs}
-use Rattle.table_octets.proofs.put_partner.Statement.{statement}
-use Rattle.table_octets.proofs.put_partner.Tie as tie
+use Rattle.entry_octets.proofs.put_partner.Statement.{statement}
+use Rattle.entry_octets.proofs.put_partner.Tie as tie
 
 cast-put-four : tie.Need-cast-put-four
 cast-put-four c = search needs

@@ -1,8 +1,8 @@
 -- Three times four octets. Assumes nothing.
 use Rattle.base.proofs.Puts.{put-then}
 use borrow.Author.Needs.{needs}
-use Rattle.table_octets.proofs.put_entry.Statement.{statement}
-use Rattle.table_octets.proofs.put_entry.Tie as tie
+use Rattle.entry_octets.proofs.put_entry.Statement.{statement}
+use Rattle.entry_octets.proofs.put_entry.Tie as tie
 
 state-octet-requires : tie.Need-state-octet-requires
 state-octet-requires c κs = search needs

@@ -1,8 +1,8 @@
 -- Three times four zeros. Assumes nothing.
 use Rattle.base.proofs.Puts.{put-then}
 use borrow.Author.Needs.{needs}
-use Rattle.table_octets.proofs.put_blank.Statement.{statement}
-use Rattle.table_octets.proofs.put_blank.Tie as tie
+use Rattle.entry_octets.proofs.put_blank.Statement.{statement}
+use Rattle.entry_octets.proofs.put_blank.Tie as tie
 
 put-four-requires : tie.Need-put-four-requires
 put-four-requires c κs = search needs

@@ -1,8 +1,8 @@
 -- Its number. Assumes nothing.
-use Rattle.table_octets.proofs.Putting.{put-same}
+use Rattle.entry_octets.proofs.Putting.{put-same}
 use borrow.Author.Needs.{needs}
-use Rattle.table_octets.proofs.put_id.Statement.{statement}
-use Rattle.table_octets.proofs.put_id.Tie as tie
+use Rattle.entry_octets.proofs.put_id.Statement.{statement}
+use Rattle.entry_octets.proofs.put_id.Tie as tie
 
 id-word-requires : tie.Need-id-word-requires
 id-word-requires c κs = search needs
