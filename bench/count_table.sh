@@ -4,7 +4,8 @@
 # The library's beside those of plain C that does the same job (plain_table.c -O2).
 #
 # A count is the difference between a run of n and one of 2n rounds, less the same
-# for a call that only returns; the answers must be the same. Counted by qemu-x86_64 with the plug-in icount.c.
+# for a call that only returns; the answers must be the same. Counted by qemu-x86_64 with the plug-in icount.c,
+# or on an x86-64 machine without that by valgrind.
 set -eu
 if [ $# -ne 1 ]; then
     echo "usage: count_table.sh ARCHIVE" >&2
@@ -16,8 +17,12 @@ root=$(dirname "$here")
 tmp=$(mktemp -d)
 trap 'rm -rf "$tmp"' EXIT
 
-if ! command -v qemu-x86_64 >/dev/null || ! ${HOSTCC:-cc} -O2 -shared -fPIC -o "$tmp/icount.so" "$here/icount.c"; then
-    echo "none counted: that needs qemu-x86_64 with plug-ins"
+if command -v qemu-x86_64 >/dev/null && ${HOSTCC:-cc} -O2 -shared -fPIC -o "$tmp/icount.so" "$here/icount.c"; then
+    counter=plugin
+elif command -v valgrind >/dev/null && [ "$(uname -m)" = x86_64 ]; then
+    counter=valgrind
+else
+    echo "none counted: that needs qemu-x86_64 with plug-ins, or an x86-64 valgrind"
     exit 0
 fi
 
@@ -32,7 +37,12 @@ build -Dgoldenskep_transaction=plain_transaction -o "$tmp/plain" "$here/count_ta
 
 # instructions PROGRAM CASE ROUNDS: of one whole run; the rounds have always eight digits
 instructions() {
-    sh "$root/tools/cc.sh" count "$tmp/icount.so" "$tmp/$1" "$2" "$(printf '%08d' "$3")" 2>&1 >"$tmp/$1.answer" | sed -n 's/^instructions //p'
+    times=$(printf '%08d' "$3")
+    if [ $counter = plugin ]; then
+        sh "$root/tools/cc.sh" count "$tmp/icount.so" "$tmp/$1" "$2" "$times" 2>&1 >"$tmp/$1.answer" | sed -n 's/^instructions //p'
+    else
+        valgrind --tool=callgrind --callgrind-out-file=/dev/null "$tmp/$1" "$2" "$times" 2>&1 >"$tmp/$1.answer" | sed -n 's/^==.*Collected : //p'
+    fi
 }
 
 # difference PROGRAM CASE: the instructions of 1000 rounds

@@ -1,6 +1,6 @@
 -- Open transactions: the table, and what each event does in it (document 02, §10). Assumes nothing: these are definitions.
 use Prim.Native.Nat.{ℕ, suc, _<_}
-use mathlib.Core.{Bool.Bool, Bool.true, Bool.false, Bool.cond, Bool.not, List.List, List.[], List._∷_}
+use mathlib.Core.{Bool.Bool, Bool.false, Bool.cond, Bool.not, List.List, List.[], List._∷_}
 use lib.{ListN.set, ListN.length, ListN.getD, ListN.replicate, Dec.eqb}
 use Rattle.tcap.specs.declared.OptionalDest.{OptionalDest}
 use Rattle.transaction_states.specs.declared.{State.State, Event.Event, Room.Room, TableRefusal.TableRefusal, Begins.Begins, Deed.Deed}

@@ -1,7 +1,7 @@
 -- A partner's ID is put beside ours, which stands there. Assumes nothing.
-use Prim.Native.Nat.{ℕ, suc, _+_, _*_, _/_, _%_, _<_, _≤_}
+use Prim.Native.Nat.{ℕ, suc, _+_, _*_, _<_, _≤_}
 use native.Mathlib.Omega.{arith}
-use mathlib.Core.Path.{_≡_, refl, sym, ap, _∙_}
+use mathlib.Core.Path.{_≡_, refl, sym, _∙_}
 use mathlib.Core.Logic.{_⊎_, inl, inr}
 use mathlib.Core.Bool.{Bool, true, false, cond, false≢true}
 use mathlib.Core.List.{List, [], _∷_}
@@ -10,7 +10,6 @@ use lib.Seq.{sets, getD-drop, getD-set-other, set-getD}
 use lib.Dec.{eqb}
 use borrow.Author.Tests.{eqb-true}
 use Rattle.transaction_states.specs.declared.{State.State, Event.Event, Move.Move, Room.Room, Begins.Begins, Deed.Deed}
-use Rattle.open_transactions.specs.declared.{Entry.Entry}
 use Rattle.transaction_states.specs.Events.{isOpen, moveOf, beginsOf, idsOk, opening, moving}
 use Rattle.open_transactions.specs.Table.{blankEntry, isFree, holds, sameId, findFrom, beginDeed, otherDeed, foundDeed, deedOf}
 use Rattle.open_transactions.proofs.Counting.{first-of}

@@ -1,9 +1,9 @@
 -- The table of open transactions as octets, in the layout of docs/LAYOUT.md: 64 entries of 12 octets. Assumes nothing: these are definitions.
-use Prim.Native.Nat.{ℕ, zero, suc, _+_, _*_, _/_, _%_, _<_}
+use Prim.Native.Nat.{ℕ, zero, suc, _+_, _*_, _<_}
 use mathlib.Core.Path.{_≡_}
-use mathlib.Core.{Bool.Bool, Bool.true, Bool.false, Bool.cond, List.List, List.[], List._∷_, List._++_}
-use lib.{ListN.set, ListN.length, ListN.getD, ListN.drop, ListN.replicate, Seq.sets, Dec.eqb, Dec.ltb}
-use Rattle.transaction_states.specs.Events.{isOpen, toldBy, takenOf}
+use mathlib.Core.{Bool.true, Bool.cond, List.List, List.[], List._∷_}
+use lib.{ListN.set, ListN.length, ListN.getD, ListN.drop, Seq.sets, Dec.eqb, Dec.ltb}
+use Rattle.transaction_states.specs.Events.{toldBy, takenOf}
 use Rattle.open_transactions.specs.Table.{capacity, holds, partnerOf, refusalNumber, deedOf}
 use Rattle.transaction_states.specs.declared.{State.State, Event.Event, Deed.Deed, Taken.Taken}
 use Rattle.open_transactions.specs.declared.{Entry.Entry, Table.Table}

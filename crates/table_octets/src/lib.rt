@@ -1,10 +1,8 @@
 // The table of open transactions as 768 octets that a program in C keeps, changed in place: 64 entries of 12, in the layout of docs/LAYOUT.md.
 ghost use mathlib.Core.Path.{_≡_};
-ghost use mathlib.Core.Bool.{not};
-ghost use Prim.Native.Nat.{_+_, _*_, _≤_, _<_};
-ghost use lib.ListN.{length, getD, drop};
-ghost use Rattle.base.specs.Put.{Put};
-ghost use Rattle.transaction_states.specs.Events.{isOpen, beginsOf, takenOf};
+ghost use Prim.Native.Nat.{_≤_, _<_};
+ghost use lib.ListN.{length};
+ghost use Rattle.transaction_states.specs.Events.{beginsOf, takenOf};
 ghost use Rattle.open_transactions.specs.Table.{holds, refusalNumber, isFree, findFrom, beginDeed, otherDeed, foundDeed, deedOf, Inside, Doable};
 ghost use Rattle.table_octets.specs.Octets.{tableSize, eventIn, entriesIn, octetsDone, replying, leaving, doneNumber, takenNumber, replyNumber, InTable, Known};
 use base::after;
