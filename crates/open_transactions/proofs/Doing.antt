@@ -11,7 +11,7 @@ use Rattle.tcap.specs.WellFormed.{idOk}
 use Rattle.transaction_states.specs.declared.{State.State, Event.Event, Move.Move, Room.Room, Begins.Begins, Deed.Deed, Taken.Taken}
 use Rattle.open_transactions.specs.declared.{Entry.Entry, Table.Table}
 use Rattle.transaction_states.specs.Events.{moveOf, beginsOf, tells, toldBy, idsOk, opening, moving, takenOf}
-use Rattle.open_transactions.specs.Table.{blankEntry, holds, isFree, findFrom, beginDeed, otherDeed, foundDeed, deedOf, withEntry, activeNow, done, outcome, Inside, Kept, Doable}
+use Rattle.open_transactions.specs.Table.{blankEntry, holds, isFree, findFrom, beginDeed, otherDeed, foundDeed, deedOf, withEntry, activeNow, done, Inside, Kept, Doable}
 use Rattle.open_transactions.proofs.Finding.{found-below, same-entry, pastEntry}
 
 -- the room of a find
@@ -97,6 +97,6 @@ module _ (o p : List ℕ) (i : ℕ) (d : Deed) where
   closes-kept e k = rw e at k
 
 -- the entry is read from the array, whose length its type tells
-pub activates-done : (t : Table) (o p : List ℕ) (i : ℕ) (d : Deed) {k : Taken} {u : Table} → length (t .entries) ≡ 64 → i < 64 → d ≡ Deed.Activates i → k ≡ takenOf d → u ≡ withEntry t i (activeNow (getD (t .entries) i pastEntry)) → record { taken = k; table = u } ≡ outcome t o p d
+pub activates-done : (t : Table) (o p : List ℕ) (i : ℕ) (d : Deed) {u : Table} → length (t .entries) ≡ 64 → i < 64 → d ≡ Deed.Activates i → u ≡ withEntry t i (activeNow (getD (t .entries) i pastEntry)) → u ≡ done t o p d
 unfolding done
-activates-done t o p i d n l e q h = let s = same-entry (t .entries) i pastEntry (omega (arith, n, l)) in rw (q, h, s, e)
+activates-done t o p i d n l e h = let s = same-entry (t .entries) i pastEntry (omega (arith, n, l)) in rw (h, s, e)

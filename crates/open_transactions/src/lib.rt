@@ -2,7 +2,7 @@
 ghost use mathlib.Core.Path.{_≡_};
 ghost use lib.ListN.{length};
 ghost use Prim.Native.Nat.{_<_};
-ghost use Rattle.open_transactions.specs.Table.{blankEntry, emptyTable, sameId, holds, isFree, findFrom, entryFor, partnerOf, withEntry, activeNow, beginDeed, otherDeed, foundDeed, deedOf, Inside, Doable, outcome, stepped};
+ghost use Rattle.open_transactions.specs.Table.{blankEntry, emptyTable, sameId, holds, isFree, findFrom, entryFor, partnerOf, withEntry, activeNow, beginDeed, otherDeed, foundDeed, deedOf, Inside, Doable, done, stepped};
 ghost use Rattle.transaction_states.specs.Events.{beginsOf};
 use tcap::DestTransactionId;
 use tcap::OptionalDest;
@@ -250,51 +250,28 @@ impl Table {
         }
     }
 
-    fn carry_out(self, deed: Deed, ours: &[u8], partner: &[u8]) -> Stepped
+    fn carry_out(self, deed: Deed, ours: &[u8], partner: &[u8]) -> Table
         requires { ⌜ Doable (now ours) (now partner) deed ⌝ }
-        ensures { λ r. ⌜ r ≡ outcome self (now (ours .entry)) (now (partner .entry)) deed ⌝ }
+        ensures { λ r. ⌜ r ≡ done self (now (ours .entry)) (now (partner .entry)) deed ⌝ }
     {
-        let taken = taken_of(deed);
         match deed {
-            Deed::Refused(_) => Stepped {
-                taken: taken,
-                table: self,
-            },
+            Deed::Refused(_) => self,
             Deed::Opens { room, state } => {
                 let entry = entry_for(state, ours, partner);
-                let table = self.with(room, entry);
-                Stepped {
-                    taken: taken,
-                    table: table,
-                }
+                self.with(room, entry)
             }
-            Deed::Keeps(_) => Stepped {
-                taken: taken,
-                table: self,
-            },
+            Deed::Keeps(_) => self,
             Deed::Activates(room) => {
                 let entry = self.entries[room];
-                let table = self.with(room, activated(entry));
-                Stepped {
-                    taken: taken,
-                    table: table,
-                }
+                self.with(room, activated(entry))
             }
             Deed::Learns(room) => {
                 let entry = entry_for(State::Active, ours, partner);
-                let table = self.with(room, entry);
-                Stepped {
-                    taken: taken,
-                    table: table,
-                }
+                self.with(room, entry)
             }
             Deed::Closes(room) => {
                 let blank = blank_entry();
-                let table = self.with(room, blank);
-                Stepped {
-                    taken: taken,
-                    table: table,
-                }
+                self.with(room, blank)
             }
         }
     }
@@ -305,6 +282,10 @@ impl Table {
     {
         let deed = self.choose(event, ours, partner);
         let told = told_by(event, partner);
-        self.carry_out(deed, ours, told)
+        let table = self.carry_out(deed, ours, told);
+        Stepped {
+            taken: taken_of(deed),
+            table: table,
+        }
     }
 }

@@ -8,9 +8,6 @@ use borrow.Author.Needs.{needs}
 use Rattle.open_transactions.proofs.Table.carry_out.Statement.{statement}
 use Rattle.open_transactions.proofs.Table.carry_out.Tie as tie
 
-taken-of-requires : tie.Need-taken-of-requires
-taken-of-requires c κs = search needs
-
 enum-told : tie.Need-enum-told
 enum-told c = search needs
 
@@ -18,10 +15,10 @@ enum-known-deed : tie.Need-enum-known-deed
 enum-known-deed c = search needs
 
 entry-for-requires : tie.Need-entry-for-requires
-entry-for-requires c κs = let k = opens-kept _ _ _ _ _ (c .before .deed .given .1) (c .before .before .before .before .before .before .pre) in (k .ours, k .partner)
+entry-for-requires c κs = let k = opens-kept _ _ _ _ _ (c .before .deed .given .1) (c .before .before .before .before .before .pre) in (k .ours, k .partner)
 
 with-requires : tie.Need-with-requires
-with-requires c κs = let k = opens-kept _ _ _ _ _ (c .before .before .deed .given .1) (c .before .before .before .before .before .before .before .pre) in k .inside
+with-requires c κs = let k = opens-kept _ _ _ _ _ (c .before .before .deed .given .1) (c .before .before .before .before .before .before .pre) in k .inside
 
 enum-told-2 : tie.Need-enum-told-2
 enum-told-2 c = search needs
@@ -30,25 +27,25 @@ enum-known-deed-2 : tie.Need-enum-known-deed-2
 enum-known-deed-2 c = search needs
 
 mul-entry : tie.Need-mul-entry
-mul-entry c = let k = activates-kept _ _ _ _ (c .before .deed2 .given .1) (c .before .before .before .before .before .before .pre) in omega (arith, k .inside)
+mul-entry c = let k = activates-kept _ _ _ _ (c .before .deed2 .given .1) (c .before .before .before .before .before .pre) in omega (arith, k .inside)
 
 element-copy-out-entry : tie.Need-element-copy-out-entry
-element-copy-out-entry c = let k = activates-kept _ _ _ _ (c .before .deed2 .given .1) (c .before .before .before .before .before .before .pre) in let n = table-typed (c .before .before .before .before .before .before .args .t1) _ (c .before .before .before .before .before .before .good .0) in omega (arith, k .inside, n)
+element-copy-out-entry c = let k = activates-kept _ _ _ _ (c .before .deed2 .given .1) (c .before .before .before .before .before .pre) in let n = table-typed (c .before .before .before .before .before .args .t1) _ (c .before .before .before .before .before .good .0) in omega (arith, k .inside, n)
 
 activated-requires : tie.Need-activated-requires
 activated-requires c κs = search needs
 
 with-requires-2 : tie.Need-with-requires-2
-with-requires-2 c κs = let k = activates-kept _ _ _ _ (c .before .before .before .deed2 .given .1) (c .before .before .before .before .before .before .before .before .pre) in k .inside
+with-requires-2 c κs = let k = activates-kept _ _ _ _ (c .before .before .before .deed2 .given .1) (c .before .before .before .before .before .before .before .pre) in k .inside
 
 enum-known-deed-3 : tie.Need-enum-known-deed-3
 enum-known-deed-3 c = search needs
 
 entry-for-requires-2 : tie.Need-entry-for-requires-2
-entry-for-requires-2 c κs = let k = learns-kept _ _ _ _ (c .before .deed3 .given .1) (c .before .before .before .before .before .before .pre) in (k .ours, k .partner)
+entry-for-requires-2 c κs = let k = learns-kept _ _ _ _ (c .before .deed3 .given .1) (c .before .before .before .before .before .pre) in (k .ours, k .partner)
 
 with-requires-3 : tie.Need-with-requires-3
-with-requires-3 c κs = let k = learns-kept _ _ _ _ (c .before .before .deed3 .given .1) (c .before .before .before .before .before .before .before .pre) in k .inside
+with-requires-3 c κs = let k = learns-kept _ _ _ _ (c .before .before .deed3 .given .1) (c .before .before .before .before .before .before .pre) in k .inside
 
 enum-known-deed-4 : tie.Need-enum-known-deed-4
 enum-known-deed-4 c = search needs
@@ -57,36 +54,35 @@ blank-entry-requires : tie.Need-blank-entry-requires
 blank-entry-requires c κs = search needs
 
 with-requires-4 : tie.Need-with-requires-4
-with-requires-4 c κs = let k = closes-kept _ _ _ _ (c .before .before .deed4 .given .1) (c .before .before .before .before .before .before .before .pre) in k .inside
+with-requires-4 c κs = let k = closes-kept _ _ _ _ (c .before .before .deed4 .given .1) (c .before .before .before .before .before .before .pre) in k .inside
 
 returns : tie.Need-returns
 unfolding done
-returns c = rw (c .before .before .taken-of .ensures, c .enum-told .given .1)
+returns c = rw (c .enum-told .given .1)
 
 returns-2 : tie.Need-returns-2
 unfolding done
-returns-2 c = rw (c .with .ensures, c .before .entry-for .ensures, c .before .before .before .before .before .taken-of .ensures, c .before .before .before .deed .given .1)
+returns-2 c = rw (c .with .ensures, c .before .entry-for .ensures, c .before .before .before .deed .given .1)
 
 returns-3 : tie.Need-returns-3
 unfolding done
-returns-3 c = rw (c .before .before .taken-of .ensures, c .enum-told2 .given .1)
+returns-3 c = rw (c .enum-told2 .given .1)
 
 returns-4 : tie.Need-returns-4
-returns-4 c = let k = activates-kept _ _ _ _ (c .before .before .before .before .deed2 .given .1) (c .before .before .before .before .before .before .before .before .before .pre) in activates-done _ _ _ _ _ (table-typed (c .before .before .before .before .before .before .before .before .before .args .t1) _ (c .before .before .before .before .before .before .before .before .before .good .0)) (k .inside) (c .before .before .before .before .deed2 .given .1) (c .before .before .before .before .before .before .taken-of .ensures) (c .with2 .ensures ∙ rw (c .before .activated .ensures))
+returns-4 c = let k = activates-kept _ _ _ _ (c .before .before .before .before .deed2 .given .1) (c .before .before .before .before .before .before .before .before .pre) in activates-done _ _ _ _ _ (table-typed (c .before .before .before .before .before .before .before .before .args .t1) _ (c .before .before .before .before .before .before .before .before .good .0)) (k .inside) (c .before .before .before .before .deed2 .given .1) (c .with2 .ensures ∙ rw (c .before .activated .ensures))
 
 returns-5 : tie.Need-returns-5
 unfolding done
-returns-5 c = rw (c .with3 .ensures, c .before .entry-for2 .ensures, c .before .before .before .before .before .taken-of .ensures, c .before .before .before .deed3 .given .1)
+returns-5 c = rw (c .with3 .ensures, c .before .entry-for2 .ensures, c .before .before .before .deed3 .given .1)
 
 returns-6 : tie.Need-returns-6
 unfolding done
-returns-6 c = rw (c .with4 .ensures, c .before .blank-entry .ensures, c .before .before .before .before .before .taken-of .ensures, c .before .before .before .deed4 .given .1)
+returns-6 c = rw (c .with4 .ensures, c .before .blank-entry .ensures, c .before .before .before .deed4 .given .1)
 
 pub carry-out-spec : {M : Type 1} → statement M
 carry-out-spec =
     tie.close
     (tie.spec
-    taken-of-requires
     enum-told
     enum-known-deed
     entry-for-requires

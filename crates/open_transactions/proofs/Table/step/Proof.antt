@@ -1,5 +1,4 @@
 -- What is chosen is carried out. Assumes nothing.
-use mathlib.Core.Path.{_∙_}
 use Rattle.open_transactions.proofs.Typed.{table-typed}
 use Rattle.open_transactions.proofs.Doing.{deed-doable}
 use Rattle.open_transactions.specs.Table.{stepped}
@@ -16,9 +15,12 @@ told-by-requires c κs = search needs
 carry-out-requires : tie.Need-carry-out-requires
 carry-out-requires c κs = rw (c .before .choose .ensures, c .told-by .ensures) (deed-doable _ _ _ _ (table-typed (c .before .before .before .before .args .self) _ (c .before .before .before .before .good .0)))
 
+taken-of-requires : tie.Need-taken-of-requires
+taken-of-requires c κs = search needs
+
 returns : tie.Need-returns
 unfolding stepped
-returns c = c .carry-out .ensures ∙ rw (c .before .told-by .ensures, c .before .before .choose .ensures)
+returns c = rw (c .taken-of .ensures, c .before .carry-out .ensures, c .before .before .told-by .ensures, c .before .before .before .choose .ensures)
 
 pub step-spec : {M : Type 1} → statement M
-step-spec = tie.close (tie.spec choose-requires told-by-requires carry-out-requires returns)
+step-spec = tie.close (tie.spec choose-requires told-by-requires carry-out-requires taken-of-requires returns)
