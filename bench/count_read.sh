@@ -1,5 +1,5 @@
 #!/bin/sh
-# Counts the instructions of reader::read, which hands back a record, beside the
+# Counts the instructions of read::read, which hands back a record, beside the
 # plain reader: count_read.sh PROGRAM VECTORS
 #
 # PROGRAM is the crate `readings`, built. It reads each message once more for every

@@ -1,5 +1,4 @@
 pub mod Bits
-pub mod Few
 pub mod Fields
 pub mod Kept
 pub mod Listed

@@ -4,21 +4,16 @@ pub mod unitdata;
 ghost use mathlib.Core.Path.{_≡_};
 ghost use Rattle.card.specs.Answer.{origBits, sendBits, refusalBits, listedBits, readAnswer, readRoom, writtenBits, writeAnswer, steeredBits, steerAnswer, listAnswer, listRoom, layoutBits};
 ghost use Rattle.table_octets.specs.Octets.{replying, leaving, replyNumber};
-ghost use Rattle.tcap.specs.Reading.{reading};
 ghost use Rattle.writer.specs.Octets.{leavesOctets};
 ghost use Rattle.writer.specs.Writing.{writeNumber};
 use base::put_part;
 use listing::Listed;
-use pack::head::put_head;
 use steering::Steered;
 use tcap::Answer;
 use tcap::InvokeId;
 use tcap::OptionalOrig;
 use tcap::Outcome;
-use tcap::Reading;
-use tcap::Record;
 use tcap::Refusal;
-use unpack::row::rows_in;
 use writer::WriteFault;
 use writer::Written;
 ghost use Prim.Native.Nat.{_+_, _*_, _%_, _^_, _<_};
@@ -92,18 +87,12 @@ pub extern "C" fn goldenskep_read(message: &[u8], room: &mut [u8]) -> u64
     if room.len() < 428 {
         return 25;
     }
-    let mut octets = [0u8; 384];
-    let outline = reader::read_rows(message, &mut octets);
-    let outcome = outline.outcome;
+    let mut octets = [0u8; 428];
+    let outcome = read::read_octets(message, &mut octets);
     match outcome {
         Outcome::Accepted => {
-            let kind = outline.kind;
-            let orig = outline.orig;
-            let dest = outline.dest;
-            let dialogue = outline.dialogue;
-            let count = outline.count;
-            let o = put_head(room, 0, kind, orig, dest, dialogue, count);
-            put_part(room, o, &octets[..count * 24]);
+            let count = octets[7] as usize;
+            put_part(room, 0, &octets[..44 + count * 24]);
             0
         }
         Outcome::Refused(refusal) => refusal_bits(refusal),
@@ -170,39 +159,13 @@ fn listed_bits(listed: Listed) -> u64
     }
 }
 
-// The reading of a message as one record, made of the octets of `read_rows`: with `reader::read` in the library too, every reading through C would cost more.
-fn reading_of(message: &[u8]) -> Reading
-    ensures { λ r. ⌜ r ≡ reading (now (message .entry)) ⌝ }
-{
-    let mut octets = [0u8; 384];
-    let outline = reader::read_rows(message, &mut octets);
-    let outcome = outline.outcome;
-    let kind = outline.kind;
-    let orig = outline.orig;
-    let dest = outline.dest;
-    let dialogue = outline.dialogue;
-    let count = outline.count;
-    let rows = rows_in(&octets, count);
-    Reading {
-        outcome: outcome,
-        message: Record {
-            kind: kind,
-            orig: orig,
-            dest: dest,
-            dialogue: dialogue,
-            count: count,
-            rows: rows,
-        },
-    }
-}
-
 // Lists the reading of a message as text: its length, or 25 and the buffer left alone.
 #[no_mangle]
 pub extern "C" fn goldenskep_list(message: &[u8], out: &mut [u8]) -> u64
     ensures { λ r. ⌜ r ≡ listAnswer (now (message .entry)) (now (out .entry)) ⌝ }
     ensures { λ _. ⌜ now (out .exit) ≡ listRoom (now (message .entry)) (now (out .entry)) ⌝ }
 {
-    let reading = reading_of(message);
+    let reading = read::read(message);
     let listed = listing::list_reading(message, reading, out);
     listed_bits(listed)
 }

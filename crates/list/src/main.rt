@@ -1,7 +1,7 @@
 // Reads a message from standard input, and writes its listing.
 use libc::STDIN_FILENO;
 use libc::STDOUT_FILENO;
-use reader::read;
+use read::read;
 use report::list_into;
 
 fn main() {

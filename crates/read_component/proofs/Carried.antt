@@ -27,7 +27,7 @@ use Rattle.read_place.proofs.Answers.{far-fault}
 use Rattle.element.proofs.Asking.{Then, the-fact}
 use Rattle.primitive.specs.Primitive.{integerOk, signedOf}
 use Rattle.read_component.specs.Components.{Carries}
-use Rattle.read_component.proofs.Coded.{value-id, id-placed, id-is}
+use Rattle.read_component.proofs.Values.{value-id, id-placed, id-is}
 
 carries-noted : {A : Type 0} (a : ℤ) (x : Got A) → Carries (some a) (blamed (noted a) x)
 unfolding Carries blamed withInvokeId

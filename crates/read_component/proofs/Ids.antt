@@ -1,6 +1,6 @@
 -- Which invoke ID a fault in a component carries, by its tag and what stands first in it. Assumes nothing.
-use Prim.Native.Nat.{ℕ, _+_, _-_, _≤_, _<_}
-use mathlib.Core.Path.{_≡_, refl, sym, ap, _∙_, fun-ext}
+use Prim.Native.Nat.{ℕ, _+_, _-_, _/_, _%_, _≤_, _<_}
+use mathlib.Core.Path.{_≡_, refl, sym, ap, _∙_}
 use mathlib.Core.Bool.{Bool, true, false, cond}
 use mathlib.Core.List.{List, [], _∷_}
 use mathlib.Core.Option.{Option, none, some}
@@ -20,8 +20,8 @@ use Rattle.element.specs.Head.{endOf, lengthOf}
 use Rattle.element.specs.Answers.{frontOf}
 use Rattle.element.proofs.Reading.{definite-size}
 use Rattle.element.specs.Fault.{Fault, fault, Text, withInvokeId}
-use Rattle.element.specs.Ask.{Got, got, bad, next, check, blamed, Head, Body, askLength, atEnd, ask}
-use Rattle.element.specs.Parts.{Item, Where, firstOf, level, place, leafItem, mapItem, aroundItem, integerItem, optBody, lastBody, onlyBody, bindBody, mapBody}
+use Rattle.element.specs.Ask.{Got, got, bad, next, check, blamed, Body, askLength, atEnd, ask}
+use Rattle.element.specs.Parts.{Item, Where, firstOf, level, leafItem, mapItem, aroundItem, integerItem, optBody, lastBody, onlyBody, bindBody, mapBody}
 use Rattle.element.proofs.Asking.{Then, fact, void, then-next, then-blamed, ask-sound}
 use Rattle.tcap.specs.Meaning.{last, notLast, reject}
 use Rattle.tcap.specs.WellFormed.{deepestLevel}
@@ -31,29 +31,17 @@ use Rattle.read_place.proofs.Views.{span-length, span-get}
 use Rattle.read_place.proofs.Answers.{placed-near}
 use Rattle.read_place.proofs.Values.{placed-got}
 use Rattle.read_place.proofs.Fronts.{byFront, ask-front}
-use Rattle.read_place.proofs.Onto.{ask-bind, ask-map, ask-onto, missing-both}
+use Rattle.read_place.proofs.Onto.{ask-bind, ask-map}
 use Rattle.read_place.proofs.Items.{stands-here, stands-only, stands-other, or-left, or-right, placed-item, front-octet, Entered, ask-entered}
 use Rattle.read_place.proofs.Bodies.{placed-where}
 use Rattle.read_place.proofs.Optional.{entry-from, entry-to}
-use Rattle.read_component.specs.Components.{returnedBody, bodyOf, Carries, idTold, KnowsId}
-use Rattle.read_component.proofs.Around.{around-ask}
-use Rattle.read_component.proofs.ByTag.{lead, by-tag}
-use Rattle.read_component.proofs.Coded.{value-id, id-is, head-first}
+use Rattle.read_row.specs.Component.{returnedBody, bodyOf}
+use Rattle.read_component.specs.Components.{Carries, idTold, KnowsId}
+use Rattle.read_place.proofs.Around.{around-ask}
+use Rattle.read_part.proofs.Laid.{item-map}
+use Rattle.read_row.proofs.ByTag.{lead, by-tag}
+use Rattle.read_component.proofs.Values.{value-id, id-is, head-first}
 use Rattle.read_component.proofs.Carried.{carries-map, plain-id, carries-none, carries-id, far-carries, null-carries, known-carries}
-
--- An item under another name
-
-blamed-next : {A B : Type 0} (w : Fault → Fault) (f : A → B) (x : Got A) → blamed w (next x (λ a n. got (f a) n)) ≡ next (blamed w x) (λ a n. got (f a) n)
-unfolding blamed next
-blamed-next w f (got a n) = refl
-blamed-next w f (bad g) = refl
-
-module _ {A B : Type 0} (w : Where) (o : FaultKind) (f : A → B) (x : Item A) (d : Bool) (p : ℕ) (part : List ℕ) where
-  renamed : front w o (mapItem f x) ≡ place w none (x .mine) o (λ d h p part. next (blamed (w .owner) (x .contents h p part)) (λ a n. got (f a) n))
-  renamed = ap (λ (g : Bool → Head → ℕ → List ℕ → Got B). place w none (x .mine) o g) (fun-ext λ d. fun-ext λ h. fun-ext λ p. fun-ext λ part. blamed-next (w .owner) f (x .contents h p part))
-
-  item-map : ask (front w o (mapItem f x)) d p part ≡ next (ask (front w o x) d p part) (λ a n. got (f a) n)
-  item-map = ap (λ (b : Body B). ask b d p part) renamed ∙ ask-onto (front w o x) none (λ d p part a n. got (f a) n) d p part (λ e. missing-both (front w o x) _ d p part _)
 
 -- A Reject
 
@@ -269,8 +257,9 @@ module _ (m : List ℕ) (at stop : ℕ) (h : until stop ≤ length m) where
       unfolding idTold
       told-none f = component-carries m at stop h here b asked told inner entry top near st start none (first-none (getD m at 0) m st inner (fits .1) (fits .0) r id f)
 
-      pub told-id : Near r → KnowsId m at stop (256 + getD m (st + 2) 0)
+      pub told-id : getD m (st + 2) 0 < 256 → Near r → KnowsId m at stop (256 + getD m (st + 2) 0)
       unfolding idTold
-      told-id f =
-          let octet : 256 + getD m (st + 2) 0 - 256 ≡ getD m (st + 2) 0 = omega arith in
-          rw (ne-eqb (256 + getD m (st + 2) 0) 0 (λ z. omega (arith, z)), octet) (component-carries m at stop h here b asked told inner entry top near st start _ (first-id (getD m at 0) m st inner (fits .1) (fits .0) r id f))
+      told-id low f =
+          let some-id : (256 + getD m (st + 2) 0) / 256 ≡ 1 = omega (arith, low) in
+          let octet : (256 + getD m (st + 2) 0) % 256 ≡ getD m (st + 2) 0 = omega (arith, low) in
+          rw (some-id, octet) (component-carries m at stop h here b asked told inner entry top near st start _ (first-id (getD m at 0) m st inner (fits .1) (fits .0) r id f))

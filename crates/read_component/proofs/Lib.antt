@@ -1,8 +1,6 @@
-pub mod Contents
-pub mod Around
-pub mod ByTag
 pub mod Rows
-pub mod Coded
+pub mod Values
 pub mod Carried
 pub mod Owners
 pub mod Ids
+pub mod Filled

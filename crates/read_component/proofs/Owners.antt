@@ -27,7 +27,8 @@ use Rattle.read_place.proofs.Answers.{far-fault}
 use Rattle.read_place.proofs.Fronts.{byFront, ask-front, ended-is, more-here}
 use Rattle.read_place.proofs.Walks.{unfinished-is}
 use Rattle.read_place.proofs.Onto.{blamed-same}
-use Rattle.read_component.specs.Components.{ReadsComponent, endsAt, rowsBody, Tells, Carries}
+use Rattle.read_row.specs.Component.{ReadsComponent}
+use Rattle.read_component.specs.Components.{endsAt, rowsBody, Tells, Carries}
 use Rattle.read_component.proofs.Rows.{series-missing, series-cut, series-full, here, one-more}
 
 -- An element belongs to its owner from its tag to the end of its contents

@@ -23,7 +23,8 @@ use Rattle.read_place.proofs.Fronts.{ended-is, not-ended, more-here, shut-here}
 use Rattle.read_place.proofs.Walks.{unfinished-is}
 use Rattle.read_place.proofs.Onto.{blamed-same, rest, ask-onto}
 use Rattle.read_place.proofs.Bodies.{placed-where}
-use Rattle.read_component.specs.Components.{ReadsComponent, endsAt, rowsBody}
+use Rattle.read_row.specs.Component.{ReadsComponent}
+use Rattle.read_component.specs.Components.{endsAt, rowsBody}
 
 -- A series at a place: its end, no room, one more
 
@@ -33,7 +34,7 @@ module _ {A : Type 0} (w : ℕ → Where) (o : FaultKind) (x : Item A) (k : ℕ)
   series-missing zero e = rw e
   series-missing (suc room) e = rw e
 
-  series-whole : (room : ℕ) → endOf d part ≡ EndRead.Ended → ask (seriesBody w o x (some []) room k) d p part ≡ got [] 0
+  pub series-whole : (room : ℕ) → endOf d part ≡ EndRead.Ended → ask (seriesBody w o x (some []) room k) d p part ≡ got [] 0
   unfolding seriesBody ask askEnd atEnd
   series-whole zero e = rw e
   series-whole (suc room) e = rw e

@@ -1,5 +1,5 @@
 -- What stands in a constructor: one element, contents under another name or with other levels left, octets that are kept. Assumes nothing.
-use Prim.Native.Nat.{ℕ, _+_, _-_, _≤_, _<_}
+use Prim.Native.Nat.{ℕ, _+_, _-_, _≤_}
 use mathlib.Core.Path.{_≡_, refl, sym, ap, ap₂, _∙_, fun-ext}
 use mathlib.Core.Bool.{Bool, true, false}
 use mathlib.Core.List.{List}
@@ -8,7 +8,6 @@ use native.Mathlib.Omega.{arith}
 use native.Mathlib.Nat.{add-zero}
 use lib.ListN.{length, getD, drop, take}
 use lib.Dec.{eqb, ltb}
-use borrow.Author.Tests.{lt-ltb, le-ltb}
 use Rattle.element.specs.declared.FaultKind.{FaultKind}
 use Rattle.element.specs.declared.EndRead.{EndRead}
 use Rattle.element.specs.declared.TagRead.{TagRead}
@@ -21,7 +20,7 @@ use Rattle.element.specs.Ask.{Got, got, bad, next, check, blamed, Head, definit
 use Rattle.element.specs.Parts.{Item, Where, level, place, inside, aroundItem, keptItem, mapItem, bindBody, silently, onlyBody, mapBody}
 use Rattle.element.proofs.Reading.{definite-size, indefinite-size}
 use Rattle.read_place.specs.Places.{Far, Near, until, finite, part, front, Placed, Closed, nothing, Reads, Finishes, Leads, entryPlace, lengthPlace, lengthSize, opening}
-use Rattle.read_place.proofs.Views.{span-length, span-get, span-drop, span-inner}
+use Rattle.read_place.proofs.Views.{span-length, span-get, span-drop}
 use Rattle.read_place.proofs.Answers.{Keeps, far, close-near, closing-blamed, closing-rest}
 use Rattle.read_place.proofs.Fronts.{byFront, ask-front}
 use Rattle.read_place.proofs.Onto.{rest, ask-bind, ask-only, ask-map}
@@ -53,8 +52,8 @@ abbrev itemOf : {A : Type 0} → ℕ → (Head → ℕ → List ℕ → Got A) �
 itemOf t k = record { mine = λ a. eqb a t; contents = k }
 
 module _ {A : Type 0} (t : ℕ) (k l : Head → ℕ → List ℕ → Got A) (same : (h : Head) (p : ℕ) (part : List ℕ) → k h p part ≡ l h p part) where
-  pub reads-alike : (m : List ℕ) (at stop r : ℕ) → Reads (itemOf t k) m at stop r → Reads (itemOf t l) m at stop r
-  reads-alike m at stop r e = rw (ap (λ (c : Head → ℕ → List ℕ → Got A). ask (front (level 1) FaultKind.Another (itemOf t c)) (finite stop) at (part m at stop)) (fun-ext λ h. fun-ext λ p. fun-ext λ q. sym (same h p q))) e
+  alike : (m : List ℕ) (at stop : ℕ) → ask (front (level 1) FaultKind.Another (itemOf t k)) (finite stop) at (part m at stop) ≡ ask (front (level 1) FaultKind.Another (itemOf t l)) (finite stop) at (part m at stop)
+  alike m at stop = ap (λ (c : Head → ℕ → List ℕ → Got A). ask (front (level 1) FaultKind.Another (itemOf t c)) (finite stop) at (part m at stop)) (fun-ext λ h. fun-ext λ p. fun-ext λ q. same h p q)
 
 -- with other levels left
 module _ {A : Type 0} (l : ℕ) (deep : ltb 0 l ≡ true) (e : Option A) (mine : ℕ → Bool) (o : FaultKind) (goes : Bool → Head → ℕ → List ℕ → Got A) (d : Bool) (p : ℕ) (part : List ℕ) where
@@ -92,9 +91,12 @@ module _ {A : Type 0} (l : ℕ) (deep : ltb 0 l ≡ true) (x : Item A) where
   only-inside (head a u (definite n)) p part = rw (only-level true (p + u) (take n (drop u part)))
   only-inside (head a u indefinite) p part = rw (only-level false (p + u) (drop u part))
 
+  pub level-ask : (t : ℕ) (m : List ℕ) (at stop : ℕ) → ask (front (level 1) FaultKind.Another (aroundItem t (onlyBody (level 1) x))) (finite stop) at (part m at stop) ≡ ask (front (level 1) FaultKind.Another (aroundItem t (onlyBody (level l) x))) (finite stop) at (part m at stop)
+  level-ask t m at stop =
+      alike t (aroundItem t (onlyBody (level 1) x) .contents) (aroundItem t (onlyBody (level l) x) .contents) (λ h p part. ap (λ (z : Got (A × Text)). next z (λ v n. got (v .0) n)) (only-inside h p part)) m at stop
+
   pub at-level : (t : ℕ) (m : List ℕ) (at stop r : ℕ) → Reads (aroundItem t (onlyBody (level 1) x)) m at stop r → Reads (aroundItem t (onlyBody (level l) x)) m at stop r
-  at-level t m at stop r e =
-      reads-alike t (aroundItem t (onlyBody (level 1) x) .contents) (aroundItem t (onlyBody (level l) x) .contents) (λ h p part. ap (λ (z : Got (A × Text)). next z (λ v n. got (v .0) n)) (only-inside h p part)) m at stop r e
+  at-level t m at stop r e = rw (← (level-ask t m at stop)) e
 
 -- under another name
 module _ {A B : Type 0} (f : A → B) (b : Body A) where
@@ -108,8 +110,11 @@ module _ {A B : Type 0} (f : A → B) (b : Body A) where
   named-around t (head a u (definite n)) p part = rw (ask-map f b true (p + u) (take n (drop u part))) (sym (named-got (ask b true (p + u) (take n (drop u part))) (λ k. (p + u, take n (drop u part))) (λ k. u + n)))
   named-around t (head a u indefinite) p part = rw (ask-map f b false (p + u) (drop u part)) (sym (named-got (ask b false (p + u) (drop u part)) (λ k. (p + u, take k (drop u part))) (λ k. u + (k + 2))))
 
+  pub named-ask : (t : ℕ) (m : List ℕ) (at stop : ℕ) → ask (front (level 1) FaultKind.Another (mapItem f (aroundItem t b))) (finite stop) at (part m at stop) ≡ ask (front (level 1) FaultKind.Another (aroundItem t (mapBody f b))) (finite stop) at (part m at stop)
+  named-ask t m at stop = alike t (mapItem f (aroundItem t b) .contents) (aroundItem t (mapBody f b) .contents) (named-around t) m at stop
+
   pub around-named : (t : ℕ) (m : List ℕ) (at stop r : ℕ) → Reads (aroundItem t b) m at stop r → Reads (aroundItem t (mapBody f b)) m at stop r
-  around-named t m at stop r e = reads-alike t (mapItem f (aroundItem t b) .contents) (aroundItem t (mapBody f b) .contents) (named-around t) m at stop r (reads-map f (aroundItem t b) m at stop r e)
+  around-named t m at stop r e = rw (← (named-ask t m at stop)) (reads-map f (aroundItem t b) m at stop r e)
 
 -- how many octets a length takes is told by its first
 pub size-is : (m : List ℕ) (at stop : ℕ) → until stop ≤ length m → (c : Bool) (n : LengthRead) → lengthOf (part m (at + 1) stop) c ≡ n → 1 ≤ length (part m (at + 1) stop) → SizeIs (getD m (at + 1) 0) n
@@ -152,50 +157,6 @@ module _ {A : Type 0} (tag : ℕ) (leads : Leads tag) (kind : constructorOf tag 
 
   pub kept-near : Finishes (b (length (part m st inner))) m st inner r → Reads (keptItem tag b) m at stop r
   kept-near f = let i = entered true m at stop tag inner g h entry near in kept-len i (i .len) refl f
-
--- A constructor is asked as its contents are
-
-pub record Opened {A : Type 0} (b : Body A) (tag : ℕ) (m : List ℕ) (at stop inner st : ℕ) : Type 0 where
-  pub text : ℕ → Text
-  pub size : ℕ → ℕ
-  pub is : ask (front (level 1) FaultKind.Another (aroundItem tag b)) (finite stop) at (part m at stop) ≡ blamed (λ f. f) (next {A = A × Text} (next (ask b (finite inner) st (part m st inner)) (λ v k. got (v, text k) (size k))) (λ v n. got (v .0) n))
-
-module _ {A : Type 0} (tag : ℕ) (leads : Leads tag) (kind : constructorOf tag ≡ true) (b : Body A) (m : List ℕ) (at stop inner : ℕ) (g : at ≤ until stop) (h : until stop ≤ length m) (entry : inner ≡ entryPlace true m at stop tag)
-    (top : length m ≤ 65535) (near : Near inner) (st : ℕ) (start : st ≡ at + 1 + lengthSize (getD m (at + 1) 0)) where
-  opened-by : (i : Entered true m at stop tag inner) (n : LengthRead) → i .len ≡ n → Opened b tag m at stop inner st
-  unfolding lengthPlace askLength inside SizeIs
-  opened-by i (LengthRead.Fault k) e = absurd (omega (arith, near, far k, (i .answer ∙ ap (lengthPlace at (at + 1) (until stop)) e)))
-  opened-by i (LengthRead.Definite k n) e =
-      let q : lengthOf (part m (at + 1) stop) true ≡ LengthRead.Definite k n = i .len-is ∙ e in
-      let a : inner ≡ at + 1 + (k + n) = i .answer ∙ ap (lengthPlace at (at + 1) (until stop)) e in
-      let z = definite-size (part m (at + 1) stop) true k n (LengthRead.Definite k n) (sym q) refl in
-      let room : at + 1 + (k + n) ≤ until stop = omega (arith, z, span-length m (at + 1) (until stop) h, i .here) in
-      let size : k ≡ lengthSize (getD m (at + 1) 0) = size-is m at stop h true (LengthRead.Definite k n) q (omega (arith, z)) in
-      let from : st ≡ at + (1 + k) = omega (arith, start, size) in
-      let low : inner < opening = omega (arith, a, room, h, top) in
-      let same : until inner ≡ inner = omega (arith, low) in
-      let to : at + (1 + k) + n ≡ inner = omega (arith, a) in
-      record {
-        text = λ j. (at + (1 + k), take n (drop (1 + k) (part m at stop)));
-        size = λ j. 1 + k + n;
-        is = rw (ask-entered true m at stop tag inner g h entry (aroundItem tag b) leads kind (λ a. refl) i, e, span-inner m at (until stop) (1 + k) n (omega (arith, room)) h, to, lt-ltb inner opening low, same, from);
-      }
-  opened-by i LengthRead.Indefinite e =
-      let q : lengthOf (part m (at + 1) stop) true ≡ LengthRead.Indefinite = i .len-is ∙ e in
-      let a : inner ≡ opening + until stop = i .answer ∙ ap (lengthPlace at (at + 1) (until stop)) e in
-      let z = indefinite-size (part m (at + 1) stop) true LengthRead.Indefinite (sym q) refl in
-      let size : 1 ≡ lengthSize (getD m (at + 1) 0) = size-is m at stop h true LengthRead.Indefinite q (z .0) in
-      let from : st ≡ at + 2 = omega (arith, start, size) in
-      let high : opening ≤ inner = omega (arith, a) in
-      let same : until inner ≡ until stop = omega (arith, a) in
-      record {
-        text = λ j. (at + 2, take j (drop 2 (part m at stop)));
-        size = λ j. 2 + (j + 2);
-        is = rw (ask-entered true m at stop tag inner g h entry (aroundItem tag b) leads kind (λ a. refl) i, e, span-drop m at (until stop) 2, le-ltb inner opening high, same, from);
-      }
-
-  pub around-opened : Opened b tag m at stop inner st
-  around-opened = let i = entered true m at stop tag inner g h entry near in opened-by i (i .len) refl
 
 -- A first element whose value decides the rest
 

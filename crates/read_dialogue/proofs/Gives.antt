@@ -1,17 +1,17 @@
 -- The value of what was read, from the values of its parts: an element gives it, contents have it. Assumes nothing.
-use Prim.Native.Nat.{ℕ, _+_, _-_, _≤_}
+use Prim.Native.Nat.{ℕ, _+_, _≤_}
 use mathlib.Core.Path.{_≡_, refl, sym, ap, ap₂, _∙_}
 use mathlib.Core.Bool.{Bool, true, false, false≢true}
 use mathlib.Core.List.{List}
 use mathlib.Core.Option.{Option, none, some}
-use lib.ListN.{length, getD, drop, take}
+use lib.ListN.{length, getD, drop}
 use lib.Dec.{eqb, ltb}
 use Rattle.element.specs.declared.FaultKind.{FaultKind}
 use Rattle.element.specs.declared.EndRead.{EndRead}
 use Rattle.element.specs.declared.TagRead.{TagRead}
 use Rattle.element.specs.declared.LengthRead.{LengthRead}
 use Rattle.element.specs.Element.{constructorOf}
-use Rattle.element.specs.Fault.{Fault, Text, at}
+use Rattle.element.specs.Fault.{Fault, at}
 use Rattle.element.specs.Head.{endOf, lengthOf}
 use Rattle.element.specs.Answers.{frontOf}
 use Rattle.element.specs.Ask.{Got, got, bad, check, blamed, Head, definite, indefinite, head, Body, askLength, atEnd, ask}
@@ -21,21 +21,17 @@ use Rattle.read_place.specs.Places.{Near, until, finite, part, front, Placed, R
 use Rattle.read_place.proofs.Answers.{Keeps}
 use Rattle.read_place.proofs.Fronts.{byFront, ask-front}
 use Rattle.read_place.proofs.Onto.{ask-only, ask-last-ended}
+use Rattle.read_place.proofs.Around.{around-ask}
 use Rattle.read_place.proofs.Bodies.{placed-where}
 use Rattle.read_place.proofs.Items.{or-left, or-right}
 use Rattle.read_place.proofs.Values.{step, behind-value, done-value, bind-value, last-value, map-value, opt-none-value, opt-some-value}
 use Rattle.read_dialogue.specs.Dialogues.{Passed, Passes}
-use Rattle.read_dialogue.proofs.Around.{around-opened}
 
 abbrev pub Gives : {A : Type 0} → Item A → List ℕ → ℕ → ℕ → A → Type 0
 Gives x m at stop v = Then (λ a n. a ≡ v) (ask (front (level 1) FaultKind.Another x) (finite stop) at (part m at stop))
 
 abbrev pub Has : {A : Type 0} → Body A → List ℕ → ℕ → ℕ → A → Type 0
 Has b m at stop v = Then (λ a n. a ≡ v) (ask b (finite stop) at (part m at stop))
-
--- the octets from a place to another
-abbrev pub textAt : List ℕ → ℕ → ℕ → Text
-textAt m p q = (p, take (q - p) (drop p m))
 
 -- An element by its contents, wherever it stands
 
@@ -109,7 +105,7 @@ pub map-has : {A B : Type 0} (f : A → B) (b : Body A) (m : List ℕ) (at stop 
 map-has f b m at stop v h = map-value f b (finite stop) at (part m at stop) (λ a. a ≡ v) (λ c. c ≡ f v) (λ a q. ap f q) h
 
 -- one that may be left out, and whose value does not matter
-whatever : {A : Type 0} (x : Got A) → Then (λ a n. Unit {0}) x
+pub whatever : {A : Type 0} (x : Got A) → Then (λ a n. Unit {0}) x
 whatever (got a n) = fact tt
 whatever (bad f) = void
 
@@ -139,4 +135,4 @@ module _ {A B : Type 0} (tag : ℕ) (x : Item A) (only : (a : ℕ) → x .mine a
 module _ {A : Type 0} (tag : ℕ) (leads : Leads tag) (kind : constructorOf tag ≡ true) (b : Body A) (m : List ℕ) (at stop inner : ℕ) (g : at ≤ until stop) (h : until stop ≤ length m) (entry : inner ≡ entryPlace true m at stop tag)
     (top : length m ≤ 65535) (near : Near inner) (st : ℕ) (start : st ≡ at + 1 + lengthSize (getD m (at + 1) 0)) where
   pub around-gives : (v : A) → Has b m st inner v → Gives (aroundItem tag b) m at stop v
-  around-gives v f = let o = around-opened tag leads kind b m at stop inner g h entry top near st start in rw (o .is) (then-blamed (λ f. f) (then-next {P = λ u j. u .0 ≡ v} (then-next f (λ u j w. fact w)) (λ u j w. fact w)))
+  around-gives v f = let (size, is) = around-ask b m at stop tag inner st g h top leads kind entry near start in rw is (then-next f (λ u j w. fact w))

@@ -3,5 +3,8 @@ pub mod Externals
 pub mod Pdus
 pub mod Names
 pub mod Gives
+pub mod Leaving
 pub mod Values
+pub mod PdusLeft
+pub mod NamesLeft
 pub mod Owners

@@ -19,6 +19,7 @@ use Rattle.element.proofs.Asking.{the-fact}
 use Rattle.element.proofs.Reading.{definite-size, indefinite-size}
 use Rattle.primitive.specs.Primitive.{identifierOk}
 use Rattle.tcap.specs.Meaning.{Dialogue, single, octets, structured, unstructured}
+use Rattle.tcap.specs.Names.{kindOf, nameKind}
 use Rattle.tcap.specs.WellFormed.{deepestLevel}
 use Rattle.tcap.specs.Productions.{nameItem, heldItem, externalBody, inside6B, dialogueItem}
 use Rattle.read_place.specs.Places.{Far, Near, until, faults, finite, part, faultPlace, front, Placed, nothing, Reads, Finishes, standsOf, entryPlace, lengthPlace, lengthSize}
@@ -30,60 +31,8 @@ use Rattle.read_place.proofs.Optional.{around-entry, around-read}
 use Rattle.read_place.proofs.Values.{placed-got, value-leaf}
 use Rattle.read_field.proofs.Choices.{first-of, second-of, reads-map}
 use Rattle.read_field.proofs.Fields.{name-sized}
-use Rattle.read_dialogue.specs.Dialogues.{pduItem, common, kindOf, nameKind, Holds}
+use Rattle.read_dialogue.specs.Dialogues.{pduItem, Holds}
 use Rattle.read_dialogue.proofs.Around.{one-entry, one-far, one-near, bind-known}
-use Rattle.read_dialogue.proofs.Pdus.{other-length, eqb-turned}
-
--- The two names
-
-reorder : (a b c d e f g : Bool) → (a && (b && (c && (d && (e && (f && (g && true))))))) ≡ ((a && (b && (c && (d && (e && g))))) && f)
-reorder false b c d e f g = refl
-reorder true false c d e f g = refl
-reorder true true false d e f g = refl
-reorder true true true false e f g = refl
-reorder true true true true false f g = refl
-reorder true true true true true false false = refl
-reorder true true true true true false true = refl
-reorder true true true true true true false = refl
-reorder true true true true true true true = refl
-
--- names that differ in their sixth octet
-pub seven : (x : ℕ) (c : List ℕ) → length c ≡ 7 → same (0x00 ∷ 0x11 ∷ 0x86 ∷ 0x05 ∷ 0x01 ∷ x ∷ 0x01 ∷ []) c ≡ (common c && eqb (getD c 5 0) x)
-unfolding same common
-seven x [] h = let z : _≡_ {A = ℕ} 0 7 = h in absurd (omega arith)
-seven x (a ∷ []) h = let z : _≡_ {A = ℕ} 1 7 = h in absurd (omega arith)
-seven x (a ∷ b ∷ []) h = let z : _≡_ {A = ℕ} 2 7 = h in absurd (omega arith)
-seven x (a ∷ b ∷ c ∷ []) h = let z : _≡_ {A = ℕ} 3 7 = h in absurd (omega arith)
-seven x (a ∷ b ∷ c ∷ d ∷ []) h = let z : _≡_ {A = ℕ} 4 7 = h in absurd (omega arith)
-seven x (a ∷ b ∷ c ∷ d ∷ e ∷ []) h = let z : _≡_ {A = ℕ} 5 7 = h in absurd (omega arith)
-seven x (a ∷ b ∷ c ∷ d ∷ e ∷ f ∷ []) h = let z : _≡_ {A = ℕ} 6 7 = h in absurd (omega arith)
-seven x (a ∷ b ∷ c ∷ d ∷ e ∷ f ∷ g ∷ []) h =
-    rw (eqb-turned a 0x00 _ refl, eqb-turned b 0x11 _ refl, eqb-turned c 0x86 _ refl, eqb-turned d 0x05 _ refl, eqb-turned e 0x01 _ refl, eqb-turned f x _ refl, eqb-turned g 0x01 _ refl)
-    (reorder (eqb a 0x00) (eqb b 0x11) (eqb c 0x86) (eqb d 0x05) (eqb e 0x01) (eqb f x) (eqb g 0x01))
-seven x (a ∷ b ∷ c ∷ d ∷ e ∷ f ∷ g ∷ i ∷ r) h = absurd (omega (arith, h))
-
-module _ (c : List ℕ) where
-  pub kind-short : (length c ≡ 7 → ⊥) → 0 ≡ nameKind c
-  unfolding kindOf
-  kind-short h = rw (other-length structured c h, other-length unstructured c h)
-
-  module _ (h : length c ≡ 7) (b : Bool) (is-b : b ≡ common c) where
-    pub kind-other : b ≡ false → 0 ≡ nameKind c
-    unfolding kindOf
-    kind-other e = rw (seven 0x01 c h, seven 0x02 c h, ← is-b, e)
-
-    module _ (e : b ≡ true) where
-      pub kind-structured : getD c 5 0 ≡ 1 → 1 ≡ nameKind c
-      unfolding kindOf
-      kind-structured f = rw (seven 0x01 c h, ← is-b, e, eq-eqb (getD c 5 0) 0x01 f)
-
-      pub kind-unstructured : (getD c 5 0 ≡ 1 → ⊥) → getD c 5 0 ≡ 2 → 2 ≡ nameKind c
-      unfolding kindOf
-      kind-unstructured f g = rw (seven 0x01 c h, seven 0x02 c h, ← is-b, e, ne-eqb (getD c 5 0) 0x01 f, eq-eqb (getD c 5 0) 0x02 g)
-
-      pub kind-outside : (getD c 5 0 ≡ 1 → ⊥) → (getD c 5 0 ≡ 2 → ⊥) → 0 ≡ nameKind c
-      unfolding kindOf
-      kind-outside f g = rw (seven 0x01 c h, seven 0x02 c h, ← is-b, e, ne-eqb (getD c 5 0) 0x01 f, ne-eqb (getD c 5 0) 0x02 g)
 
 -- Behind another name: A0 around one element
 
@@ -139,17 +88,11 @@ module _ (m : List ℕ) (at stop r : ℕ) where
   by-outside false true e q = absurd (omega (arith, e))
   by-outside false false e q = q
 
-  by-structured : (s u : Bool) → 1 ≡ kindOf s u → Known true → Holds s u m at stop r
+  by-known : (k : ℕ) (s u : Bool) → k ≡ kindOf s u → (k ≡ 0 → ⊥) → Known (eqb k 1) → Holds s u m at stop r
   unfolding kindOf Holds pduItem
-  by-structured true u e q = λ n. q
-  by-structured false true e q = absurd (omega (arith, e))
-  by-structured false false e q = absurd (omega (arith, e))
-
-  by-unstructured : (k : ℕ) (s u : Bool) → k ≡ kindOf s u → (k ≡ 0 → ⊥) → (k ≡ 1 → ⊥) → Known false → Holds s u m at stop r
-  unfolding kindOf Holds pduItem
-  by-unstructured k true u e f g q = absurd (g e)
-  by-unstructured k false true e f g q = λ n. q
-  by-unstructured k false false e f g q = absurd (f e)
+  by-known k true u e f q = λ n. rw e at q
+  by-known k false true e f q = λ n. rw e at q
+  by-known k false false e f q = absurd (f e)
 
   module _ (name k : ℕ) (xs : List ℕ) (xs-is : xs ≡ take (at - name) (drop name m)) (told : k ≡ nameKind xs) where
     abbrev Behind : Type 0
@@ -158,17 +101,13 @@ module _ (m : List ℕ) (at stop r : ℕ) where
     pub held-outside : k ≡ 0 → Holds false false m at stop r → Behind
     held-outside z e = rw (← xs-is) (by-outside (same structured xs) (same unstructured xs) (sym z ∙ told) e)
 
-    module _ (some : k ≡ 0 → ⊥) where
-      pub held-structured : k ≡ 1 → Reads (aroundItem 160 (onlyBody (level 12) (pduItem true))) m at stop r → Behind
-      held-structured z e = rw (← xs-is) (by-structured (same structured xs) (same unstructured xs) (sym z ∙ told) e)
-
-      pub held-unstructured : (k ≡ 1 → ⊥) → Reads (aroundItem 160 (onlyBody (level 12) (pduItem false))) m at stop r → Behind
-      held-unstructured z e = rw (← xs-is) (by-unstructured k (same structured xs) (same unstructured xs) told some z e)
+    pub held-known : (k ≡ 0 → ⊥) → Reads (aroundItem 160 (onlyBody (level 12) (pduItem (eqb k 1)))) m at stop r → Behind
+    held-known f e = rw (← xs-is) (by-known k (same structured xs) (same unstructured xs) told f e)
 
 -- The contents of 28
 
 module _ (m : List ℕ) (at stop r : ℕ) (e : Reads nameItem m at stop r) where
-  name-lifted : Placed at (until stop) (ask (front (level 13) FaultKind.Another nameItem) (finite stop) at (part m at stop)) r
+  pub name-lifted : Placed at (until stop) (ask (front (level 13) FaultKind.Another nameItem) (finite stop) at (part m at stop)) r
   name-lifted = placed-where nameItem FaultKind.Another (level 13) (λ f. refl) (finite stop) at (part m at stop) (until stop) r refl e
 
   abbrev held-by : Text → Item (Dialogue Text)

@@ -20,6 +20,7 @@ use Rattle.tcap.specs.Meaning.{Dialogue}
 use Rattle.tcap.specs.WellFormed.{deepestLevel}
 use Rattle.tcap.specs.Productions.{externalBody, inside6B, dialogueItem}
 use Rattle.read_place.specs.Places.{Far, Near, until, finite, part, front, Placed, Reads, Leads, endedOf, unfinishedOf, standsOf, entryPlace, lengthPlace, lengthSize, wrongPlace, base}
+use Rattle.read_place.proofs.Around.{around-ask}
 use Rattle.read_place.proofs.Views.{span-length, span-drop}
 use Rattle.read_place.proofs.Answers.{far-fault}
 use Rattle.read_place.proofs.Fronts.{byFront, ask-front, ended-is, more-here}
@@ -28,20 +29,14 @@ use Rattle.read_place.proofs.Onto.{ask-only}
 use Rattle.read_place.proofs.Bodies.{placed-where}
 use Rattle.read_place.proofs.Items.{Entered, ask-entered, stands-here, stands-other}
 use Rattle.read_dialogue.specs.Dialogues.{Belongs, ownerOf, Owns}
-use Rattle.read_dialogue.proofs.Around.{around-opened}
 use Rattle.read_dialogue.proofs.Names.{dialogue-keeps}
 
 -- What is put around a fault does not change whom it belongs to
 
-held-belongs : {A : Type 0} (w : Owner) (x : Got A) (t : ℕ → Text) (u : ℕ → ℕ) → Belongs w x → Belongs w (blamed (λ f. f) (next {A = A × Text} (next x (λ v k. got (v, t k) (u k))) (λ v n. got (v .0) n)))
-unfolding Belongs blamed next
-held-belongs w (got a n) t u e = tt
-held-belongs w (bad (fault k q o i s)) t u e = e
-
-rest-belongs : {A B : Type 0} (w : Owner) (f : A → B) (n : ℕ) (x : Got A) → Belongs w x → Belongs w (next x (λ b k. got (f b) (n + k)))
+rest-belongs : {A B : Type 0} (w : Owner) (f : A → B) (u : ℕ → ℕ) (x : Got A) → Belongs w x → Belongs w (next x (λ b k. got (f b) (u k)))
 unfolding Belongs next
-rest-belongs w f n (got a k) e = tt
-rest-belongs w f n (bad (fault k q o i s)) e = e
+rest-belongs w f u (got a k) e = tt
+rest-belongs w f u (bad (fault k q o i s)) e = e
 
 inside-belongs : {A : Type 0} (x : Got A) → Belongs dialogue (blamed inDialogue x)
 unfolding Belongs blamed inDialogue
@@ -153,7 +148,7 @@ module _ (m : List ℕ) (at stop inner : ℕ) (g : at ≤ until stop) (h : until
   module _ (top : length m ≤ 65535) (near : Near inner) (st : ℕ) (start : st ≡ at + 1 + lengthSize (getD m (at + 1) 0)) (b : Bool) (is : b ≡ endedOf (endOf (finite inner) (part m st inner))) where
     within : (w : Owner) → Belongs w (ask (onlyBody (inside6B deepestLevel) external) (finite inner) st (part m st inner)) → Belongs w (ask (front (level 1) FaultKind.Another (dialogueItem deepestLevel)) (finite stop) at (part m at stop))
     unfolding constructorOf
-    within w e = let o = around-opened 107 (omega arith, omega arith, omega arith) refl (onlyBody (inside6B deepestLevel) external) m at stop inner g h entry top near st start in rw (o .is) (held-belongs w _ (o .text) (o .size) e)
+    within w e = let (size, is) = around-ask (onlyBody (inside6B deepestLevel) external) m at stop 107 inner st g h top (omega arith, omega arith, omega arith) refl entry near start in rw is (rest-belongs w (λ v. v) size _ e)
 
     pub blames-missing : b ≡ true → Owns false m at stop
     unfolding ownerOf ask askEnd atEnd Belongs
@@ -178,7 +173,7 @@ module _ (m : List ℕ) (at stop inner : ℕ) (g : at ≤ until stop) (h : until
           behind-it : (w : Owner) → ((a : Dialogue Text) → Belongs w (ask (done (inside6B deepestLevel) a) (finite inner) r (part m r inner))) → Belongs w (ask (front (level 1) FaultKind.Another (dialogueItem deepestLevel)) (finite stop) at (part m at stop))
           behind-it w q =
               within w (rw (ask-only (inside6B deepestLevel) external (finite inner) st (part m st inner)) (belongs-near _ _ st (until inner) r here w found (λ a n z.
-              rw (span-drop m st (until inner) n) (rest-belongs w (λ b. a) n (ask (done (inside6B deepestLevel) a) (finite inner) (st + n) (part m (st + n) inner)) (rw z at (q a))))))
+              rw (span-drop m st (until inner) n) (rest-belongs w (λ b. a) (λ k. n + k) (ask (done (inside6B deepestLevel) a) (finite inner) (st + n) (part m (st + n) inner)) (rw z at (q a))))))
 
           pub blames-end : d ≡ true → Owns false m at stop
           unfolding ownerOf

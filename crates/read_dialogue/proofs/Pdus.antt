@@ -10,6 +10,7 @@ use lib.Dec.{eqb, ltb}
 use borrow.Author.Tests.{eqb-true, eq-eqb, ne-eqb}
 use Rattle.base.specs.Value.{same}
 use Rattle.base.proofs.Values.{same-equal}
+use Rattle.tcap.proofs.Names.{eqb-turned}
 use Rattle.element.specs.declared.FaultKind.{FaultKind}
 use Rattle.element.specs.Element.{constructorOf}
 use Rattle.element.specs.Fault.{Text}
@@ -29,17 +30,6 @@ use Rattle.read_dialogue.specs.Dialogues.{versionItem, Passed, Passes, n
 use Rattle.read_dialogue.proofs.Around.{one-entry, one-far, one-near, at-level, around-named}
 
 -- The version
-
-pub other-length : (s c : List ℕ) → (length c ≡ length s → ⊥) → same s c ≡ false
-other-length s c h = by-test (same s c) refl
-  where
-    by-test : (b : Bool) → same s c ≡ b → b ≡ false
-    by-test true e = absurd (h (ap length (same-equal s c e)))
-    by-test false e = refl
-
-pub eqb-turned : (a b : ℕ) (t : Bool) → eqb a b ≡ t → eqb b a ≡ t
-eqb-turned a b true e = eq-eqb b a (sym (eqb-true a b e))
-eqb-turned a b false e = ne-eqb b a (λ q. false≢true (sym e ∙ eq-eqb a b (sym q)))
 
 pub two : (c : List ℕ) → length c ≡ 2 → same version c ≡ (eqb (getD c 0 0) 0x07 && eqb (getD c 1 0) 0x80)
 unfolding same

@@ -1,7 +1,7 @@
 -- A dialogue's values from the places that its readers told. Assumes nothing.
 use Prim.Native.Nat.{ℕ, _+_, _-_, _≤_, _<_}
 use mathlib.Core.Path.{_≡_, refl, sym, ap, ap₂, _∙_}
-use mathlib.Core.Bool.{Bool, true, false, cond, _||_, false≢true}
+use mathlib.Core.Bool.{Bool, true, false, _||_, false≢true}
 use mathlib.Core.List.{List, [], _∷_}
 use mathlib.Core.Option.{Option, none, some}
 use native.Mathlib.Omega.{arith}
@@ -36,18 +36,14 @@ use Rattle.read_place.proofs.Onto.{ask-only}
 use Rattle.read_place.proofs.Items.{SizeIs, Entered, entered, ask-entered, front-octet}
 use Rattle.read_place.proofs.Values.{placed-got, value-leaf, value-walk}
 use Rattle.read_field.proofs.Fields.{name-sized, single-sized}
-use Rattle.read_dialogue.specs.Dialogues.{externalsBody, versionItem, Passes, diagnosticItem, askedBody, acceptedBody, answeredBody, abortedBody, pduItem}
+use Rattle.read_dialogue.specs.Dialogues.{externalsBody, versionItem, Passes, diagnosticItem, askedBody, acceptedBody, answeredBody, abortedBody, pduItem, textAt, contentsEnd}
 use Rattle.read_dialogue.proofs.Around.{size-is, kept-near}
 use Rattle.read_dialogue.proofs.Names.{dialogue-keeps}
-use Rattle.read_dialogue.proofs.Gives.{Gives, Has, textAt, then-front, gives-map, gives-first, gives-second, bind-has, then-has, only-has, last-has, none-has, map-has, pass-has, around-gives}
-
--- where contents end of which the place behind them was told
-unfoldable pub contentsEnd : ℕ → ℕ → ℕ
-contentsEnd inner r = cond (finite inner) r (r - 2)
+use Rattle.read_dialogue.proofs.Gives.{Gives, Has, then-front, gives-map, gives-first, gives-second, bind-has, then-has, only-has, last-has, none-has, map-has, pass-has, around-gives}
 
 -- What was got stands up to the place that was told
 
-known : {A : Type 0} (x : Got A) (p end r : ℕ) (P : A → ℕ → Type 0) (v : A) → Placed p end x r → Near r → Then P x → ((b : A) → P b (r - p) → b ≡ v) → Then (λ b n. b ≡ v) x
+pub known : {A : Type 0} (x : Got A) (p end r : ℕ) (P : A → ℕ → Type 0) (v : A) → Placed p end x r → Near r → Then P x → ((b : A) → P b (r - p) → b ≡ v) → Then (λ b n. b ≡ v) x
 known x p end r P v e f h g = let z = placed-got x p end r P e f h in rw (z .1) (fact (g (z .0) (z .2)))
 
 -- A name, and a number

@@ -1,12 +1,14 @@
 -- What the readers of the dialogue portion answer, as their contracts cite it; the definition of reading rests on none of it.
 -- Assumes nothing: these are definitions.
-use Prim.Native.Nat.{ℕ}
-use mathlib.Core.{Path._≡_, Bool.Bool, Bool.true, Bool.false, Bool._&&_, List.List, List.[], Option.Option, Option.some}
-use lib.{ListN.getD, Dec.eqb}
+use Prim.Native.Nat.{ℕ, _-_}
+use mathlib.Core.{Path._≡_, Bool.Bool, Bool.true, Bool.false, Bool.cond, Bool._&&_, List.List, List.[], Option.Option, Option.some}
+use lib.{ListN.getD, ListN.take, ListN.drop, ListN.set, Dec.eqb}
 use Rattle.base.specs.Value.{same}
 use Rattle.element.specs.{declared.FaultKind.FaultKind, Fault.Text, Fault.Owner, Fault.portion, Fault.dialogue, Fault.fault, Ask.Got, Ask.got, Ask.bad, Ask.Body, Ask.ask, Parts.Item, Parts.level, Parts.leafItem, Parts.aroundItem, Parts.mapItem, Parts.orItem, Parts.thenBody, Parts.onlyBody, Parts.seriesBody, Walk.walkTagItem}
-use Rattle.tcap.specs.{declared.Diagnostic.Diagnostic, Meaning.Dialogue, Meaning.request, Meaning.unidialogue, Meaning.structured, Meaning.unstructured, Meaning.version, WellFormed.deepestLevel, Productions.octetItem, Productions.levelAt, Productions.versionBody, Productions.contextItem, Productions.infoBody, Productions.numberItem, Productions.sourceItem, Productions.askedItem, Productions.answeredItem, Productions.abortedItem, Productions.heldItem, Productions.dialogueItem}
+use Rattle.tcap.specs.{declared.Diagnostic.Diagnostic, Meaning.Dialogue, Meaning.request, Meaning.unidialogue, Meaning.response, Meaning.aborted, Meaning.single, Meaning.octets, Meaning.structured, Meaning.unstructured, Meaning.version, WellFormed.deepestLevel, Productions.octetItem, Productions.levelAt, Productions.versionBody, Productions.contextItem, Productions.infoBody, Productions.numberItem, Productions.sourceItem, Productions.askedItem, Productions.answeredItem, Productions.abortedItem, Productions.heldItem, Productions.dialogueItem}
 use Rattle.read_place.specs.Places.{finite, part, front, standsOf, Reads}
+use Rattle.read_place.specs.Laying.{laySpan, layName, layInfo, layDiagnostic}
+use Rattle.read_place.specs.Leaves.{Leaves, untold}
 
 -- the elements in BE, of which n may come: as many as there are octets
 abbrev pub externalsBody : ℕ → Body (List Text)
@@ -48,20 +50,6 @@ unfoldable pub pduItem : Bool → Item (Dialogue Text)
 pduItem true = orItem (askedItem deepestLevel request) (orItem (answeredItem deepestLevel) (abortedItem deepestLevel))
 pduItem false = askedItem deepestLevel unidialogue
 
--- the octets that the two names have in common
-unfoldable pub common : List ℕ → Bool
-common c =
-    eqb (getD c 0 0) 0x00 && (eqb (getD c 1 0) 0x11 && (eqb (getD c 2 0) 0x86 && (eqb (getD c 3 0) 0x05 && (eqb (getD c 4 0) 0x01 && eqb (getD c 6 0) 0x01))))
-
--- which of the two names octets are: 1 for the structured dialogue, 2 for the unstructured, 0 for another
-unfoldable pub kindOf : Bool → Bool → ℕ
-kindOf true u = 1
-kindOf false true = 2
-kindOf false false = 0
-
-abbrev pub nameKind : List ℕ → ℕ
-nameKind c = kindOf (same structured c) (same unstructured c)
-
 -- what stands behind a name, whatever its octets were: the structured dialogue, the unstructured, another
 unfoldable pub Holds : Bool → Bool → List ℕ → ℕ → ℕ → ℕ → Type 0
 Holds s u m at stop r = (n : Text) → Reads (heldItem deepestLevel n s u) m at stop r
@@ -77,3 +65,46 @@ ownerOf false = portion
 
 abbrev pub Owns : Bool → List ℕ → ℕ → ℕ → Type 0
 Owns b m at stop = Belongs (ownerOf b) (ask (front (level 1) FaultKind.Another (dialogueItem deepestLevel)) (finite stop) at (part m at stop))
+
+-- the octets from a place to another
+abbrev pub textAt : List ℕ → ℕ → ℕ → Text
+textAt m p q = (p, take (q - p) (drop p m))
+
+-- where contents end of which the place behind them was told
+unfoldable pub contentsEnd : ℕ → ℕ → ℕ
+contentsEnd inner r = cond (finite inner) r (r - 2)
+
+-- What is laid out of the contents of 60, 61 and 64, in their order; the kind of dialogue stands there before
+
+abbrev pub layNumber : ℕ → ℕ → List ℕ → List ℕ
+layNumber o n l = set l o n
+
+abbrev pub layAsked : Text × Option Text → List ℕ → List ℕ
+layAsked v l = layInfo (v .1) (layName (v .0) l)
+
+abbrev pub layResult : ℕ × (Diagnostic × Option Text) → List ℕ → List ℕ
+layResult v l = layInfo (v .1 .1) (layDiagnostic (v .1 .0) (set l 41 (v .0)))
+
+abbrev pub layAnswered : Text × (ℕ × (Diagnostic × Option Text)) → List ℕ → List ℕ
+layAnswered v l = layResult (v .1) (layName (v .0) l)
+
+abbrev pub layAborted : ℕ × Option Text → List ℕ → List ℕ
+layAborted v l = layInfo (v .1) (set l 41 (v .0))
+
+-- the kind of dialogue that 60 begins
+unfoldable pub askedNumber : Bool → ℕ
+askedNumber true = 2
+askedNumber false = 5
+
+-- what stands behind another name, which stands there before
+unfoldable pub layElse : Dialogue Text → List ℕ → List ℕ
+layElse (request n u) l = l
+layElse (unidialogue n u) l = l
+layElse (response n r s u) l = l
+layElse (aborted r u) l = l
+layElse (single n e) l = laySpan 32 e (set l 3 6)
+layElse (octets n c) l = laySpan 32 c (set l 3 7)
+
+-- what is laid out of what stands behind a name, whatever its octets were
+unfoldable pub Lays : (Dialogue Text → List ℕ → List ℕ) → Bool → Bool → List ℕ → ℕ → ℕ → List ℕ → List ℕ → Type 0
+Lays lay s u m at stop old new = (n : Text) → Leaves lay untold (heldItem deepestLevel n s u) m at stop old new

@@ -1,22 +1,25 @@
 // The dialogue portion: an answer is the place behind what was read, or a fault.
 ghost use mathlib.Core.Path.{_≡_};
 ghost use mathlib.Core.Bool.{true, false};
-ghost use Prim.Native.Nat.{_+_, _-_, _/_, _%_, _≤_};
+ghost use Prim.Native.Nat.{_+_, _-_, _/_, _%_, _≤_, _<_};
 ghost use lib.ListN.{length, take, drop};
 ghost use Rattle.base.specs.Value.{same};
 ghost use Rattle.element.specs.Parts.{aroundItem, onlyBody};
-ghost use Rattle.read_place.specs.Places.{Leads, Reads, Finishes, Ready, part};
+ghost use Rattle.read_place.specs.Places.{Leads, Reads, Finishes, Ready, part, standsOf};
+ghost use Rattle.read_place.specs.Laying.{laySpan, layName, layInfo, layDiagnostic, layDialogue};
+ghost use Rattle.read_place.specs.Leaves.{Leaves, LeavesAll, untold};
 ghost use Rattle.tcap.specs.Meaning.{version, structured, unstructured};
 ghost use Rattle.tcap.specs.WellFormed.{deepestLevel};
-ghost use Rattle.tcap.specs.Productions.{levelAt, contextItem, sourceItem, infoBody, parameterItem, externalBody, dialogueItem};
-ghost use Rattle.read_dialogue.specs.Dialogues.{externalsBody, versionItem, Passes, numberIn, diagnosticItem, askedBody, acceptedBody, answeredBody, abortedBody, pduItem, common, nameKind, Holds, Owns};
+ghost use Rattle.tcap.specs.Productions.{levelAt, contextItem, sourceItem, infoBody, parameterItem, heldItem, externalBody, dialogueItem};
+ghost use Rattle.read_dialogue.specs.Dialogues.{externalsBody, versionItem, Passes, numberIn, diagnosticItem, askedBody, acceptedBody, answeredBody, abortedBody, pduItem, Holds, Owns, contentsEnd, textAt, layNumber, layAsked, layResult, layAnswered, layAborted, askedNumber, layElse, Lays};
 use base::piece;
 use read_field::name_at;
 use read_field::small_at;
-use read_field::sole_at;
 use read_place::ANOTHER;
 use read_place::BAD_CONTENTS;
+use read_place::CUT_OFF;
 use read_place::FAULT;
+use read_place::MISSING;
 use read_place::OPEN;
 use read_place::bad_field;
 use read_place::behind;
@@ -25,11 +28,14 @@ use read_place::ended;
 use read_place::entry_at;
 use read_place::field_asked;
 use read_place::leave;
+use read_place::length_at;
+use read_place::put_text;
 use read_place::stands;
 use read_place::start_of;
 use read_place::unfinished;
-use read_place::walk_element;
+use read_place::walk_any;
 use read_place::wrong_at;
+use tcap::name_kind;
 
 // The elements in BE, each 28, to the end of its contents.
 pub fn externals_at(m: &[u8], from: usize, stop: usize) -> usize
@@ -42,7 +48,7 @@ pub fn externals_at(m: &[u8], from: usize, stop: usize) -> usize
             return behind(at, stop);
         }
         if stands(m, at, stop, 0x28) {
-            let r = walk_element(m, at, stop % OPEN, 10);
+            let r = walk_any(m, at, stop % OPEN, 10);
             if r >= FAULT {
                 return r;
             }
@@ -53,10 +59,22 @@ pub fn externals_at(m: &[u8], from: usize, stop: usize) -> usize
     }
 }
 
+// Where contents end that were read to `r`: there, or before their end pair.
+fn end_before(inner: usize, r: usize) -> usize
+    requires { ⌜ 2 ≤ r ⌝ }
+    ensures { λ e. ⌜ e ≡ contentsEnd inner r ⌝ }
+{
+    if inner < OPEN {
+        return r;
+    }
+    r - 2
+}
+
 // User information, if any, and nothing more: the place behind the contents.
-pub fn info_at(m: &[u8], at: usize, stop: usize) -> usize
-    requires { ⌜ Ready (now m) at stop ⌝ }
+pub fn info_at(m: &[u8], at: usize, stop: usize, out: &mut [u8]) -> usize
+    requires { ⌜ Ready (now m) at stop × (length (now out) ≡ 428) ⌝ }
     ensures { λ r. ⌜ Finishes (infoBody deepestLevel) (now (m .entry)) at stop r ⌝ }
+    ensures { λ r. ⌜ LeavesAll layInfo untold (infoBody deepestLevel) (now (m .entry)) at stop (now (out .entry)) (now (out .exit)) ⌝ }
 {
     if ended(m, at, stop) {
         return behind(at, stop);
@@ -65,10 +83,13 @@ pub fn info_at(m: &[u8], at: usize, stop: usize) -> usize
     if inner >= FAULT {
         return inner;
     }
-    let r = externals_at(m, start_of(m, at + 1), inner);
+    let from = start_of(m, at + 1);
+    let r = externals_at(m, from, inner);
     if r >= FAULT {
         return r;
     }
+    out[40] = 1;
+    put_text(out, 32, from, end_before(inner, r) - from);
     leave(m, r, stop)
 }
 
@@ -112,25 +133,29 @@ fn past_version(m: &[u8], at: usize, stop: usize) -> usize
 }
 
 // A1 around one name.
-fn context_at(m: &[u8], at: usize, stop: usize) -> usize
-    requires { ⌜ Ready (now m) at stop ⌝ }
+fn context_at(m: &[u8], at: usize, stop: usize, out: &mut [u8]) -> usize
+    requires { ⌜ Ready (now m) at stop × (length (now out) ≡ 428) ⌝ }
     ensures { λ r. ⌜ Reads (contextItem deepestLevel) (now (m .entry)) at stop r ⌝ }
+    ensures { λ r. ⌜ Leaves layName untold (contextItem deepestLevel) (now (m .entry)) at stop (now (out .entry)) (now (out .exit)) ⌝ }
 {
     let inner = entry_at(m, at, stop, 0xA1);
     if inner >= FAULT {
         return inner;
     }
-    let r = name_at(m, start_of(m, at + 1), inner);
+    let from = start_of(m, at + 1);
+    let r = name_at(m, from, inner);
     if r >= FAULT {
         return r;
     }
+    put_text(out, 24, from + 2, r - from - 2);
     leave(m, r, inner)
 }
 
 // A constructor around 02 01 with 0 to `most`.
-fn number_at(m: &[u8], at: usize, stop: usize, tag: u8, most: u8) -> usize
-    requires { ⌜ Ready (now m) at stop × Leads tag × (tag / 32 % 2 ≡ 1) ⌝ }
+fn number_at(m: &[u8], at: usize, stop: usize, tag: u8, most: u8, o: usize, out: &mut [u8]) -> usize
+    requires { ⌜ Ready (now m) at stop × Leads tag × (tag / 32 % 2 ≡ 1) × (o < 428) × (length (now out) ≡ 428) ⌝ }
     ensures { λ r. ⌜ Reads (numberIn tag most) (now (m .entry)) at stop r ⌝ }
+    ensures { λ r. ⌜ Leaves (layNumber o) untold (numberIn tag most) (now (m .entry)) at stop (now (out .entry)) (now (out .exit)) ⌝ }
 {
     let inner = entry_at(m, at, stop, tag);
     if inner >= FAULT {
@@ -140,30 +165,35 @@ fn number_at(m: &[u8], at: usize, stop: usize, tag: u8, most: u8) -> usize
     if r >= FAULT {
         return r;
     }
+    out[o] = m[r - 1];
     leave(m, r, inner)
 }
 
 // A diagnostic: A1 by the user, A2 by the provider.
-fn diagnostic_at(m: &[u8], at: usize, stop: usize) -> usize
-    requires { ⌜ Ready (now m) at stop ⌝ }
+fn diagnostic_at(m: &[u8], at: usize, stop: usize, out: &mut [u8]) -> usize
+    requires { ⌜ Ready (now m) at stop × (length (now out) ≡ 428) ⌝ }
     ensures { λ r. ⌜ Reads diagnosticItem (now (m .entry)) at stop r ⌝ }
+    ensures { λ r. ⌜ Leaves layDiagnostic untold diagnosticItem (now (m .entry)) at stop (now (out .entry)) (now (out .exit)) ⌝ }
 {
     if stands(m, at, stop, 0xA1) {
-        return number_at(m, at, stop, 0xA1, 2);
+        out[42] = 0xA1;
+        return number_at(m, at, stop, 0xA1, 2, 43, out);
     }
-    number_at(m, at, stop, 0xA2, 2)
+    out[42] = 0xA2;
+    number_at(m, at, stop, 0xA2, 2, 43, out)
 }
 
 // A3 around a diagnostic.
-fn source_at(m: &[u8], at: usize, stop: usize) -> usize
-    requires { ⌜ Ready (now m) at stop ⌝ }
+fn source_at(m: &[u8], at: usize, stop: usize, out: &mut [u8]) -> usize
+    requires { ⌜ Ready (now m) at stop × (length (now out) ≡ 428) ⌝ }
     ensures { λ r. ⌜ Reads (sourceItem deepestLevel) (now (m .entry)) at stop r ⌝ }
+    ensures { λ r. ⌜ Leaves layDiagnostic untold (sourceItem deepestLevel) (now (m .entry)) at stop (now (out .entry)) (now (out .exit)) ⌝ }
 {
     let inner = entry_at(m, at, stop, 0xA3);
     if inner >= FAULT {
         return inner;
     }
-    let r = diagnostic_at(m, start_of(m, at + 1), inner);
+    let r = diagnostic_at(m, start_of(m, at + 1), inner, out);
     if r >= FAULT {
         return r;
     }
@@ -171,128 +201,150 @@ fn source_at(m: &[u8], at: usize, stop: usize) -> usize
 }
 
 // The contents of a request or a unidialogue.
-fn asked_at(m: &[u8], at: usize, stop: usize) -> usize
-    requires { ⌜ Ready (now m) at stop ⌝ }
+fn asked_at(m: &[u8], at: usize, stop: usize, out: &mut [u8]) -> usize
+    requires { ⌜ Ready (now m) at stop × (length (now out) ≡ 428) ⌝ }
     ensures { λ r. ⌜ Finishes askedBody (now (m .entry)) at stop r ⌝ }
+    ensures { λ r. ⌜ LeavesAll layAsked untold askedBody (now (m .entry)) at stop (now (out .entry)) (now (out .exit)) ⌝ }
 {
     let r = past_version(m, at, stop);
     if r >= FAULT {
         return r;
     }
-    let s = context_at(m, r, stop);
+    let s = context_at(m, r, stop, out);
     if s >= FAULT {
         return s;
     }
-    info_at(m, s, stop)
+    info_at(m, s, stop, out)
 }
 
 // What stands behind the context of a response: result, source, user information.
-fn accepted_at(m: &[u8], at: usize, stop: usize) -> usize
-    requires { ⌜ Ready (now m) at stop ⌝ }
+fn accepted_at(m: &[u8], at: usize, stop: usize, out: &mut [u8]) -> usize
+    requires { ⌜ Ready (now m) at stop × (length (now out) ≡ 428) ⌝ }
     ensures { λ r. ⌜ Finishes acceptedBody (now (m .entry)) at stop r ⌝ }
+    ensures { λ r. ⌜ LeavesAll layResult untold acceptedBody (now (m .entry)) at stop (now (out .entry)) (now (out .exit)) ⌝ }
 {
-    let r = number_at(m, at, stop, 0xA2, 1);
+    let r = number_at(m, at, stop, 0xA2, 1, 41, out);
     if r >= FAULT {
         return r;
     }
-    let s = source_at(m, r, stop);
+    let s = source_at(m, r, stop, out);
     if s >= FAULT {
         return s;
     }
-    info_at(m, s, stop)
+    info_at(m, s, stop, out)
 }
 
 // The contents of a response.
-fn answered_at(m: &[u8], at: usize, stop: usize) -> usize
-    requires { ⌜ Ready (now m) at stop ⌝ }
+fn answered_at(m: &[u8], at: usize, stop: usize, out: &mut [u8]) -> usize
+    requires { ⌜ Ready (now m) at stop × (length (now out) ≡ 428) ⌝ }
     ensures { λ r. ⌜ Finishes answeredBody (now (m .entry)) at stop r ⌝ }
+    ensures { λ r. ⌜ LeavesAll layAnswered untold answeredBody (now (m .entry)) at stop (now (out .entry)) (now (out .exit)) ⌝ }
 {
     let r = past_version(m, at, stop);
     if r >= FAULT {
         return r;
     }
-    let s = context_at(m, r, stop);
+    let s = context_at(m, r, stop, out);
     if s >= FAULT {
         return s;
     }
-    accepted_at(m, s, stop)
+    accepted_at(m, s, stop, out)
 }
 
 // The contents of an abort.
-fn aborted_at(m: &[u8], at: usize, stop: usize) -> usize
-    requires { ⌜ Ready (now m) at stop ⌝ }
+fn aborted_at(m: &[u8], at: usize, stop: usize, out: &mut [u8]) -> usize
+    requires { ⌜ Ready (now m) at stop × (length (now out) ≡ 428) ⌝ }
     ensures { λ r. ⌜ Finishes abortedBody (now (m .entry)) at stop r ⌝ }
+    ensures { λ r. ⌜ LeavesAll layAborted untold abortedBody (now (m .entry)) at stop (now (out .entry)) (now (out .exit)) ⌝ }
 {
     let r = small_at(m, at, stop, 0x80, 1);
     if r >= FAULT {
         return r;
     }
-    info_at(m, r, stop)
+    out[41] = m[at + 2];
+    info_at(m, r, stop, out)
 }
 
 // 60: a request or a unidialogue.
-fn request_at(m: &[u8], at: usize, stop: usize) -> usize
-    requires { ⌜ Ready (now m) at stop ⌝ }
+fn request_at(m: &[u8], at: usize, stop: usize, out: &mut [u8]) -> usize
+    requires { ⌜ Ready (now m) at stop × (length (now out) ≡ 428) ⌝ }
     ensures { λ r. ⌜ Reads (aroundItem 0x60 askedBody) (now (m .entry)) at stop r ⌝ }
+    ensures { λ r. ⌜ Leaves layAsked untold (aroundItem 0x60 askedBody) (now (m .entry)) at stop (now (out .entry)) (now (out .exit)) ⌝ }
 {
     let inner = entry_at(m, at, stop, 0x60);
     if inner >= FAULT {
         return inner;
     }
-    asked_at(m, start_of(m, at + 1), inner)
+    asked_at(m, start_of(m, at + 1), inner, out)
 }
 
 // 61: a response.
-fn response_at(m: &[u8], at: usize, stop: usize) -> usize
-    requires { ⌜ Ready (now m) at stop ⌝ }
+fn response_at(m: &[u8], at: usize, stop: usize, out: &mut [u8]) -> usize
+    requires { ⌜ Ready (now m) at stop × (length (now out) ≡ 428) ⌝ }
     ensures { λ r. ⌜ Reads (aroundItem 0x61 answeredBody) (now (m .entry)) at stop r ⌝ }
+    ensures { λ r. ⌜ Leaves layAnswered untold (aroundItem 0x61 answeredBody) (now (m .entry)) at stop (now (out .entry)) (now (out .exit)) ⌝ }
 {
     let inner = entry_at(m, at, stop, 0x61);
     if inner >= FAULT {
         return inner;
     }
-    answered_at(m, start_of(m, at + 1), inner)
+    answered_at(m, start_of(m, at + 1), inner, out)
 }
 
 // 64: an abort.
-fn abort_at(m: &[u8], at: usize, stop: usize) -> usize
-    requires { ⌜ Ready (now m) at stop ⌝ }
+fn abort_at(m: &[u8], at: usize, stop: usize, out: &mut [u8]) -> usize
+    requires { ⌜ Ready (now m) at stop × (length (now out) ≡ 428) ⌝ }
     ensures { λ r. ⌜ Reads (aroundItem 0x64 abortedBody) (now (m .entry)) at stop r ⌝ }
+    ensures { λ r. ⌜ Leaves layAborted untold (aroundItem 0x64 abortedBody) (now (m .entry)) at stop (now (out .entry)) (now (out .exit)) ⌝ }
 {
     let inner = entry_at(m, at, stop, 0x64);
     if inner >= FAULT {
         return inner;
     }
-    aborted_at(m, start_of(m, at + 1), inner)
+    aborted_at(m, start_of(m, at + 1), inner, out)
+}
+
+// The kind of dialogue that 60 begins: 2 for the structured, 5 for the unstructured.
+fn asked_number(in_structured: bool) -> u8
+    ensures { λ r. ⌜ r ≡ askedNumber in_structured ⌝ }
+{
+    if in_structured {
+        return 2;
+    }
+    5
 }
 
 // The PDU of the structured dialogue, or of the unstructured.
-fn pdu_at(m: &[u8], at: usize, stop: usize, in_structured: bool) -> usize
-    requires { ⌜ Ready (now m) at stop ⌝ }
+fn pdu_at(m: &[u8], at: usize, stop: usize, in_structured: bool, out: &mut [u8]) -> usize
+    requires { ⌜ Ready (now m) at stop × (length (now out) ≡ 428) ⌝ }
     ensures { λ r. ⌜ Reads (pduItem in_structured) (now (m .entry)) at stop r ⌝ }
+    ensures { λ r. ⌜ Leaves layDialogue untold (pduItem in_structured) (now (m .entry)) at stop (now (out .entry)) (now (out .exit)) ⌝ }
 {
     if in_structured {
         if stands(m, at, stop, 0x61) {
-            return response_at(m, at, stop);
+            out[3] = 3;
+            return response_at(m, at, stop, out);
         }
         if stands(m, at, stop, 0x64) {
-            return abort_at(m, at, stop);
+            out[3] = 4;
+            return abort_at(m, at, stop, out);
         }
-        return request_at(m, at, stop);
     }
-    request_at(m, at, stop)
+    out[3] = asked_number(in_structured);
+    request_at(m, at, stop, out)
 }
 
 // A0 around a PDU.
-fn known_at(m: &[u8], at: usize, stop: usize, in_structured: bool) -> usize
-    requires { ⌜ Ready (now m) at stop ⌝ }
+fn known_at(m: &[u8], at: usize, stop: usize, in_structured: bool, out: &mut [u8]) -> usize
+    requires { ⌜ Ready (now m) at stop × (length (now out) ≡ 428) ⌝ }
     ensures { λ r. ⌜ Reads (aroundItem 0xA0 (onlyBody (levelAt deepestLevel 5) (pduItem in_structured))) (now (m .entry)) at stop r ⌝ }
+    ensures { λ r. ⌜ Leaves layDialogue untold (aroundItem 0xA0 (onlyBody (levelAt deepestLevel 5) (pduItem in_structured))) (now (m .entry)) at stop (now (out .entry)) (now (out .exit)) ⌝ }
 {
     let inner = entry_at(m, at, stop, 0xA0);
     if inner >= FAULT {
         return inner;
     }
-    let r = pdu_at(m, start_of(m, at + 1), inner, in_structured);
+    let r = pdu_at(m, start_of(m, at + 1), inner, in_structured, out);
     if r >= FAULT {
         return r;
     }
@@ -300,95 +352,75 @@ fn known_at(m: &[u8], at: usize, stop: usize, in_structured: bool) -> usize
 }
 
 // A0 around one element.
-fn single_at(m: &[u8], at: usize, stop: usize) -> usize
-    requires { ⌜ Ready (now m) at stop ⌝ }
+fn single_at(m: &[u8], at: usize, stop: usize, out: &mut [u8]) -> usize
+    requires { ⌜ Ready (now m) at stop × (length (now out) ≡ 428) ⌝ }
     ensures { λ r. ⌜ Reads (aroundItem 0xA0 (onlyBody (levelAt deepestLevel 5) (parameterItem deepestLevel 5))) (now (m .entry)) at stop r ⌝ }
+    ensures { λ r. ⌜ Leaves (laySpan 32) untold (aroundItem 0xA0 (onlyBody (levelAt deepestLevel 5) (parameterItem deepestLevel 5))) (now (m .entry)) at stop (now (out .entry)) (now (out .exit)) ⌝ }
 {
     let inner = entry_at(m, at, stop, 0xA0);
     if inner >= FAULT {
         return inner;
     }
-    sole_at(m, start_of(m, at + 1), inner, 12)
+    let from = start_of(m, at + 1);
+    if ended(m, from, inner) {
+        return MISSING + from;
+    }
+    if unfinished(m, from, inner) {
+        return CUT_OFF + from;
+    }
+    let r = walk_any(m, from, inner % OPEN, 12);
+    if r >= FAULT {
+        return r;
+    }
+    put_text(out, 32, from, r - from);
+    leave(m, r, inner)
 }
 
 // What stands behind another name: A0 around one element, or octets in 81.
-fn outside_at(m: &[u8], at: usize, stop: usize) -> usize
-    requires { ⌜ Ready (now m) at stop ⌝ }
+fn outside_at(m: &[u8], at: usize, stop: usize, out: &mut [u8]) -> usize
+    requires { ⌜ Ready (now m) at stop × (length (now out) ≡ 428) ⌝ }
     ensures { λ r. ⌜ Holds false false (now (m .entry)) at stop r ⌝ }
+    ensures { λ r. ⌜ Lays layElse false false (now (m .entry)) at stop (now (out .entry)) (now (out .exit)) ⌝ }
 {
     if stands(m, at, stop, 0xA0) {
-        return single_at(m, at, stop);
+        out[3] = 6;
+        return single_at(m, at, stop, out);
     }
-    field_asked(m, at, stop, 0x81)
-}
-
-// Whether seven octets are those that the two names have in common.
-fn is_known(contents: &[u8]) -> bool
-    requires { ⌜ length (now contents) ≡ 7 ⌝ }
-    ensures { λ r. ⌜ r ≡ common (now (contents .entry)) ⌝ }
-{
-    if contents[0] != 0x00 {
-        return false;
+    let r = field_asked(m, at, stop, 0x81);
+    if r >= FAULT {
+        return r;
     }
-    if contents[1] != 0x11 {
-        return false;
-    }
-    if contents[2] != 0x86 {
-        return false;
-    }
-    if contents[3] != 0x05 {
-        return false;
-    }
-    if contents[4] != 0x01 {
-        return false;
-    }
-    contents[6] == 0x01
-}
-
-// Which of the two names: 1 for the structured dialogue, 2 for the unstructured, 0 for another.
-pub fn name_kind(contents: &[u8]) -> usize
-    ensures { λ r. ⌜ r ≡ nameKind (now (contents .entry)) ⌝ }
-{
-    if contents.len() != 7 {
-        return 0;
-    }
-    if is_known(contents) {
-        if contents[5] == 0x01 {
-            return 1;
-        }
-        if contents[5] == 0x02 {
-            return 2;
-        }
-        return 0;
-    }
-    0
+    out[3] = 7;
+    let from = start_of(m, at + 1);
+    put_text(out, 32, from, r - from);
+    r
 }
 
 // What stands behind the name whose contents stand from `name` to here.
-fn held_at(m: &[u8], at: usize, stop: usize, name: usize) -> usize
-    requires { ⌜ Ready (now m) at stop × (name ≤ at) ⌝ }
+fn held_at(m: &[u8], at: usize, stop: usize, name: usize, out: &mut [u8]) -> usize
+    requires { ⌜ Ready (now m) at stop × (name ≤ at) × (length (now out) ≡ 428) ⌝ }
     ensures { λ r. ⌜ Holds (same structured (take (at - name) (drop name (now (m .entry))))) (same unstructured (take (at - name) (drop name (now (m .entry))))) (now (m .entry)) at stop r ⌝ }
+    ensures { λ r. ⌜ Leaves layDialogue untold (heldItem deepestLevel (textAt (now (m .entry)) name at) (same structured (take (at - name) (drop name (now (m .entry))))) (same unstructured (take (at - name) (drop name (now (m .entry)))))) (now (m .entry)) at stop (now (out .entry)) (now (out .exit)) ⌝ }
 {
     let kind = name_kind(piece(m, name, at - name));
     if kind == 0 {
-        return outside_at(m, at, stop);
+        put_text(out, 24, name, at - name);
+        return outside_at(m, at, stop, out);
     }
-    if kind == 1 {
-        return known_at(m, at, stop, true);
-    }
-    known_at(m, at, stop, false)
+    known_at(m, at, stop, kind == 1, out)
 }
 
 // The contents of 28: a name, and what stands behind it.
-fn external_at(m: &[u8], at: usize, stop: usize) -> usize
-    requires { ⌜ Ready (now m) at stop ⌝ }
+fn external_at(m: &[u8], at: usize, stop: usize, out: &mut [u8]) -> usize
+    requires { ⌜ Ready (now m) at stop × (length (now out) ≡ 428) ⌝ }
     ensures { λ r. ⌜ Finishes (externalBody deepestLevel) (now (m .entry)) at stop r ⌝ }
+    ensures { λ r. ⌜ LeavesAll layDialogue untold (externalBody deepestLevel) (now (m .entry)) at stop (now (out .entry)) (now (out .exit)) ⌝ }
 {
     let r = name_at(m, at, stop);
     if r >= FAULT {
         return r;
     }
-    let s = held_at(m, r, stop, at + 2);
+    let s = held_at(m, r, stop, at + 2, out);
     if s >= FAULT {
         return s;
     }
@@ -396,27 +428,29 @@ fn external_at(m: &[u8], at: usize, stop: usize) -> usize
 }
 
 // 28.
-pub fn wrapped_at(m: &[u8], at: usize, stop: usize) -> usize
-    requires { ⌜ Ready (now m) at stop ⌝ }
+pub fn wrapped_at(m: &[u8], at: usize, stop: usize, out: &mut [u8]) -> usize
+    requires { ⌜ Ready (now m) at stop × (length (now out) ≡ 428) ⌝ }
     ensures { λ r. ⌜ Reads (aroundItem 0x28 (externalBody deepestLevel)) (now (m .entry)) at stop r ⌝ }
+    ensures { λ r. ⌜ Leaves layDialogue untold (aroundItem 0x28 (externalBody deepestLevel)) (now (m .entry)) at stop (now (out .entry)) (now (out .exit)) ⌝ }
 {
     let inner = entry_at(m, at, stop, 0x28);
     if inner >= FAULT {
         return inner;
     }
-    external_at(m, start_of(m, at + 1), inner)
+    external_at(m, start_of(m, at + 1), inner, out)
 }
 
 // 6B around 28: the dialogue portion.
-pub fn dialogue_at(m: &[u8], at: usize, stop: usize) -> usize
-    requires { ⌜ Ready (now m) at stop ⌝ }
+pub fn dialogue_at(m: &[u8], at: usize, stop: usize, out: &mut [u8]) -> usize
+    requires { ⌜ Ready (now m) at stop × (standsOf (now m) at stop 0x6B ≡ true) × (length (now out) ≡ 428) ⌝ }
     ensures { λ r. ⌜ Reads (dialogueItem deepestLevel) (now (m .entry)) at stop r ⌝ }
+    ensures { λ r. ⌜ Leaves layDialogue untold (dialogueItem deepestLevel) (now (m .entry)) at stop (now (out .entry)) (now (out .exit)) ⌝ }
 {
-    let inner = entry_at(m, at, stop, 0x6B);
+    let inner = length_at(m, at, at + 1, stop % OPEN, true);
     if inner >= FAULT {
         return inner;
     }
-    let r = wrapped_at(m, start_of(m, at + 1), inner);
+    let r = wrapped_at(m, start_of(m, at + 1), inner, out);
     if r >= FAULT {
         return r;
     }
@@ -424,8 +458,8 @@ pub fn dialogue_at(m: &[u8], at: usize, stop: usize) -> usize
 }
 
 // Whether the first fault in 6B belongs to what stands inside its contents: all but its tag, its length and its own end.
-pub fn blames_dialogue(m: &[u8], at: usize, stop: usize) -> bool
-    requires { ⌜ Ready (now m) at stop ⌝ }
+pub fn blames_dialogue(m: &[u8], at: usize, stop: usize, out: &mut [u8]) -> bool
+    requires { ⌜ Ready (now m) at stop × (length (now out) ≡ 428) ⌝ }
     ensures { λ r. ⌜ Owns r (now (m .entry)) at stop ⌝ }
 {
     let inner = entry_at(m, at, stop, 0x6B);
@@ -439,7 +473,7 @@ pub fn blames_dialogue(m: &[u8], at: usize, stop: usize) -> bool
     if unfinished(m, from, inner) {
         return false;
     }
-    let r = wrapped_at(m, from, inner);
+    let r = wrapped_at(m, from, inner, out);
     if r >= FAULT {
         return true;
     }

@@ -5,7 +5,7 @@ ghost use Prim.Native.Nat.{_+_, _/_, _%_, _≤_};
 ghost use Rattle.read_place.specs.Places.{Leads, Reads, Finishes, Ready};
 ghost use Rattle.base.specs.Value.{same};
 ghost use Rattle.tcap.specs.WellFormed.{idOk};
-ghost use Rattle.tcap.specs.Productions.{octetItem, nameItem, codeItem, idOrNullItem, problemItem};
+ghost use Rattle.tcap.specs.Productions.{octetItem, nameItem};
 ghost use Rattle.element.specs.Parts.{leafItem, integerItem, level, onlyBody, lastBody};
 ghost use Rattle.element.specs.Walk.{walkItem};
 use base::piece;
@@ -20,7 +20,6 @@ use read_place::count_at;
 use read_place::ended;
 use read_place::field_asked;
 use read_place::leave;
-use read_place::stands;
 use read_place::unfinished;
 use read_place::walk_element;
 
@@ -64,32 +63,6 @@ pub fn small_at(m: &[u8], at: usize, stop: usize, tag: u8, most: u8) -> usize
         return at + 3;
     }
     BAD_CONTENTS + at
-}
-
-// A local code.
-pub fn local_at(m: &[u8], at: usize, stop: usize) -> usize
-    requires { ⌜ Ready (now m) at stop ⌝ }
-    ensures { λ r. ⌜ Reads (integerItem 0x02 4) (now (m .entry)) at stop r ⌝ }
-{
-    let n = count_at(m, at, stop, 0x02, 4);
-    if n == 0 {
-        return bad_field(m, at, stop, 0x02);
-    }
-    match primitive::integer_at(piece(m, at + 2, n), 4) {
-        primitive::IntegerRead::Wrong => BAD_CONTENTS + at,
-        primitive::IntegerRead::Value(value) => at + 2 + n,
-    }
-}
-
-// A code.
-pub fn code_at(m: &[u8], at: usize, stop: usize) -> usize
-    requires { ⌜ Ready (now m) at stop ⌝ }
-    ensures { λ r. ⌜ Reads codeItem (now (m .entry)) at stop r ⌝ }
-{
-    if stands(m, at, stop, 0x06) {
-        return name_at(m, at, stop);
-    }
-    local_at(m, at, stop)
 }
 
 // One last element of any kind, or none: the place behind the contents.
@@ -141,34 +114,6 @@ pub fn null_at(m: &[u8], at: usize, stop: usize) -> usize
         return r;
     }
     BAD_CONTENTS + at
-}
-
-// The invoke ID of a Reject, or a null.
-pub fn reject_id_at(m: &[u8], at: usize, stop: usize) -> usize
-    requires { ⌜ Ready (now m) at stop ⌝ }
-    ensures { λ r. ⌜ Reads idOrNullItem (now (m .entry)) at stop r ⌝ }
-{
-    if stands(m, at, stop, 0x05) {
-        return null_at(m, at, stop);
-    }
-    octet_at(m, at, stop, 0x02)
-}
-
-// A problem.
-pub fn problem_at(m: &[u8], at: usize, stop: usize) -> usize
-    requires { ⌜ Ready (now m) at stop ⌝ }
-    ensures { λ r. ⌜ Reads problemItem (now (m .entry)) at stop r ⌝ }
-{
-    if stands(m, at, stop, 0x81) {
-        return small_at(m, at, stop, 0x81, 7);
-    }
-    if stands(m, at, stop, 0x82) {
-        return small_at(m, at, stop, 0x82, 2);
-    }
-    if stands(m, at, stop, 0x83) {
-        return small_at(m, at, stop, 0x83, 4);
-    }
-    small_at(m, at, stop, 0x80, 2)
 }
 
 // A transaction ID.

@@ -1,3 +1,6 @@
+pub mod Told
+pub mod Fields
 pub mod Portions
+pub mod Leaving
 pub mod Whole
-pub mod Values
+pub mod Accepted

@@ -12,9 +12,9 @@ use Rattle.element.specs.Element.{constructorOf}
 use Rattle.element.specs.Fault.{fault, Text, withOrigId}
 use Rattle.element.specs.Head.{endOf}
 use Rattle.element.specs.Ask.{Body, ask}
-use Rattle.element.specs.Parts.{Item, level, leafItem, mapItem, bindBody, thenBody, onlyBody, lastBody, optBody, mapBody}
-use Rattle.tcap.specs.Meaning.{Originating, orig, Destination, dest, Component, Dialogue, Message, cause, says, silent, unidirectional, begin, finish, continue, abort}
-use Rattle.tcap.specs.WellFormed.{deepestLevel, idOk}
+use Rattle.element.specs.Parts.{Item, level, mapItem, bindBody, thenBody, onlyBody, lastBody, optBody, mapBody}
+use Rattle.tcap.specs.Meaning.{Originating, orig, Destination, Component, Dialogue, Message, cause, says, silent, unidirectional, begin, finish, continue, abort}
+use Rattle.tcap.specs.WellFormed.{deepestLevel}
 use Rattle.tcap.specs.Productions.{octetItem, origItem, destItem, carried, componentsItem, dialogueItem, tailBody, uniBody, beginBody, endBody, continueBody, abortBody}
 use Rattle.read_place.specs.Places.{Far, Near, until, finite, part, faultPlace, front, Placed, nothing, Reads, Finishes, endedOf, behindOf, standsOf, entryPlace, lengthSize}
 use Rattle.read_place.proofs.Answers.{Keeps}
@@ -35,7 +35,7 @@ module _ {A : Type 0} (x : Item A) (m : List ℕ) (at stop : ℕ) (b : Bool) (is
   end-none g h t r e = rw e (last-none (level 15) x m at stop g h (ended-is (endOf (finite stop) (part m at stop)) b is t))
 
   module _ (no : b ≡ false) (r : ℕ) (e : Reads x m at stop r) where
-    end-lifted : Placed at (until stop) (ask (front (level 15) FaultKind.Another x) (finite stop) at (part m at stop)) r
+    pub end-lifted : Placed at (until stop) (ask (front (level 15) FaultKind.Another x) (finite stop) at (part m at stop)) r
     end-lifted = placed-where x FaultKind.Another (level 15) (λ f. refl) (finite stop) at (part m at stop) (until stop) r refl e
 
     pub end-far : Far r → Finishes (lastBody (level 15) x) m at stop r
@@ -95,9 +95,9 @@ pub carried-keeps : (o : Originating Text) → Keeps (carried o)
 unfolding withOrigId faultPlace
 carried-keeps (orig i) (fault k q o j t) = refl
 
-module _ {B : Type 0} (y : Body B) (m : List ℕ) (at stop r : ℕ) (e : Reads (leafItem 72 idOk) m at stop r) where
-  orig-lifted : Placed at (until stop) (ask (front (level 15) FaultKind.Another origItem) (finite stop) at (part m at stop)) r
-  orig-lifted = placed-where origItem FaultKind.Another (level 15) (λ f. refl) (finite stop) at (part m at stop) (until stop) r refl (reads-map orig (leafItem 72 idOk) m at stop r e)
+module _ {B : Type 0} (y : Body B) (m : List ℕ) (at stop r : ℕ) (e : Reads origItem m at stop r) where
+  pub orig-lifted : Placed at (until stop) (ask (front (level 15) FaultKind.Another origItem) (finite stop) at (part m at stop)) r
+  orig-lifted = placed-where origItem FaultKind.Another (level 15) (λ f. refl) (finite stop) at (part m at stop) (until stop) r refl e
 
   orig-far : Far r → Finishes (bindBody (level 15) carried origItem (λ o. y)) m at stop r
   orig-far f = bind-far (level 15) origItem m at stop r orig-lifted carried carried-keeps (λ o. y) f
@@ -105,9 +105,9 @@ module _ {B : Type 0} (y : Body B) (m : List ℕ) (at stop r : ℕ) (e : Reads (
   orig-near : Near r → (s : ℕ) → Finishes y m r stop s → Finishes (bindBody (level 15) carried origItem (λ o. y)) m at stop s
   orig-near f s q = bind-near (level 15) origItem m at stop r orig-lifted carried carried-keeps (λ o. y) s f (λ o. q)
 
-module _ {B : Type 0} (y : Body B) (m : List ℕ) (at stop r : ℕ) (e : Reads (leafItem 73 idOk) m at stop r) where
-  dest-lifted : Placed at (until stop) (ask (front (level 15) FaultKind.Another destItem) (finite stop) at (part m at stop)) r
-  dest-lifted = placed-where destItem FaultKind.Another (level 15) (λ f. refl) (finite stop) at (part m at stop) (until stop) r refl (reads-map dest (leafItem 73 idOk) m at stop r e)
+module _ {B : Type 0} (y : Body B) (m : List ℕ) (at stop r : ℕ) (e : Reads destItem m at stop r) where
+  pub dest-lifted : Placed at (until stop) (ask (front (level 15) FaultKind.Another destItem) (finite stop) at (part m at stop)) r
+  dest-lifted = placed-where destItem FaultKind.Another (level 15) (λ f. refl) (finite stop) at (part m at stop) (until stop) r refl e
 
   dest-far : Far r → Finishes (thenBody (level 15) destItem y) m at stop r
   dest-far f = then-far (level 15) destItem m at stop r dest-lifted y f
@@ -117,7 +117,7 @@ module _ {B : Type 0} (y : Body B) (m : List ℕ) (at stop r : ℕ) (e : Reads (
 
 -- Begin and Continue
 
-module _ (m : List ℕ) (at stop r : ℕ) (e : Reads (leafItem 72 idOk) m at stop r) where
+module _ (m : List ℕ) (at stop r : ℕ) (e : Reads origItem m at stop r) where
   pub begin-far : Far r → Finishes (beginBody deepestLevel) m at stop r
   begin-far f = map-closed (λ v. begin (v .0) (v .1 .0) (v .1 .1)) (bindBody (level 15) carried origItem (λ o. tailBody deepestLevel)) m at stop r (orig-far (tailBody deepestLevel) m at stop r e f)
 
@@ -130,7 +130,7 @@ module _ (m : List ℕ) (at stop r : ℕ) (e : Reads (leafItem 72 idOk) m at sto
   pub continue-orig : Far r → Finishes (continueBody deepestLevel) m at stop r
   continue-orig f = map-closed (λ v. continue (v .0) (v .1 .0) (v .1 .1 .0) (v .1 .1 .1)) both-ids m at stop r (orig-far (thenBody (level 15) destItem (tailBody deepestLevel)) m at stop r e f)
 
-  module _ (near : Near r) (s : ℕ) (d : Reads (leafItem 73 idOk) m r stop s) where
+  module _ (near : Near r) (s : ℕ) (d : Reads destItem m r stop s) where
     pub continue-dest : Far s → Finishes (continueBody deepestLevel) m at stop s
     continue-dest f = map-closed (λ v. continue (v .0) (v .1 .0) (v .1 .1 .0) (v .1 .1 .1)) both-ids m at stop s (orig-near (thenBody (level 15) destItem (tailBody deepestLevel)) m at stop r e near s (dest-far (tailBody deepestLevel) m r stop s d f))
 
@@ -139,7 +139,7 @@ module _ (m : List ℕ) (at stop r : ℕ) (e : Reads (leafItem 72 idOk) m at sto
 
 -- End and Abort
 
-module _ (m : List ℕ) (at stop r : ℕ) (e : Reads (leafItem 73 idOk) m at stop r) where
+module _ (m : List ℕ) (at stop r : ℕ) (e : Reads destItem m at stop r) where
   pub finish-far : Far r → Finishes (endBody deepestLevel) m at stop r
   finish-far f = map-closed (λ v. finish (v .0) (v .1 .0) (v .1 .1)) (thenBody (level 15) destItem (tailBody deepestLevel)) m at stop r (dest-far (tailBody deepestLevel) m at stop r e f)
 

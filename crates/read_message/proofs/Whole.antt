@@ -15,54 +15,88 @@ use Rattle.element.specs.Element.{constructorOf}
 use Rattle.element.specs.Fault.{fault, Text, at}
 use Rattle.element.specs.Answers.{frontOf}
 use Rattle.element.specs.Ask.{Got, got, next, check, blamed, Head, Body, ask}
-use Rattle.element.specs.Parts.{Item, level, place, aroundItem}
+use Rattle.element.specs.Parts.{Item, level, place, aroundItem, orItem}
 use Rattle.tcap.specs.Meaning.{Message, unidirectional, begin, finish, continue, abort}
 use Rattle.tcap.specs.WellFormed.{deepestLevel}
 use Rattle.tcap.specs.Productions.{uniBody, beginBody, endBody, continueBody, abortBody, messageItem}
 use Rattle.tcap.specs.Reading.{learnt, aloneBody, readFirst, locatedUpTo}
 use Rattle.read_place.specs.Places.{Far, Near, until, finite, part, base, faultPlace, front, Placed, Reads, Finishes, Leads, standsOf, entryPlace, lengthSize, octetsAfter, noMessage, overlong, cutOff, opening}
-use Rattle.read_place.proofs.Answers.{Keeps, next-far, next-near, placed-blamed, placed-near}
+use Rattle.read_place.specs.Leaves.{LeavesAll}
+use Rattle.read_place.specs.Laying.{layMessage}
+use Rattle.read_place.specs.Blames.{Blames}
+use Rattle.read_place.proofs.Answers.{Keeps, next-far, next-near, placed-blamed}
 use Rattle.read_place.proofs.Onto.{blamed-same, ask-onto, missing-both}
-use Rattle.read_place.proofs.Items.{stands-only}
+use Rattle.read_place.proofs.Items.{stands-only, or-left, or-right}
 use Rattle.read_place.proofs.Bodies.{placed-where}
-use Rattle.read_place.proofs.Optional.{entry-inside, entry-from, entry-to, around-entry, around-read, placed-other}
-use Rattle.read_field.proofs.Choices.{first-of, second-of}
+use Rattle.read_place.proofs.Optional.{entry-inside, entry-from, entry-to, around-entry, around-read}
+use Rattle.read_place.proofs.Around.{other-ask}
 use Rattle.read_message.specs.Messages.{bodyOf, Answers}
 use Rattle.read_message.proofs.Portions.{carried-keeps}
 
 -- The contents by the tag
 
-module _ (tag : ℕ) (m : List ℕ) (at stop r : ℕ) where
-  pub contents-begin : tag ≡ 98 → Finishes (beginBody deepestLevel) m at stop r → Finishes (bodyOf tag) m at stop r
+module _ (tag : ℕ) where
+  pub body-begin : tag ≡ 98 → bodyOf tag ≡ beginBody deepestLevel
   unfolding bodyOf
-  contents-begin e f = rw (eq-eqb tag 98 e) f
+  body-begin e = rw (eq-eqb tag 98 e)
 
   module _ (a : tag ≡ 98 → ⊥) where
-    pub contents-continue : tag ≡ 101 → Finishes (continueBody deepestLevel) m at stop r → Finishes (bodyOf tag) m at stop r
+    pub body-continue : tag ≡ 101 → bodyOf tag ≡ continueBody deepestLevel
     unfolding bodyOf
-    contents-continue e f = rw (ne-eqb tag 98 a, eq-eqb tag 101 e) f
+    body-continue e = rw (ne-eqb tag 98 a, eq-eqb tag 101 e)
 
     module _ (b : tag ≡ 101 → ⊥) where
-      pub contents-end : tag ≡ 100 → Finishes (endBody deepestLevel) m at stop r → Finishes (bodyOf tag) m at stop r
+      pub body-end : tag ≡ 100 → bodyOf tag ≡ endBody deepestLevel
       unfolding bodyOf
-      contents-end e f = rw (ne-eqb tag 98 a, ne-eqb tag 101 b, eq-eqb tag 100 e) f
+      body-end e = rw (ne-eqb tag 98 a, ne-eqb tag 101 b, eq-eqb tag 100 e)
 
       module _ (c : tag ≡ 100 → ⊥) where
-        pub contents-abort : tag ≡ 103 → Finishes (abortBody deepestLevel) m at stop r → Finishes (bodyOf tag) m at stop r
+        pub body-abort : tag ≡ 103 → bodyOf tag ≡ abortBody deepestLevel
         unfolding bodyOf
-        contents-abort e f = rw (ne-eqb tag 98 a, ne-eqb tag 101 b, ne-eqb tag 100 c, eq-eqb tag 103 e) f
+        body-abort e = rw (ne-eqb tag 98 a, ne-eqb tag 101 b, ne-eqb tag 100 c, eq-eqb tag 103 e)
 
-        pub contents-uni : (tag ≡ 103 → ⊥) → Finishes (uniBody deepestLevel) m at stop r → Finishes (bodyOf tag) m at stop r
+        pub body-uni : (tag ≡ 103 → ⊥) → bodyOf tag ≡ uniBody deepestLevel
         unfolding bodyOf
-        contents-uni d f = rw (ne-eqb tag 98 a, ne-eqb tag 101 b, ne-eqb tag 100 c, ne-eqb tag 103 d) f
+        body-uni d = rw (ne-eqb tag 98 a, ne-eqb tag 101 b, ne-eqb tag 100 c, ne-eqb tag 103 d)
+
+module _ (b c : Body (Message Text)) (m : List ℕ) (at stop : ℕ) (same : b ≡ c) where
+  pub finishes-body : (r : ℕ) → Finishes c m at stop r → Finishes b m at stop r
+  finishes-body r e = rw same e
+
+  pub leaves-body : (old new : List ℕ) → LeavesAll layMessage Blames c m at stop old new → LeavesAll layMessage Blames b m at stop old new
+  leaves-body old new e = rw same e
 
 -- A message by its tag
 
-abbrev Lead : ℕ → Type 0
+abbrev pub Lead : ℕ → Type 0
 Lead tag = Leads tag × (constructorOf tag ≡ true)
 
-abbrev kinds : Item (Message Text)
+abbrev pub kinds : Item (Message Text)
 kinds = messageItem deepestLevel
+
+abbrev a-uni : Item (Message Text)
+a-uni = aroundItem 97 (uniBody deepestLevel)
+
+abbrev a-begin : Item (Message Text)
+a-begin = aroundItem 98 (beginBody deepestLevel)
+
+abbrev an-end : Item (Message Text)
+an-end = aroundItem 100 (endBody deepestLevel)
+
+abbrev a-continue : Item (Message Text)
+a-continue = aroundItem 101 (continueBody deepestLevel)
+
+abbrev an-abort : Item (Message Text)
+an-abort = aroundItem 103 (abortBody deepestLevel)
+
+abbrev from-continue : Item (Message Text)
+from-continue = orItem a-continue an-abort
+
+abbrev from-end : Item (Message Text)
+from-end = orItem an-end from-continue
+
+abbrev from-begin : Item (Message Text)
+from-begin = orItem a-begin from-end
 
 lead : (tag : ℕ) → kinds .mine tag ≡ true → Lead tag
 unfolding constructorOf
@@ -87,36 +121,39 @@ module _ (m : List ℕ) (at stop : ℕ) (h : until stop ≤ length m) (here : at
   only-tag : (t : ℕ) → tag ≡ t → (f : ℕ → Bool) → f t ≡ false → (a s : ℕ) → frontOf 1 (part m at stop) ≡ TagRead.Tag a s → f a ≡ false
   only-tag t e f q a s z = ap f (stands-only m at stop t h (stood t e) a s z) ∙ q
 
-  module _ (r : ℕ) where
-    pick : (b d c e a : Bool) → eqb tag 98 ≡ b → eqb tag 101 ≡ d → eqb tag 100 ≡ c → eqb tag 103 ≡ e → eqb tag 97 ≡ a → (a || (b || (c || (d || e)))) ≡ true
-        → Reads (aroundItem tag (cond b (beginBody deepestLevel) (cond d (continueBody deepestLevel) (cond c (endBody deepestLevel) (cond e (abortBody deepestLevel) (uniBody deepestLevel)))))) m at stop r → Reads kinds m at stop r
-    pick true d c e a i j k l n o q =
-        let t : tag ≡ 98 = eqb-true tag 98 i in
-        second-of (aroundItem 97 (uniBody deepestLevel)) _ m at stop r (only-tag 98 t (λ a. eqb a 97) refl)
-        (first-of (aroundItem 98 (beginBody deepestLevel)) _ m at stop r (only-tag 98 t (λ a. eqb a 100 || (eqb a 101 || eqb a 103)) refl) (rw t at q))
-    pick false true c e a i j k l n o q =
-        let t : tag ≡ 101 = eqb-true tag 101 j in
-        second-of (aroundItem 97 (uniBody deepestLevel)) _ m at stop r (only-tag 101 t (λ a. eqb a 97) refl) (second-of (aroundItem 98 (beginBody deepestLevel)) _ m at stop r (only-tag 101 t (λ a. eqb a 98) refl)
-        (second-of (aroundItem 100 (endBody deepestLevel)) _ m at stop r (only-tag 101 t (λ a. eqb a 100) refl) (first-of (aroundItem 101 (continueBody deepestLevel)) _ m at stop r (only-tag 101 t (λ a. eqb a 103) refl) (rw t at q))))
-    pick false false true e a i j k l n o q =
-        let t : tag ≡ 100 = eqb-true tag 100 k in
-        second-of (aroundItem 97 (uniBody deepestLevel)) _ m at stop r (only-tag 100 t (λ a. eqb a 97) refl) (second-of (aroundItem 98 (beginBody deepestLevel)) _ m at stop r (only-tag 100 t (λ a. eqb a 98) refl)
-        (first-of (aroundItem 100 (endBody deepestLevel)) _ m at stop r (only-tag 100 t (λ a. eqb a 101 || eqb a 103) refl) (rw t at q)))
-    pick false false false true a i j k l n o q =
-        let t : tag ≡ 103 = eqb-true tag 103 l in
-        second-of (aroundItem 97 (uniBody deepestLevel)) _ m at stop r (only-tag 103 t (λ a. eqb a 97) refl) (second-of (aroundItem 98 (beginBody deepestLevel)) _ m at stop r (only-tag 103 t (λ a. eqb a 98) refl)
-        (second-of (aroundItem 100 (endBody deepestLevel)) _ m at stop r (only-tag 103 t (λ a. eqb a 100) refl) (second-of (aroundItem 101 (continueBody deepestLevel)) _ m at stop r (only-tag 103 t (λ a. eqb a 101) refl) (rw t at q))))
-    pick false false false false true i j k l n o q =
-        let t : tag ≡ 97 = eqb-true tag 97 n in
-        first-of (aroundItem 97 (uniBody deepestLevel)) _ m at stop r (only-tag 97 t (λ a. eqb a 98 || (eqb a 100 || (eqb a 101 || eqb a 103))) refl) (rw t at q)
-    pick false false false false false i j k l n o q = absurd (false≢true o)
+  abbrev asked : Item (Message Text) → Got (Message Text)
+  asked x = ask (front (level 1) FaultKind.Another x) (finite stop) at (part m at stop)
 
-    -- where the tag of a message stands, another fault of another tag does not matter
-    by-tag : Reads (aroundItem tag (bodyOf tag)) m at stop r → Placed at (until stop) (ask (front (level 1) FaultKind.NoMessage kinds) (finite stop) at (part m at stop)) r
-    unfolding bodyOf
-    by-tag q =
-        placed-other (level 1) FaultKind.Another FaultKind.NoMessage kinds (finite stop) at (part m at stop) refl (λ a s z. ap (λ (v : ℕ). kinds .mine v) (stands-only m at stop tag h (stood tag refl) a s z) ∙ mine) (until stop) r
-        (pick (eqb tag 98) (eqb tag 101) (eqb tag 100) (eqb tag 103) (eqb tag 97) refl refl refl refl refl mine q)
+  this : (x y : Item (Message Text)) (t : ℕ) → tag ≡ t → y .mine t ≡ false → asked (orItem x y) ≡ asked x
+  this x y t e q = or-left (level 1) FaultKind.Another x y (finite stop) at (part m at stop) refl (only-tag t e (y .mine) q)
+
+  later : (x y : Item (Message Text)) (t : ℕ) → tag ≡ t → x .mine t ≡ false → asked (orItem x y) ≡ asked y
+  later x y t e q = or-right (level 1) FaultKind.Another x y (finite stop) at (part m at stop) refl (only-tag t e (x .mine) q)
+
+  abbrev picked : Bool → Bool → Bool → Bool → Body (Message Text)
+  picked b d c e = cond b (beginBody deepestLevel) (cond d (continueBody deepestLevel) (cond c (endBody deepestLevel) (cond e (abortBody deepestLevel) (uniBody deepestLevel))))
+
+  named : (t : ℕ) → tag ≡ t → (b : Body (Message Text)) → asked (aroundItem t b) ≡ asked (aroundItem tag b)
+  named t e b = rw e
+
+  pick : (b d c e a : Bool) → eqb tag 98 ≡ b → eqb tag 101 ≡ d → eqb tag 100 ≡ c → eqb tag 103 ≡ e → eqb tag 97 ≡ a → (a || (b || (c || (d || e)))) ≡ true → asked kinds ≡ asked (aroundItem tag (picked b d c e))
+  pick true d c e a i j k l n o = let t : tag ≡ 98 = eqb-true tag 98 i in later a-uni from-begin 98 t refl ∙ this a-begin from-end 98 t refl ∙ named 98 t (beginBody deepestLevel)
+  pick false true c e a i j k l n o =
+      let t : tag ≡ 101 = eqb-true tag 101 j in
+      later a-uni from-begin 101 t refl ∙ later a-begin from-end 101 t refl ∙ later an-end from-continue 101 t refl ∙ this a-continue an-abort 101 t refl ∙ named 101 t (continueBody deepestLevel)
+  pick false false true e a i j k l n o = let t : tag ≡ 100 = eqb-true tag 100 k in later a-uni from-begin 100 t refl ∙ later a-begin from-end 100 t refl ∙ this an-end from-continue 100 t refl ∙ named 100 t (endBody deepestLevel)
+  pick false false false true a i j k l n o =
+      let t : tag ≡ 103 = eqb-true tag 103 l in
+      later a-uni from-begin 103 t refl ∙ later a-begin from-end 103 t refl ∙ later an-end from-continue 103 t refl ∙ later a-continue an-abort 103 t refl ∙ named 103 t (abortBody deepestLevel)
+  pick false false false false true i j k l n o = let t : tag ≡ 97 = eqb-true tag 97 n in this a-uni from-begin 97 t refl ∙ named 97 t (uniBody deepestLevel)
+  pick false false false false false i j k l n o = absurd (false≢true o)
+
+  -- where the tag of a message stands, another fault of another tag does not matter
+  by-tag : ask (front (level 1) FaultKind.NoMessage kinds) (finite stop) at (part m at stop) ≡ asked (aroundItem tag (bodyOf tag))
+  unfolding bodyOf
+  by-tag =
+      other-ask (level 1) FaultKind.NoMessage FaultKind.Another kinds (finite stop) at (part m at stop) refl (λ a s z. ap (λ (v : ℕ). kinds .mine v) (stands-only m at stop tag h (stood tag refl) a s z) ∙ mine)
+      ∙ pick (eqb tag 98) (eqb tag 101) (eqb tag 100) (eqb tag 103) (eqb tag 97) refl refl refl refl refl mine
 
 -- the contents stand within the whole
 module _ (m : List ℕ) (len tag inner : ℕ) (is : len ≡ length m) (short : len ≤ 255) (entry : inner ≡ entryPlace true m 0 len tag) (near : Near inner) where
@@ -132,6 +169,9 @@ module _ (m : List ℕ) (len tag inner : ℕ) (is : len ≡ length m) (short : l
 
 -- The message is all there is
 
+pub answers-as : (m : List ℕ) (x : Got (Message Text)) (r s : ℕ) → Answers m x r → s ≡ r → Answers m x s
+answers-as m x r s e z = rw z e
+
 learnt-keeps : (v : Message Text) → Keeps (learnt v)
 learnt-keeps (unidirectional d cs) = λ f. refl
 learnt-keeps (begin o d cs) = carried-keeps o
@@ -143,7 +183,7 @@ module _ (m : List ℕ) where
   abbrev plain : Body (Message Text)
   plain = place (level 16) none (kinds .mine) FaultKind.NoMessage (λ d h p part. kinds .contents h p part)
 
-  abbrev closing : Message Text → ℕ → Got (Message Text)
+  abbrev pub closing : Message Text → ℕ → Got (Message Text)
   closing v n = blamed (learnt v) (check (eqb n (length m)) (at FaultKind.OctetsAfter (0 + n)) (got v n))
 
   plain-is : front (level 16) FaultKind.NoMessage kinds ≡ plain
@@ -171,23 +211,31 @@ module _ (m : List ℕ) where
     alone-other b asked t = rw (first-is, ← asked, t)
 
     module _ (b : Bool) (asked : b ≡ kinds .mine (getD m 0 0)) (told : b ≡ true) (inner : ℕ) (entry : inner ≡ entryPlace true m 0 len (getD m 0 0)) where
-      sound : Lead (getD m 0 0)
+      pub sound : Lead (getD m 0 0)
       sound = lead (getD m 0 0) (sym asked ∙ told)
 
-      inside : (until len ≤ length m) × (0 < until len) × (finite len ≡ true)
+      pub inside : (until len ≤ length m) × (0 < until len) × (finite len ≡ true)
       inside = (omega (arith, is, short), omega (arith, some, short), refl-finite)
         where
           refl-finite : finite len ≡ true
           refl-finite = lt-ltb len opening (omega (arith, short))
 
-      opened : readFirst deepestLevel kinds m ≡ next (ask (front (level 16) FaultKind.NoMessage kinds) true 0 m) closing
+      pub opened : readFirst deepestLevel kinds m ≡ next (ask (front (level 16) FaultKind.NoMessage kinds) true 0 m) closing
       unfolding check
       opened = first-is ∙ rw (← asked, told) alone-is
 
-      lifted : (r : ℕ) → Reads (aroundItem (getD m 0 0) (bodyOf (getD m 0 0))) m 0 len r → Placed 0 (length m) (ask (front (level 16) FaultKind.NoMessage kinds) true 0 m) r
+      -- whatever the levels left, and whatever the fault of another tag
+      pub front-is : ask (front (level 1) FaultKind.NoMessage kinds) true 0 m ≡ ask (front (level 1) FaultKind.Another (aroundItem (getD m 0 0) (bodyOf (getD m 0 0)))) (finite len) 0 (part m 0 len)
+      front-is =
+          let z : until len ≡ length m = omega (arith, is, short) in
+          let same : ask (front (level 1) FaultKind.NoMessage kinds) (finite len) 0 (part m 0 len) ≡ ask (front (level 1) FaultKind.NoMessage kinds) true 0 m = rw (z, inside .2, all-of-it) in
+          sym same ∙ by-tag m 0 len (inside .0) (inside .1) (getD m 0 0) refl (sym asked ∙ told)
+
+      pub lifted : (r : ℕ) → Reads (aroundItem (getD m 0 0) (bodyOf (getD m 0 0))) m 0 len r → Placed 0 (length m) (ask (front (level 16) FaultKind.NoMessage kinds) true 0 m) r
       lifted r e =
           let z : until len ≡ length m = omega (arith, is, short) in
-          placed-where kinds FaultKind.NoMessage (level 16) (λ f. refl) true 0 m (length m) r refl (rw (z, inside .2, all-of-it) at (by-tag m 0 len (inside .0) (inside .1) (getD m 0 0) refl (sym asked ∙ told) r e))
+          let w : Placed 0 (length m) (ask (front (level 1) FaultKind.NoMessage kinds) true 0 m) r = rw (front-is, ← z) e in
+          placed-where kinds FaultKind.NoMessage (level 16) (λ f. refl) true 0 m (length m) r refl w
 
       far-on : (r : ℕ) → Reads (aroundItem (getD m 0 0) (bodyOf (getD m 0 0))) m 0 len r → Far r → Answers m (readFirst deepestLevel kinds m) r
       far-on r e f = rw opened (next-far _ closing 0 (length m) r (lifted r e) 0 (length m) (omega (arith, is, short)) f)
@@ -196,16 +244,13 @@ module _ (m : List ℕ) where
       alone-entry f = far-on inner (around-entry (getD m 0 0) (sound .0) (sound .1) (bodyOf (getD m 0 0)) m 0 len inner (omega arith) (inside .0) entry f) f
 
       module _ (near : Near inner) (st : ℕ) (start : st ≡ 1 + lengthSize (getD m 1 0)) (r : ℕ) (e : Finishes (bodyOf (getD m 0 0)) m st inner r) where
-        whole : Reads (aroundItem (getD m 0 0) (bodyOf (getD m 0 0))) m 0 len r
+        pub whole : Reads (aroundItem (getD m 0 0) (bodyOf (getD m 0 0))) m 0 len r
         whole = around-read (getD m 0 0) (sound .0) (sound .1) (bodyOf (getD m 0 0)) m 0 len inner (omega arith) (inside .0) entry (omega (arith, is, short)) near st start r e
 
         pub alone-far : Far r → Answers m (readFirst deepestLevel kinds m) r
         alone-far f = far-on r whole f
 
         module _ (f : Near r) where
-          pub alone-within : r ≤ 255
-          alone-within = let z = placed-near _ 0 (length m) r (lifted r whole) f in omega (arith, z, is, short)
-
           pub alone-all : r ≡ len → Answers m (readFirst deepestLevel kinds m) r
           unfolding check Placed
           alone-all t = rw opened (next-near _ closing 0 (length m) r (lifted r whole) 0 (length m) r f (λ v n i z.

@@ -1,11 +1,11 @@
 -- What the readers of messages answer, as their contracts cite it; the definition of reading rests on none of it.
 -- Assumes nothing: these are definitions.
 use Prim.Native.Nat.{ℕ}
-use mathlib.Core.{Bool.cond, List.List, Option.Option}
+use mathlib.Core.{Path._≡_, Bool.Bool, Bool.true, Bool.false, Bool.cond, List.List, Option.Option, Option.none, Option.some}
 use lib.{ListN.length, Dec.eqb}
 use Rattle.element.specs.{Fault.Text, Ask.Got, Ask.Body, Parts.Item, Parts.lastBody, Parts.mapItem, Parts.orItem}
-use Rattle.tcap.specs.{Meaning.Ending, Meaning.cause, Meaning.says, Meaning.Component, Meaning.Message, WellFormed.deepestLevel, Productions.octetItem, Productions.levelAt, Productions.componentsItem, Productions.dialogueItem, Productions.uniBody, Productions.beginBody, Productions.endBody, Productions.continueBody, Productions.abortBody}
-use Rattle.read_place.specs.Places.{Placed}
+use Rattle.tcap.specs.{Meaning.Ending, Meaning.cause, Meaning.says, Meaning.Component, Meaning.Dialogue, Meaning.Message, WellFormed.deepestLevel, Productions.octetItem, Productions.levelAt, Productions.componentsItem, Productions.dialogueItem, Productions.uniBody, Productions.beginBody, Productions.endBody, Productions.continueBody, Productions.abortBody}
+use Rattle.read_place.specs.{Places.Placed, Places.standsOf, Leaves.Leaves, Laying.layComponents, Laying.layDialogue, Laying.layPortion, Laying.layEnding, Blames.Blames}
 
 -- 6C or nothing, to the end of the contents
 abbrev pub componentsBody : Body (Option (List (Component Text)))
@@ -26,3 +26,24 @@ bodyOf a =
 -- a message that is all there is: how many octets, or the first fault
 abbrev pub Answers : List ℕ → Got (Message Text) → ℕ → Type 0
 Answers m x r = Placed 0 (length m) x r
+
+-- What is laid out of parts of a message that may be left out
+
+unfoldable pub layListed : Option (List (Component Text)) → List ℕ → List ℕ
+layListed none l = l
+layListed (some cs) l = layComponents cs l
+
+abbrev pub layTail : Option (Dialogue Text) × List (Component Text) → List ℕ → List ℕ
+layTail v l = layComponents (v .1) (layPortion (v .0) l)
+
+unfoldable pub layLast : Option (Ending Text) → List ℕ → List ℕ
+layLast none l = l
+layLast (some e) l = layEnding e l
+
+-- 6B where it stands; where it does not, the octets are as they were
+unfoldable pub Lays : Bool → List ℕ → ℕ → ℕ → List ℕ → List ℕ → Type 0
+Lays true m at stop old new = Leaves layDialogue Blames (dialogueItem deepestLevel) m at stop old new
+Lays false m at stop old new = new ≡ old
+
+abbrev pub LaysPast : List ℕ → ℕ → ℕ → List ℕ → List ℕ → Type 0
+LaysPast m at stop old new = Lays (standsOf m at stop 0x6B) m at stop old new

@@ -1,15 +1,20 @@
-// Messages: an answer is the place behind what was read, or the first fault.
+// Messages: an answer is the place behind what was read, or the first fault. What is read is laid out in the octets lent, or whom the fault belongs to is told there.
 ghost use mathlib.Core.Path.{_≡_};
+ghost use mathlib.Core.Bool.{true};
 ghost use Prim.Native.Nat.{_≤_};
-ghost use lib.ListN.{length};
+ghost use lib.ListN.{length, set};
 ghost use Rattle.element.specs.Parts.{lastBody};
-ghost use Rattle.read_place.specs.Places.{Reads, Finishes, Ready};
-ghost use Rattle.read_dialogue.specs.Dialogues.{Passes};
+ghost use Rattle.read_place.specs.Places.{Reads, Finishes, Ready, Far, standsOf};
+ghost use Rattle.read_place.specs.Leaves.{Left, Leaves, LeavesAll, untold};
+ghost use Rattle.read_place.specs.Laying.{layOrig, layDest, layDialogue, layComponents, layEnding, layMessage, layAccepted};
+ghost use Rattle.read_place.specs.Blames.{Blames};
+ghost use Rattle.read_dialogue.specs.Dialogues.{Passes, Owns};
 ghost use Rattle.tcap.specs.WellFormed.{deepestLevel};
 ghost use Rattle.tcap.specs.Reading.{readFirst, locatedUpTo};
-ghost use Rattle.tcap.specs.Productions.{levelAt, componentsItem, dialogueItem, tailBody, uniBody, beginBody, endBody, continueBody, abortBody, messageItem};
-ghost use Rattle.read_message.specs.Messages.{componentsBody, endingItem, bodyOf, Answers};
+ghost use Rattle.tcap.specs.Productions.{levelAt, origItem, destItem, componentsItem, dialogueItem, tailBody, uniBody, beginBody, endBody, continueBody, abortBody, messageItem};
+ghost use Rattle.read_message.specs.Messages.{componentsBody, endingItem, bodyOf, Answers, layListed, layTail, layLast, LaysPast};
 use read_component::rows_at;
+use read_dialogue::blames_dialogue;
 use read_dialogue::dialogue_at;
 use read_field::small_at;
 use read_field::transaction_id_at;
@@ -22,171 +27,264 @@ use read_place::behind;
 use read_place::ended;
 use read_place::entry_at;
 use read_place::leave;
+use read_place::put_text;
 use read_place::stands;
 use read_place::start_of;
 
+// A fault of the transaction portion, told so.
+fn of_portion(out: &mut [u8], r: usize) -> usize
+    requires { ⌜ length (now out) ≡ 428 ⌝ }
+    ensures { λ s. ⌜ s ≡ r ⌝ }
+    ensures { λ _. ⌜ now (out .exit) ≡ set (now (out .entry)) 0 0 ⌝ }
+{
+    out[0] = 0;
+    r
+}
+
+// A fault in 6B: whose it is, by a second look.
+fn blamed_by(m: &[u8], at: usize, stop: usize, r: usize, out: &mut [u8]) -> usize
+    requires { ⌜ Ready (now m) at stop × Reads (dialogueItem deepestLevel) (now m) at stop r × Far r × (length (now out) ≡ 428) ⌝ }
+    ensures { λ s. ⌜ s ≡ r ⌝ }
+    ensures { λ _. ⌜ Leaves layDialogue Blames (dialogueItem deepestLevel) (now (m .entry)) at stop (now (out .entry)) (now (out .exit)) ⌝ }
+{
+    if blames_dialogue(m, at, stop, out) {
+        out[0] = 1;
+        return r;
+    }
+    out[0] = 0;
+    r
+}
+
+// The originating ID.
+fn orig_at(m: &[u8], at: usize, stop: usize, out: &mut [u8]) -> usize
+    requires { ⌜ Ready (now m) at stop × (length (now out) ≡ 428) ⌝ }
+    ensures { λ r. ⌜ Reads origItem (now (m .entry)) at stop r ⌝ }
+    ensures { λ _. ⌜ Leaves layOrig Blames origItem (now (m .entry)) at stop (now (out .entry)) (now (out .exit)) ⌝ }
+{
+    let r = transaction_id_at(m, at, stop, 0x48);
+    if r >= FAULT {
+        return of_portion(out, r);
+    }
+    out[1] = 1;
+    put_text(out, 8, at + 2, r - at - 2);
+    r
+}
+
+// The destination ID.
+fn dest_at(m: &[u8], at: usize, stop: usize, out: &mut [u8]) -> usize
+    requires { ⌜ Ready (now m) at stop × (length (now out) ≡ 428) ⌝ }
+    ensures { λ r. ⌜ Reads destItem (now (m .entry)) at stop r ⌝ }
+    ensures { λ _. ⌜ Leaves layDest Blames destItem (now (m .entry)) at stop (now (out .entry)) (now (out .exit)) ⌝ }
+{
+    let r = transaction_id_at(m, at, stop, 0x49);
+    if r >= FAULT {
+        return of_portion(out, r);
+    }
+    out[2] = 1;
+    put_text(out, 16, at + 2, r - at - 2);
+    r
+}
+
 // 6C around components.
-fn components_at(m: &[u8], at: usize, stop: usize) -> usize
-    requires { ⌜ Ready (now m) at stop ⌝ }
+fn components_at(m: &[u8], at: usize, stop: usize, out: &mut [u8]) -> usize
+    requires { ⌜ Ready (now m) at stop × (length (now out) ≡ 428) ⌝ }
     ensures { λ r. ⌜ Reads (componentsItem deepestLevel) (now (m .entry)) at stop r ⌝ }
+    ensures { λ _. ⌜ Leaves layComponents Blames (componentsItem deepestLevel) (now (m .entry)) at stop (now (out .entry)) (now (out .exit)) ⌝ }
 {
     let inner = entry_at(m, at, stop, 0x6C);
     if inner >= FAULT {
-        return inner;
+        return of_portion(out, inner);
     }
-    rows_at(m, start_of(m, at + 1), inner)
+    rows_at(m, start_of(m, at + 1), inner, out)
 }
 
 // The same or nothing, and nothing more: the place behind the contents.
-fn last_components_at(m: &[u8], at: usize, stop: usize) -> usize
-    requires { ⌜ Ready (now m) at stop ⌝ }
+fn last_components_at(m: &[u8], at: usize, stop: usize, out: &mut [u8]) -> usize
+    requires { ⌜ Ready (now m) at stop × (length (now out) ≡ 428) ⌝ }
     ensures { λ r. ⌜ Finishes componentsBody (now (m .entry)) at stop r ⌝ }
+    ensures { λ _. ⌜ LeavesAll layListed Blames componentsBody (now (m .entry)) at stop (now (out .entry)) (now (out .exit)) ⌝ }
 {
     if ended(m, at, stop) {
         return behind(at, stop);
     }
-    let r = components_at(m, at, stop);
+    let r = components_at(m, at, stop, out);
     if r >= FAULT {
         return r;
     }
-    leave(m, r, stop)
+    let last = leave(m, r, stop);
+    if last >= FAULT {
+        return of_portion(out, last);
+    }
+    last
 }
 
 // The place behind 6B, if it stands here.
-fn past_dialogue(m: &[u8], at: usize, stop: usize) -> usize
-    requires { ⌜ Ready (now m) at stop ⌝ }
+fn past_dialogue(m: &[u8], at: usize, stop: usize, out: &mut [u8]) -> usize
+    requires { ⌜ Ready (now m) at stop × (length (now out) ≡ 428) ⌝ }
     ensures { λ r. ⌜ Passes 0x6B (dialogueItem deepestLevel) (now (m .entry)) at stop r ⌝ }
+    ensures { λ _. ⌜ LaysPast (now (m .entry)) at stop (now (out .entry)) (now (out .exit)) ⌝ }
 {
     if stands(m, at, stop, 0x6B) {
-        return dialogue_at(m, at, stop);
+        let d = dialogue_at(m, at, stop, out);
+        if d >= FAULT {
+            return blamed_by(m, at, stop, d, out);
+        }
+        return d;
     }
     at
 }
 
 // What follows the IDs: 6B or none, 6C or none.
-fn tail_at(m: &[u8], at: usize, stop: usize) -> usize
-    requires { ⌜ Ready (now m) at stop ⌝ }
+fn tail_at(m: &[u8], at: usize, stop: usize, out: &mut [u8]) -> usize
+    requires { ⌜ Ready (now m) at stop × (length (now out) ≡ 428) ⌝ }
     ensures { λ r. ⌜ Finishes (tailBody deepestLevel) (now (m .entry)) at stop r ⌝ }
+    ensures { λ _. ⌜ LeavesAll layTail Blames (tailBody deepestLevel) (now (m .entry)) at stop (now (out .entry)) (now (out .exit)) ⌝ }
 {
-    let r = past_dialogue(m, at, stop);
+    let r = past_dialogue(m, at, stop, out);
     if r >= FAULT {
         return r;
     }
-    last_components_at(m, r, stop)
+    last_components_at(m, r, stop, out)
 }
 
 // The contents of a Unidirectional.
-fn uni_at(m: &[u8], at: usize, stop: usize) -> usize
-    requires { ⌜ Ready (now m) at stop ⌝ }
+fn uni_at(m: &[u8], at: usize, stop: usize, out: &mut [u8]) -> usize
+    requires { ⌜ Ready (now m) at stop × (length (now out) ≡ 428) ⌝ }
     ensures { λ r. ⌜ Finishes (uniBody deepestLevel) (now (m .entry)) at stop r ⌝ }
+    ensures { λ _. ⌜ LeavesAll layMessage Blames (uniBody deepestLevel) (now (m .entry)) at stop (now (out .entry)) (now (out .exit)) ⌝ }
 {
-    let r = past_dialogue(m, at, stop);
+    let r = past_dialogue(m, at, stop, out);
     if r >= FAULT {
         return r;
     }
-    let s = components_at(m, r, stop);
+    let s = components_at(m, r, stop, out);
     if s >= FAULT {
         return s;
     }
-    leave(m, s, stop)
+    let last = leave(m, s, stop);
+    if last >= FAULT {
+        return of_portion(out, last);
+    }
+    last
 }
 
 // The contents of a Begin.
-fn begin_at(m: &[u8], at: usize, stop: usize) -> usize
-    requires { ⌜ Ready (now m) at stop ⌝ }
+fn begin_at(m: &[u8], at: usize, stop: usize, out: &mut [u8]) -> usize
+    requires { ⌜ Ready (now m) at stop × (length (now out) ≡ 428) ⌝ }
     ensures { λ r. ⌜ Finishes (beginBody deepestLevel) (now (m .entry)) at stop r ⌝ }
+    ensures { λ _. ⌜ LeavesAll layMessage Blames (beginBody deepestLevel) (now (m .entry)) at stop (now (out .entry)) (now (out .exit)) ⌝ }
 {
-    let r = transaction_id_at(m, at, stop, 0x48);
+    let r = orig_at(m, at, stop, out);
     if r >= FAULT {
         return r;
     }
-    tail_at(m, r, stop)
+    tail_at(m, r, stop, out)
 }
 
 // The contents of an End.
-fn end_at(m: &[u8], at: usize, stop: usize) -> usize
-    requires { ⌜ Ready (now m) at stop ⌝ }
+fn end_at(m: &[u8], at: usize, stop: usize, out: &mut [u8]) -> usize
+    requires { ⌜ Ready (now m) at stop × (length (now out) ≡ 428) ⌝ }
     ensures { λ r. ⌜ Finishes (endBody deepestLevel) (now (m .entry)) at stop r ⌝ }
+    ensures { λ _. ⌜ LeavesAll layMessage Blames (endBody deepestLevel) (now (m .entry)) at stop (now (out .entry)) (now (out .exit)) ⌝ }
 {
-    let r = transaction_id_at(m, at, stop, 0x49);
+    let r = dest_at(m, at, stop, out);
     if r >= FAULT {
         return r;
     }
-    tail_at(m, r, stop)
+    tail_at(m, r, stop, out)
 }
 
 // The contents of a Continue.
-fn continue_at(m: &[u8], at: usize, stop: usize) -> usize
-    requires { ⌜ Ready (now m) at stop ⌝ }
+fn continue_at(m: &[u8], at: usize, stop: usize, out: &mut [u8]) -> usize
+    requires { ⌜ Ready (now m) at stop × (length (now out) ≡ 428) ⌝ }
     ensures { λ r. ⌜ Finishes (continueBody deepestLevel) (now (m .entry)) at stop r ⌝ }
+    ensures { λ _. ⌜ LeavesAll layMessage Blames (continueBody deepestLevel) (now (m .entry)) at stop (now (out .entry)) (now (out .exit)) ⌝ }
 {
-    let r = transaction_id_at(m, at, stop, 0x48);
+    let r = orig_at(m, at, stop, out);
     if r >= FAULT {
         return r;
     }
-    let s = transaction_id_at(m, r, stop, 0x49);
+    let s = dest_at(m, r, stop, out);
     if s >= FAULT {
         return s;
     }
-    tail_at(m, s, stop)
+    tail_at(m, s, stop, out)
 }
 
 // What an Abort ends with: a cause, or 6B.
-fn ending_at(m: &[u8], at: usize, stop: usize) -> usize
-    requires { ⌜ Ready (now m) at stop ⌝ }
+fn ending_at(m: &[u8], at: usize, stop: usize, out: &mut [u8]) -> usize
+    requires { ⌜ Ready (now m) at stop × (length (now out) ≡ 428) ⌝ }
     ensures { λ r. ⌜ Reads endingItem (now (m .entry)) at stop r ⌝ }
+    ensures { λ _. ⌜ Leaves layEnding Blames endingItem (now (m .entry)) at stop (now (out .entry)) (now (out .exit)) ⌝ }
 {
     if stands(m, at, stop, 0x6B) {
-        return dialogue_at(m, at, stop);
+        let d = dialogue_at(m, at, stop, out);
+        if d >= FAULT {
+            return blamed_by(m, at, stop, d, out);
+        }
+        return d;
     }
-    small_at(m, at, stop, 0x4A, 4)
+    let r = small_at(m, at, stop, 0x4A, 4);
+    if r >= FAULT {
+        return of_portion(out, r);
+    }
+    out[3] = 1;
+    out[41] = m[at + 2];
+    r
 }
 
 // The same or nothing, and nothing more: the place behind the contents.
-fn last_ending_at(m: &[u8], at: usize, stop: usize) -> usize
-    requires { ⌜ Ready (now m) at stop ⌝ }
+fn last_ending_at(m: &[u8], at: usize, stop: usize, out: &mut [u8]) -> usize
+    requires { ⌜ Ready (now m) at stop × (length (now out) ≡ 428) ⌝ }
     ensures { λ r. ⌜ Finishes (lastBody (levelAt deepestLevel 2) endingItem) (now (m .entry)) at stop r ⌝ }
+    ensures { λ _. ⌜ LeavesAll layLast Blames (lastBody (levelAt deepestLevel 2) endingItem) (now (m .entry)) at stop (now (out .entry)) (now (out .exit)) ⌝ }
 {
     if ended(m, at, stop) {
         return behind(at, stop);
     }
-    let r = ending_at(m, at, stop);
+    let r = ending_at(m, at, stop, out);
     if r >= FAULT {
         return r;
     }
-    leave(m, r, stop)
+    let last = leave(m, r, stop);
+    if last >= FAULT {
+        return of_portion(out, last);
+    }
+    last
 }
 
 // The contents of an Abort.
-fn abort_at(m: &[u8], at: usize, stop: usize) -> usize
-    requires { ⌜ Ready (now m) at stop ⌝ }
+fn abort_at(m: &[u8], at: usize, stop: usize, out: &mut [u8]) -> usize
+    requires { ⌜ Ready (now m) at stop × (length (now out) ≡ 428) ⌝ }
     ensures { λ r. ⌜ Finishes (abortBody deepestLevel) (now (m .entry)) at stop r ⌝ }
+    ensures { λ _. ⌜ LeavesAll layMessage Blames (abortBody deepestLevel) (now (m .entry)) at stop (now (out .entry)) (now (out .exit)) ⌝ }
 {
-    let r = transaction_id_at(m, at, stop, 0x49);
+    let r = dest_at(m, at, stop, out);
     if r >= FAULT {
         return r;
     }
-    last_ending_at(m, r, stop)
+    last_ending_at(m, r, stop, out)
 }
 
 // The contents of a message by its tag.
-fn contents_at(m: &[u8], at: usize, stop: usize, tag: u8) -> usize
-    requires { ⌜ Ready (now m) at stop ⌝ }
+fn contents_at(m: &[u8], at: usize, stop: usize, tag: u8, out: &mut [u8]) -> usize
+    requires { ⌜ Ready (now m) at stop × (length (now out) ≡ 428) ⌝ }
     ensures { λ r. ⌜ Finishes (bodyOf tag) (now (m .entry)) at stop r ⌝ }
+    ensures { λ _. ⌜ LeavesAll layMessage Blames (bodyOf tag) (now (m .entry)) at stop (now (out .entry)) (now (out .exit)) ⌝ }
 {
     if tag == 0x62 {
-        return begin_at(m, at, stop);
+        return begin_at(m, at, stop, out);
     }
     if tag == 0x65 {
-        return continue_at(m, at, stop);
+        return continue_at(m, at, stop, out);
     }
     if tag == 0x64 {
-        return end_at(m, at, stop);
+        return end_at(m, at, stop, out);
     }
     if tag == 0x67 {
-        return abort_at(m, at, stop);
+        return abort_at(m, at, stop, out);
     }
-    uni_at(m, at, stop)
+    uni_at(m, at, stop, out)
 }
 
 // Whether a first octet is the tag of a message.
@@ -209,38 +307,42 @@ fn is_message(first: u8) -> bool
 }
 
 // A message that is all there is: how many octets, or the first fault.
-fn alone_at(m: &[u8], len: usize) -> usize
-    requires { ⌜ (len ≡ length (now m)) × (1 ≤ len) × (len ≤ 255) ⌝ }
+fn alone_at(m: &[u8], len: usize, out: &mut [u8]) -> usize
+    requires { ⌜ (len ≡ length (now m)) × (1 ≤ len) × (len ≤ 255) × (length (now out) ≡ 428) ⌝ }
     ensures { λ r. ⌜ Answers (now (m .entry)) (readFirst deepestLevel (messageItem deepestLevel) (now (m .entry))) r ⌝ }
+    ensures { λ _. ⌜ Left layAccepted Blames (readFirst deepestLevel (messageItem deepestLevel) (now (m .entry))) (now (out .entry)) (now (out .exit)) ⌝ }
 {
     let tag = m[0];
     if is_message(tag) {
         let inner = entry_at(m, 0, len, tag);
         if inner >= FAULT {
-            return inner;
+            return of_portion(out, inner);
         }
-        let r = contents_at(m, start_of(m, 1), inner, tag);
+        let r = contents_at(m, start_of(m, 1), inner, tag, out);
         if r >= FAULT {
             return r;
         }
         if r == len {
+            out[0] = tag;
             return r;
         }
-        return OCTETS_AFTER + r;
+        return of_portion(out, OCTETS_AFTER + r);
     }
-    NO_MESSAGE
+    of_portion(out, NO_MESSAGE)
 }
 
 // The same of any octets.
-pub fn message_at(m: &[u8]) -> usize
+pub fn message_at(m: &[u8], out: &mut [u8]) -> usize
+    requires { ⌜ length (now out) ≡ 428 ⌝ }
     ensures { λ r. ⌜ Answers (now (m .entry)) (locatedUpTo deepestLevel (now (m .entry))) r ⌝ }
+    ensures { λ _. ⌜ Left layAccepted Blames (locatedUpTo deepestLevel (now (m .entry))) (now (out .entry)) (now (out .exit)) ⌝ }
 {
     let len = m.len();
     if len > 255 {
-        return OVERLONG + 255;
+        return of_portion(out, OVERLONG + 255);
     }
     if len == 0 {
-        return CUT_OFF;
+        return of_portion(out, CUT_OFF);
     }
-    alone_at(m, len)
+    alone_at(m, len, out)
 }

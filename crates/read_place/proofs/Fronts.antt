@@ -8,7 +8,7 @@ use native.Mathlib.Omega.{arith}
 use native.Mathlib.Nat.{add-zero}
 use lib.ListN.{length, getD, drop}
 use lib.Dec.{eqb, ltb}
-use borrow.Author.Tests.{eqb-false, le-leb, lt-leb, ne-eqb}
+use borrow.Author.Tests.{eqb-false, le-leb, lt-leb, lt-ltb, eq-eqb, ne-eqb}
 use Rattle.element.specs.declared.FaultKind.{FaultKind}
 use Rattle.element.specs.declared.EndRead.{EndRead}
 use Rattle.element.specs.declared.TagRead.{TagRead}
@@ -20,8 +20,8 @@ use Rattle.element.specs.Ask.{Got, got, bad, check, Body, askLength, askTag, at
 use Rattle.element.specs.Parts.{place}
 use Rattle.element.proofs.Heads.{TagIs, tag-sound}
 use Rattle.element.proofs.Reading.{tag-size}
-use Rattle.read_place.specs.Places.{base, faultPlace, span, part, finite, endedOf, unfinishedOf, behindOf, tagPlace, lengthPlace, Placed, Shut, Closing, Closed, nothing, askedPlace, wrongPlace, standsOf, entryPlace, badPlace, until, Far, Near, faults, cutOff, badContents, missing, tooMany}
-use Rattle.read_place.proofs.Views.{span-length, span-get}
+use Rattle.read_place.specs.Places.{base, faultPlace, span, part, finite, endedOf, unfinishedOf, behindOf, tagPlace, lengthPlace, Placed, Shut, Closing, Closed, nothing, askedPlace, wrongPlace, standsOf, entryPlace, badPlace, until, Far, Near, Finite, opening, faults, cutOff, badContents, missing, tooMany}
+use Rattle.read_place.proofs.Views.{span-length, span-get, ended-closed}
 use Rattle.read_place.proofs.Answers.{far, Keeps}
 
 -- The questions of `ask` in the order of the code: the end, the front (tag, code 0), the expected tag
@@ -242,3 +242,10 @@ module _ (m : List ℕ) (at stop r : ℕ) (b : Bool) (is : b ≡ endedOf (endOf 
   pub leave-wrong : b ≡ false → r ≡ wrongPlace m at stop tooMany → Closed at stop (ask nothing (finite stop) at (part m at stop)) r
   unfolding base
   leave-wrong t e = rw e (wrong-closed nothing (finite stop) at at (until stop) (part m at stop) (λ f. refl) refl refl (λ z. absurd (not-ended (endOf (finite stop) (part m at stop)) b is t z)) (λ a s z. refl))
+
+-- a place that is the stop: it is below the opening, and contents end there
+pub leave-here : (m : List ℕ) (at stop : ℕ) → at ≤ until stop → until stop ≤ length m → length m ≤ 65535 → at ≡ stop → Closed at stop (ask nothing (finite stop) at (part m at stop)) at
+unfolding behindOf
+leave-here m at stop g h top e =
+    let low : Finite stop = omega (arith, e, g, h, top) in
+    leave-ended m at stop at true (sym (eq-eqb at stop e) ∙ ended-closed m at stop h g low) g h refl (rw (lt-ltb stop opening low))

@@ -4,6 +4,9 @@ pub mod Fronts
 pub mod Onto
 pub mod Bodies
 pub mod Items
+pub mod Laid
 pub mod Walks
 pub mod Optional
 pub mod Values
+pub mod Around
+pub mod Leaves

@@ -1,14 +1,14 @@
 -- What stands from a place to an end, by the octets of the whole. Assumes nothing.
-use Prim.Native.Nat.{ℕ, suc, _+_, _-_, _/_, _≤_, _<_}
-use mathlib.Core.Path.{_≡_, refl, ap, _∙_}
+use Prim.Native.Nat.{ℕ, suc, _+_, _-_, _*_, _/_, _≤_, _<_}
+use mathlib.Core.Path.{_≡_, refl, sym, ap, _∙_}
 use mathlib.Core.Bool.{Bool, true, false, cond}
 use mathlib.Core.List.{List}
 use native.Mathlib.Omega.{arith}
-use native.Mathlib.Nat.{add-zero}
+use native.Mathlib.Nat.{add-zero, zero-add}
 use lib.ListN.{length, getD, drop, take, length-drop}
-use lib.Seq.{length-take-le, getD-drop, getD-take, drop-drop, take-take, take-add, drop-at}
+use lib.Seq.{drop-cons, length-take-le, getD-drop, getD-take, drop-drop, take-take, take-add, drop-at}
 use lib.Dec.{eqb, ltb, leb}
-use borrow.Author.Tests.{leb-false, ltb-false, le-leb, eqb-false, eqb-true, lt-ltb, le-ltb, eq-eqb, ne-eqb}
+use borrow.Author.Tests.{leb-true, leb-false, ltb-false, le-leb, lt-leb, eqb-false, eqb-true, lt-ltb, le-ltb, eq-eqb, ne-eqb}
 use Rattle.element.specs.declared.FaultKind.{FaultKind}
 use Rattle.element.specs.declared.EndRead.{EndRead}
 use Rattle.element.specs.declared.TagRead.{TagRead}
@@ -17,8 +17,8 @@ use Rattle.element.specs.Element.{extendedOf}
 use Rattle.base.specs.Number.{numberFrom}
 use Rattle.element.specs.Form.{fewestOf}
 use Rattle.element.specs.Head.{endOf, tagOf, first, second, third, within, longOf, lengthOf}
-use Rattle.element.proofs.Reading.{endTests, end-tests, count-early, count-within, count-past}
-use Rattle.read_place.specs.Places.{span, part, finite, endedOf, unfinishedOf, base, lengthPlace, until, Near, Endless, Finite, opening, passesEnd}
+use Rattle.element.proofs.Reading.{endTests, end-tests, number-next, count-early, count-within, count-past}
+use Rattle.read_place.specs.Places.{span, part, finite, endedOf, unfinishedOf, base, lengthPlace, longRead, until, Near, Endless, Finite, opening, cutOff, badLength, passesEnd}
 
 pub span-length : (m : List ℕ) (at end : ℕ) → end ≤ length m → length (span m at end) ≡ end - at
 span-length m at end h = rw (length-drop, length-take-le end m h)
@@ -156,19 +156,36 @@ long-view m from end k h l =
     rw (span-length m from end h) (cond-else (ltb (end - from - 1) k) _ (λ e. let g : k ≤ end - from - 1 = ltb-false (end - from - 1) k e in
     rw (span-get m from end 1 (omega (arith, g, l)), span-take m from end 1 k (omega (arith, g, l)) h)))
 
+-- the k octets of a length behind its first
+abbrev pub lengthOctets : List ℕ → ℕ → ℕ → List ℕ
+lengthOctets m from k = take k (drop (from + 1) m)
+
+octets-count : (m : List ℕ) (from k : ℕ) → from + 1 + k ≤ length m → length (lengthOctets m from k) ≡ k
+octets-count m from k l = length-take-le k (drop (from + 1) m) (omega (arith, length-drop (from + 1) m, l))
+
+one-number : (m : List ℕ) (from : ℕ) → from + 1 < length m → numberFrom 0 (lengthOctets m from 1) ≡ getD m (from + 1) 0
+unfolding numberFrom
+one-number m from l = rw (drop-cons m (from + 1) 0 l, zero-add)
+
 -- the number of a length, octet by octet: i of them are read, and v is their number
-module _ (xs : List ℕ) (v i at from room : ℕ) (n : numberFrom 0 xs ≡ numberFrom v (drop i xs)) where
-  pub place-early : i < length xs → room / 256 < v → passesEnd + at ≡ lengthPlace at from 0 (within (suc (length xs)) (numberFrom 0 xs) room)
-  unfolding lengthPlace base
-  place-early h g = ap (lengthPlace at from 0) (count-early xs v i (suc (length xs)) room n h g)
+module _ (m : List ℕ) (at from k room v i : ℕ) (l : from + 1 + k + room ≤ length m) (n : numberFrom 0 (lengthOctets m from k) ≡ numberFrom v (drop i (lengthOctets m from k))) where
+  all-of-them : length (lengthOctets m from k) ≡ k
+  all-of-them = octets-count m from k (omega (arith, l))
 
-  pub place-within : length xs ≤ i → v ≤ room → from + (length xs + 1 + v) ≡ lengthPlace at from 0 (within (suc (length xs)) (numberFrom 0 xs) room)
+  pub place-next : (r : ℕ) → i < k → r ≡ getD m (from + 1 + i) 0 → numberFrom 0 (lengthOctets m from k) ≡ numberFrom (v * 256 + r) (drop (i + 1) (lengthOctets m from k))
+  place-next r h e = number-next (lengthOctets m from k) v i r (omega (arith, all-of-them, h)) (e ∙ rw (getD-take k (drop (from + 1) m) i 0 h, getD-drop)) n
+
+  pub place-early : i < k → room / 256 < v → passesEnd + at ≡ lengthPlace at from 0 (within (suc k) (numberFrom 0 (lengthOctets m from k)) room)
+  unfolding lengthPlace base
+  place-early h g = ap (lengthPlace at from 0) (count-early (lengthOctets m from k) v i (suc k) room n (omega (arith, all-of-them, h)) g)
+
+  pub place-within : k ≤ i → v ≤ room → from + (k + 1 + v) ≡ lengthPlace at from 0 (within (suc k) (numberFrom 0 (lengthOctets m from k)) room)
   unfolding lengthPlace
-  place-within h g = let e : length xs + 1 ≡ suc (length xs) = omega arith in rw e (ap (lengthPlace at from 0) (count-within xs v i (suc (length xs)) room n h g))
+  place-within h g = let e : k + 1 ≡ suc k = omega arith in rw e (ap (lengthPlace at from 0) (count-within (lengthOctets m from k) v i (suc k) room n (omega (arith, all-of-them, h)) g))
 
-  pub place-past : length xs ≤ i → room < v → passesEnd + at ≡ lengthPlace at from 0 (within (suc (length xs)) (numberFrom 0 xs) room)
+  pub place-past : k ≤ i → room < v → passesEnd + at ≡ lengthPlace at from 0 (within (suc k) (numberFrom 0 (lengthOctets m from k)) room)
   unfolding lengthPlace base
-  place-past h g = ap (lengthPlace at from 0) (count-past xs v i (suc (length xs)) room n h g)
+  place-past h g = ap (lengthPlace at from 0) (count-past (lengthOctets m from k) v i (suc k) room n (omega (arith, all-of-them, h)) g)
 
 -- where no octet of a length is left to ask for, the end of the part does not matter
 pub place-end : (at from end size n room : ℕ) → lengthPlace at from 0 (within size n room) ≡ lengthPlace at from end (within size n room)
@@ -179,24 +196,77 @@ place-end at from end size n room = go (leb n room)
     go true = refl
     go false = refl
 
--- what `long_length` answers by `long_count`
-pub long-place : (m xs : List ℕ) (at from end k r : ℕ) → from < end → end ≤ length m → 1 ≤ k → k ≤ end - from - 1 → xs ≡ take k (drop (from + 1) m) → fewestOf (getD m (from + 1) 0) k ≡ true
-    → r ≡ lengthPlace at from 0 (within (suc (length xs)) (numberFrom 0 xs) (end - from - 1 - k)) → r ≡ lengthPlace at from end (longOf (span m from end) k)
-unfolding longBy
-long-place m xs at from end k r b h l g is few e =
-    let z : length xs ≡ k = rw (is, length-take-le k (drop (from + 1) m) (omega (arith, length-drop (from + 1) m, g, h, b))) in
-    rw (long-view m from end k h l, le-ltb (end - from - 1) k g, few, ← is) (rw z at (e ∙ place-end at from end (suc (length xs)) (numberFrom 0 xs) (end - from - 1 - k)))
+-- what `long_length` answers where the octets of a length are there and as few as can be
+module _ (m : List ℕ) (at from end k : ℕ) (b : from < end) (h : end ≤ length m) (l : 1 ≤ k) (most : k ≤ 126) (g : k ≤ end - from - 1) where
+  long-place : fewestOf (getD m (from + 1) 0) k ≡ true → longRead (span m from end) k ≡ within (suc k) (numberFrom 0 (lengthOctets m from k)) (end - from - 1 - k)
+  unfolding longRead longBy
+  long-place few = rw (le-ltb 126 k most, long-view m from end k h l, le-ltb (end - from - 1) k g, few)
 
-module _ (m xs : List ℕ) (at from end k r : ℕ) (b : from < end) (h : end ≤ length m) (l : 1 ≤ k) (g : k ≤ end - from - 1) (is : xs ≡ take k (drop (from + 1) m)) where
-  pub piece-room : length m ≤ 65535 → from + length xs + (end - from - 1 - k) ≤ 65535
-  piece-room q =
-      let z : length xs ≡ k = rw (is, length-take-le k (drop (from + 1) m) (omega (arith, length-drop (from + 1) m, g, h, b))) in
-      omega (arith, z, g, h, b, q)
-
-  pub long-more : (getD m (from + 1) 0 ≡ 0 → ⊥) → (k ≡ 1 → ⊥) → r ≡ lengthPlace at from 0 (within (suc (length xs)) (numberFrom 0 xs) (end - from - 1 - k)) → r ≡ lengthPlace at from end (longOf (span m from end) k)
+  pub long-more : (r : ℕ) → (getD m (from + 1) 0 ≡ 0 → ⊥) → (k ≡ 1 → ⊥) → r ≡ lengthPlace at from 0 (within (suc k) (numberFrom 0 (lengthOctets m from k)) (end - from - 1 - k)) → r ≡ lengthPlace at from end (longRead (span m from end) k)
   unfolding fewestOf
-  long-more o n e = long-place m xs at from end k r b h l g is (rw (ne-eqb (getD m (from + 1) 0) 0 o, ne-eqb k 1 n)) e
+  long-more r o n e =
+      rw (long-place (rw (ne-eqb (getD m (from + 1) 0) 0 o, ne-eqb k 1 n))) (e ∙ place-end at from end (suc k) (numberFrom 0 (lengthOctets m from k)) (end - from - 1 - k))
 
-  pub long-one : (getD m (from + 1) 0 ≡ 0 → ⊥) → k ≡ 1 → 128 ≤ getD m (from + 1) 0 → r ≡ lengthPlace at from 0 (within (suc (length xs)) (numberFrom 0 xs) (end - from - 1 - k)) → r ≡ lengthPlace at from end (longOf (span m from end) k)
-  unfolding fewestOf
-  long-one o n q e = long-place m xs at from end k r b h l g is (rw (ne-eqb (getD m (from + 1) 0) 0 o, eq-eqb k 1 n, le-leb 128 (getD m (from + 1) 0) q)) e
+  -- a length below 128 is in more octets than it needs
+  pub long-low : k ≡ 1 → getD m (from + 1) 0 < 128 → badLength + at ≡ lengthPlace at from end (longRead (span m from end) k)
+  unfolding lengthPlace base longRead longBy fewestOf
+  long-low n q = rw (le-ltb 126 k most, long-view m from end k h l, le-ltb (end - from - 1) k g, eq-eqb k 1 n, lt-leb 128 (getD m (from + 1) 0) q, either (eqb (getD m (from + 1) 0) 0))
+    where
+      either : (b : Bool) → cond b false false ≡ false
+      either true = refl
+      either false = refl
+
+  -- one octet is its number
+  module _ (n : k ≡ 1) (o : 128 ≤ getD m (from + 1) 0) where
+    one-place : longRead (span m from end) k ≡ within 2 (getD m (from + 1) 0) (end - from - 1 - 1)
+    unfolding fewestOf
+    one-place =
+        let few : fewestOf (getD m (from + 1) 0) k ≡ true = rw (ne-eqb (getD m (from + 1) 0) 0 (λ z. omega (arith, z, o)), eq-eqb k 1 n, le-leb 128 (getD m (from + 1) 0) o) in
+        rw (long-place few, n, one-number m from (omega (arith, h, g, n)))
+
+    pub long-one : getD m (from + 1) 0 < end - from - 1 → from + (2 + getD m (from + 1) 0) ≡ lengthPlace at from end (longRead (span m from end) k)
+    unfolding lengthPlace within
+    long-one q = rw (one-place, le-leb (getD m (from + 1) 0) (end - from - 1 - 1) (omega (arith, q)))
+
+    pub long-past : end - from - 1 ≤ getD m (from + 1) 0 → passesEnd + at ≡ lengthPlace at from end (longRead (span m from end) k)
+    unfolding lengthPlace within base
+    long-past q = rw (one-place, lt-leb (getD m (from + 1) 0) (end - from - 1 - 1) (omega (arith, q, g, n)))
+
+-- what `length_at` answers: no octet of a length, one octet that is a number, 80, and more octets
+module _ (m : List ℕ) (at from end : ℕ) (c : Bool) (h : end ≤ length m) where
+  pub length-none : end ≤ from → cutOff + at ≡ lengthPlace at from end (lengthOf (span m from end) c)
+  unfolding lengthPlace base lengthBy
+  length-none g = rw (length-view m from end c h, eq-eqb (end - from) 0 (omega (arith, g)))
+
+  module _ (l : from < end) where
+    there : (end - from ≡ 0) → ⊥
+    there z = omega (arith, z, l)
+
+    module _ (low : getD m from 0 < 128) where
+      pub length-short : getD m from 0 < end - from → from + (1 + getD m from 0) ≡ lengthPlace at from end (lengthOf (span m from end) c)
+      unfolding lengthPlace lengthBy within
+      length-short g = rw (length-view m from end c h, ne-eqb (end - from) 0 there, lt-ltb (getD m from 0) 128 low, le-leb (getD m from 0) (end - from - 1) (omega (arith, g)))
+
+      pub length-past : end - from ≤ getD m from 0 → passesEnd + at ≡ lengthPlace at from end (lengthOf (span m from end) c)
+      unfolding lengthPlace base lengthBy within
+      length-past g = rw (length-view m from end c h, ne-eqb (end - from) 0 there, lt-ltb (getD m from 0) 128 low, lt-leb (getD m from 0) (end - from - 1) (omega (arith, g, l)))
+
+    module _ (is : getD m from 0 ≡ 128) where
+      pub length-open : c ≡ true → opening + end ≡ lengthPlace at from end (lengthOf (span m from end) c)
+      unfolding lengthPlace lengthBy
+      length-open d = rw (length-view m from end c h, ne-eqb (end - from) 0 there, is, d)
+
+      pub length-shut : c ≡ false → badLength + at ≡ lengthPlace at from end (lengthOf (span m from end) c)
+      unfolding lengthPlace base lengthBy
+      length-shut d = rw (length-view m from end c h, ne-eqb (end - from) 0 there, is, d)
+
+    pub length-long : (r : ℕ) → 128 ≤ getD m from 0 → (getD m from 0 ≡ 128 → ⊥) → r ≡ lengthPlace at from end (longRead (span m from end) (getD m from 0 - 128)) → r ≡ lengthPlace at from end (lengthOf (span m from end) c)
+    unfolding lengthBy longRead
+    length-long r g n e = rw (length-view m from end c h, ne-eqb (end - from) 0 there, le-ltb (getD m from 0) 128 g, ne-eqb (getD m from 0) 128 n, same (getD m from 0) g) e
+      where
+        same : (b : ℕ) → 128 ≤ b → leb 255 b ≡ ltb 126 (b - 128)
+        same b g = by (leb 255 b) refl
+          where
+            by : (t : Bool) → leb 255 b ≡ t → t ≡ ltb 126 (b - 128)
+            by true q = sym (lt-ltb 126 (b - 128) (omega (arith, leb-true 255 b q)))
+            by false q = sym (le-ltb 126 (b - 128) (omega (arith, leb-false 255 b q)))

@@ -3,7 +3,7 @@
 use Prim.Native.Nat.{ℕ, _+_, _-_, _/_, _%_, _≤_, _<_}
 use mathlib.Core.{Path._≡_, Bool.Bool, Bool.true, Bool.false, Bool.cond, List.List, Option.none, Option.Option}
 use lib.{ListN.length, ListN.getD, ListN.drop, ListN.take, Dec.eqb, Dec.ltb, Dec.leb}
-use Rattle.element.specs.{declared.FaultKind.FaultKind, declared.EndRead.EndRead, declared.TagRead.TagRead, declared.LengthRead.LengthRead, declared.Walk.Walk, Fault.Fault, Fault.fault, Head.endOf, Head.lengthOf, Answers.frontOf, Ask.Got, Ask.got, Ask.bad, Ask.Body, Ask.ask, Ask.blamed, Ask.Size, Ask.definite, Ask.indefinite, Ask.head, Parts.Item, Parts.Where, Parts.place, Parts.done, Parts.level}
+use Rattle.element.specs.{declared.FaultKind.FaultKind, declared.EndRead.EndRead, declared.TagRead.TagRead, declared.LengthRead.LengthRead, declared.Walk.Walk, Fault.Fault, Fault.fault, Head.endOf, Head.longOf, Head.lengthOf, Answers.frontOf, Ask.Got, Ask.got, Ask.bad, Ask.Body, Ask.ask, Ask.blamed, Ask.Size, Ask.definite, Ask.indefinite, Ask.head, Parts.Item, Parts.Where, Parts.place, Parts.done, Parts.level}
 
 -- Numbers: a place is below `opening`, an open stop between it and `faults`, a fault from there on, each kind in a block of its own
 
@@ -135,6 +135,10 @@ lengthPlace at from end (LengthRead.Fault k) = base k + at
 lengthPlace at from end (LengthRead.Definite k n) = from + (k + n)
 lengthPlace at from end LengthRead.Indefinite = opening + end
 
+-- a length that takes k octets behind its first; 127 is no such number
+unfoldable pub longRead : List ℕ → ℕ → LengthRead
+longRead p k = cond (ltb 126 k) (LengthRead.Fault FaultKind.BadLength) (longOf p k)
+
 -- how many octets a length takes, by its first
 unfoldable pub lengthSize : ℕ → ℕ
 lengthSize b = cond (leb b 128) 1 (1 + (b - 128))
@@ -214,13 +218,15 @@ unfoldable pub WalkedOut : Bool → ℕ → ℕ → Walk → ℕ → Type 0
 WalkedOut d p end (Walk.Fault k q) r = r ≡ base k + q
 WalkedOut d p end (Walk.Whole n) r = Shut d p end n r
 
--- the place behind a primitive, or an empty constructor, whose tag and length take an octet each; 0 if none stands here
-unfoldable pub shortPlace : ℕ → ℕ → ℕ → ℕ → ℕ
-shortPlace at left a n =
-    cond (ltb left 2) 0
+-- the place behind a primitive, or an empty constructor, whose tag and length take an octet each; 0 if none stands here, or no level is left
+unfoldable pub shortPlace : ℕ → ℕ → ℕ → ℕ → ℕ → ℕ
+shortPlace left at room a n =
+    cond (eqb left 0) 0
+    (cond (ltb room 2) 0
     (cond (eqb (a % 32) 31) 0
     (cond (eqb a 0) 0
     (cond (eqb a 32) 0
+    (cond (eqb n 0) (at + 2)
+    (cond (eqb (a / 32 % 2) 1) 0
     (cond (ltb 127 n) 0
-    (cond (ltb (left - 2) n) 0
-    (cond (eqb (a / 32 % 2) 0) (at + 2 + n) (cond (eqb n 0) (at + 2 + n) 0)))))))
+    (cond (ltb (room - 2) n) 0 (at + 2 + n)))))))))

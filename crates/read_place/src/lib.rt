@@ -5,11 +5,11 @@ ghost use mathlib.Core.Path.{_≡_};
 ghost use mathlib.Core.Bool.{true, false};
 ghost use Prim.Native.Nat.{suc, _+_, _-_, _/_, _%_, _<_, _≤_};
 ghost use Rattle.base.specs.Number.{numberFrom};
-ghost use lib.ListN.{length, getD};
-ghost use Rattle.element.specs.Head.{endOf, tagOf, within, longOf, lengthOf};
-ghost use Rattle.read_place.specs.Places.{span, part, finite, Stands, endedOf, unfinishedOf, behindOf, tagPlace, lengthPlace, lengthSize, wrongPlace, standsOf, entryPlace, badPlace, countOf, Finishes, nothing, Walked, WalkedOut, shortPlace, until, Ready};
+ghost use lib.ListN.{length, getD, take, drop};
+ghost use Rattle.element.specs.Head.{endOf, tagOf, within, lengthOf};
+ghost use Rattle.read_place.specs.Places.{span, part, finite, Stands, endedOf, unfinishedOf, behindOf, tagPlace, lengthPlace, longRead, lengthSize, wrongPlace, standsOf, entryPlace, badPlace, countOf, Finishes, nothing, Walked, WalkedOut, shortPlace, until, Ready};
 ghost use Rattle.element.specs.Answers.{elementWalk, seriesWalk};
-use base::piece;
+ghost use Rattle.read_place.specs.Laying.{layText};
 use base::wide;
 
 pub const OPEN: usize = 65536;
@@ -136,19 +136,18 @@ pub fn tag_at(m: &[u8], at: usize, end: usize) -> usize
     BAD_TAG + at
 }
 
-// Where contents end of whose length these are the octets, behind which `room` octets stand from `start` on.
-pub fn long_count(octets: &[u8], at: usize, from: usize, room: usize) -> usize
-    requires { ⌜ (at ≤ 65535) × (from + length (now octets) + room ≤ 65535) ⌝ }
-    ensures { λ r. ⌜ r ≡ lengthPlace at from 0 (within (suc (length (now (octets .entry)))) (numberFrom 0 (now (octets .entry))) room) ⌝ }
+// Where contents end of whose length the `k` octets behind `from` are the number, and behind these `room` octets stand.
+fn long_count(m: &[u8], at: usize, from: usize, k: usize, room: usize) -> usize
+    requires { ⌜ (from + 1 + k + room ≤ length (now m)) × (length (now m) ≤ 65535) × (at ≤ 65535) ⌝ }
+    ensures { λ r. ⌜ r ≡ lengthPlace at from 0 (within (suc k) (numberFrom 0 (take k (drop (from + 1) (now (m .entry))))) room) ⌝ }
 {
-    let k = octets.len();
     let mut value: usize = 0;
     let mut i = 0;
-    while i < octets.len() {
+    while i < k {
         if value > room / 256 {
             return PASSES_END + at;
         }
-        value = value * 256 + wide(octets[i]);
+        value = value * 256 + wide(m[from + 1 + i]);
         i += 1;
     }
     if value <= room {
@@ -157,26 +156,32 @@ pub fn long_count(octets: &[u8], at: usize, from: usize, room: usize) -> usize
     PASSES_END + at
 }
 
-// The same of a length in `k` octets.
-pub fn long_length(m: &[u8], at: usize, from: usize, end: usize, k: usize) -> usize
+// The stop of contents whose length takes `k` octets behind `from`. Most take one.
+fn long_length(m: &[u8], at: usize, from: usize, end: usize, k: usize) -> usize
     requires { ⌜ Stands (now m) from end × (from < end) × (1 ≤ k) × (at ≤ 65535) ⌝ }
-    ensures { λ r. ⌜ r ≡ lengthPlace at from end (longOf (span (now (m .entry)) from end) k) ⌝ }
+    ensures { λ r. ⌜ r ≡ lengthPlace at from end (longRead (span (now (m .entry)) from end) k) ⌝ }
 {
+    if k > 126 {
+        return BAD_LENGTH + at;
+    }
     let left = end - from - 1;
     if left < k {
         return CUT_OFF + at;
     }
-    let one = m[from + 1];
+    let one = m[from + 1] as usize;
+    if k == 1 {
+        if one < 128 {
+            return BAD_LENGTH + at;
+        }
+        if one < left {
+            return from + (2 + one);
+        }
+        return PASSES_END + at;
+    }
     if one == 0 {
         return BAD_LENGTH + at;
     }
-    if k != 1 {
-        return long_count(piece(m, from + 1, k), at, from, left - k);
-    }
-    if one < 128 {
-        return BAD_LENGTH + at;
-    }
-    long_count(piece(m, from + 1, k), at, from, left - k)
+    long_count(m, at, from, k, left - k)
 }
 
 // The stop of contents whose length stands at `from`; the element stands at `at`.
@@ -184,27 +189,23 @@ pub fn length_at(m: &[u8], at: usize, from: usize, end: usize, constructor: bool
     requires { ⌜ Stands (now m) from end × (at ≤ 65535) ⌝ }
     ensures { λ r. ⌜ r ≡ lengthPlace at from end (lengthOf (span (now (m .entry)) from end) constructor) ⌝ }
 {
-    let left = end - from;
-    if left == 0 {
-        return CUT_OFF + at;
-    }
-    let b = m[from] as usize;
-    if b < 128 {
-        if b <= left - 1 {
-            return from + (1 + b);
+    if from < end {
+        let b = m[from] as usize;
+        if b < 128 {
+            if b < end - from {
+                return from + (1 + b);
+            }
+            return PASSES_END + at;
         }
-        return PASSES_END + at;
-    }
-    if 255 <= b {
-        return BAD_LENGTH + at;
-    }
-    if b == 128 {
-        if constructor {
-            return OPEN + end;
+        if b == 128 {
+            if constructor {
+                return OPEN + end;
+            }
+            return BAD_LENGTH + at;
         }
-        return BAD_LENGTH + at;
+        return long_length(m, at, from, end, b - 128);
     }
-    long_length(m, at, from, end, b - 128)
+    CUT_OFF + at
 }
 
 // Where contents begin whose length, which is good, stands at `from`.
@@ -244,7 +245,7 @@ pub fn wrong_at(m: &[u8], at: usize, stop: usize, other: usize) -> usize
 }
 
 // Nothing more may come: the place behind the contents.
-pub fn leave(m: &[u8], at: usize, stop: usize) -> usize
+fn left_at(m: &[u8], at: usize, stop: usize) -> usize
     requires { ⌜ Ready (now m) at stop ⌝ }
     ensures { λ r. ⌜ Finishes nothing (now (m .entry)) at stop r ⌝ }
 {
@@ -252,6 +253,17 @@ pub fn leave(m: &[u8], at: usize, stop: usize) -> usize
         return behind(at, stop);
     }
     wrong_at(m, at, stop, TOO_MANY)
+}
+
+// The same; most contents end where they are said to.
+pub fn leave(m: &[u8], at: usize, stop: usize) -> usize
+    requires { ⌜ Ready (now m) at stop ⌝ }
+    ensures { λ r. ⌜ Finishes nothing (now (m .entry)) at stop r ⌝ }
+{
+    if at == stop {
+        return at;
+    }
+    left_at(m, at, stop)
 }
 
 // Whether an element with this tag of one octet stands here.
@@ -321,16 +333,20 @@ pub fn count_at(m: &[u8], at: usize, stop: usize, tag: u8, most: usize) -> usize
     n
 }
 
-// The place behind a primitive, or an empty constructor, whose tag and length take an octet each; 0 if none stands here.
-pub fn short_at(m: &[u8], at: usize, end: usize) -> usize
+// The place behind a primitive, or an empty constructor, whose tag and length take an octet each; 0 if none stands here, or no level is left.
+pub fn short_at(m: &[u8], at: usize, end: usize, left: usize) -> usize
     requires { ⌜ Stands (now m) at end ⌝ }
-    ensures { λ r. ⌜ r ≡ shortPlace at (end - at) (getD (now (m .entry)) at 0) (getD (now (m .entry)) (at + 1) 0) ⌝ }
+    ensures { λ r. ⌜ r ≡ shortPlace left at (end - at) (getD (now (m .entry)) at 0) (getD (now (m .entry)) (at + 1) 0) ⌝ }
 {
-    let left = end - at;
-    if left < 2 {
+    if left == 0 {
+        return 0;
+    }
+    let room = end - at;
+    if room < 2 {
         return 0;
     }
     let first = m[at];
+    let n = m[at + 1] as usize;
     if first % 32 == 31 {
         return 0;
     }
@@ -340,20 +356,19 @@ pub fn short_at(m: &[u8], at: usize, end: usize) -> usize
     if first == 32 {
         return 0;
     }
-    let n = m[at + 1] as usize;
+    if n == 0 {
+        return at + 2;
+    }
+    if first / 32 % 2 == 1 {
+        return 0;
+    }
     if n > 127 {
         return 0;
     }
-    if n > left - 2 {
+    if n > room - 2 {
         return 0;
     }
-    if first / 32 % 2 == 0 {
-        return at + 2 + n;
-    }
-    if n == 0 {
-        return at + 2 + n;
-    }
-    0
+    at + 2 + n
 }
 
 // Any element, walked to its bottom.
@@ -390,12 +405,9 @@ pub fn walk_element(m: &[u8], at: usize, end: usize, left: usize) -> usize
     requires { ⌜ Stands (now m) at end ⌝ }
     ensures { λ r. ⌜ Walked at end (elementWalk 0 left at (span (now (m .entry)) at end)) r ⌝ }
 {
-    if left > 0 {
-        let r = short_at(m, at, end);
-        if r > 0 {
-            return r;
-        }
-        return walk_any(m, at, end, left);
+    let r = short_at(m, at, end, left);
+    if r > 0 {
+        return r;
     }
     walk_any(m, at, end, left)
 }
@@ -419,4 +431,15 @@ pub fn walk_series(m: &[u8], from: usize, stop: usize, left: usize) -> usize
         }
         at = r;
     }
+}
+
+// A place and a length of at most 65,535 as they lie in a record's octets, where the upper two octets of each number are 0.
+pub fn put_text(out: &mut [u8], o: usize, place: usize, len: usize)
+    requires { ⌜ o + 8 ≤ length (now out) ⌝ }
+    ensures { λ r. ⌜ now (out .exit) ≡ layText o place len (now (out .entry)) ⌝ }
+{
+    out[o + 2] = (place / 256 % 256) as u8;
+    out[o + 3] = (place % 256) as u8;
+    out[o + 6] = (len / 256 % 256) as u8;
+    out[o + 7] = (len % 256) as u8;
 }

@@ -1,7 +1,7 @@
 // Lists the messages of messages.bin, each after its length in two octets, and reads each of them once more for every octet of the first argument: by what a run
 // with one octet more costs, bench/ tells what a reading costs.
 use libc::STDOUT_FILENO;
-use reader::read;
+use read::read;
 use report::cases::MOST_CASES;
 use report::cases::next_string;
 use report::list_into;

@@ -1,6 +1,6 @@
 // The specimens of document 01 that stand in no theorem, and the listings of D and E: reads each and compares its listing.
 use libc::STDOUT_FILENO;
-use reader::read;
+use read::read;
 use report::Tally;
 use report::counted;
 use report::print_tally;

@@ -15,7 +15,8 @@ use Rattle.primitive.specs.Primitive.{signedOf}
 use Rattle.steering.specs.declared.{RuleCode.RuleCode, Rule.Rule}
 use Rattle.steering.specs.Layout.{ruleSize, kindIn, codeIn, ruleOf, rulesFrom, rulesIn, codeOctets, ruleOctets, rulesOctets, CodeRoom, RuleRoom}
 
-signed-back : (z : ℤ) → holds 4 z ≡ true → signedOf (octetsIn 4 (bitsAt (topOf 4) z)) ≡ z
+-- a code from its four octets
+pub signed-back : (z : ℤ) → holds 4 z ≡ true → signedOf (octetsIn 4 (bitsAt (topOf 4) z)) ≡ z
 unfolding signedOf
 signed-back z h =
     let small = holds-small 4 z h in

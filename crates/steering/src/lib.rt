@@ -2,18 +2,24 @@
 pub mod octets;
 
 ghost use mathlib.Core.Path.{_≡_};
+ghost use Prim.Native.Nat.{_≤_};
+ghost use lib.ListN.{length};
 ghost use Rattle.tcap.specs.Reading.{reading};
 ghost use Rattle.steering.specs.Layout.{rulesIn};
-ghost use Rattle.steering.specs.Steering.{localOf, invoked, firstOf, keyOf, kindFits, codeFits, ruleFits, firstFit, chosen, answered, steering};
-use tcap::Code;
-use tcap::ComponentKind;
+ghost use Rattle.steering.specs.Looked.{firstIn, KeyIs};
+ghost use Rattle.steering.specs.Steering.{kindFits, codeFits, ruleFits, firstFit, chosen, answered, steering};
+use crate::octets::signed_in;
+use base::piece;
 use tcap::Outcome;
 use tcap::Refusal;
-use tcap::message_tag;
-use unpack::row::row_in;
 
 // The kind that asks for any.
 const ANY_KIND: u8 = 0;
+
+// In a row: an Invoke, and a local code.
+const INVOKE: u8 = 0xA1;
+
+const LOCAL: u8 = 0x02;
 
 // The local operation code that a rule asks for.
 pub enum RuleCode {
@@ -54,55 +60,31 @@ pub enum Choice {
     Link(u32),
 }
 
-// A code, if it is local.
-fn local_of(code: Code) -> FirstCode
-    ensures { λ r. ⌜ r ≡ localOf code ⌝ }
+// The local operation code of the first component, from the octets of a record. The count is asked first: where there is no component, the octets behind the head mean nothing.
+fn first_in(octets: &[u8]) -> FirstCode
+    requires { ⌜ 56 ≤ length (now octets) ⌝ }
+    ensures { λ r. ⌜ r ≡ firstIn (now (octets .entry)) ⌝ }
 {
-    match code {
-        Code::Local(value) => FirstCode::Local(value),
-        Code::Global(name) => FirstCode::Other,
-    }
-}
-
-// The local code of an Invoke: its operation code, never its linked ID.
-fn invoked_by(component: ComponentKind) -> FirstCode
-    ensures { λ r. ⌜ r ≡ invoked component ⌝ }
-{
-    match component {
-        ComponentKind::Invoke {
-            linked,
-            code,
-            parameter,
-        } => local_of(code),
-        ComponentKind::ResultLast(held) => FirstCode::Other,
-        ComponentKind::ResultNotLast(held) => FirstCode::Other,
-        ComponentKind::ReturnError { code, parameter } => FirstCode::Other,
-        ComponentKind::Reject(problem) => FirstCode::Other,
-    }
-}
-
-// The count is asked first: where there is no component, the octets of the first row mean nothing.
-fn first_of(count: usize, component: ComponentKind) -> FirstCode
-    ensures { λ r. ⌜ r ≡ firstOf count component ⌝ }
-{
-    if count == 0 {
+    if octets[7] == 0 {
         return FirstCode::Other;
     }
-    invoked_by(component)
+    if octets[44] != INVOKE {
+        return FirstCode::Other;
+    }
+    if octets[49] != LOCAL {
+        return FirstCode::Other;
+    }
+    FirstCode::Local(signed_in(piece(octets, 52, 4)))
 }
 
-// Reads a message, once, for what the rules look at.
+// Reads a message, once, for what the rules look at. Of a refused one nothing but the outcome matters.
 fn key_of(message: &[u8]) -> Key
-    ensures { λ r. ⌜ r ≡ keyOf (reading (now (message .entry))) ⌝ }
+    ensures { λ r. ⌜ KeyIs (reading (now (message .entry)) .outcome) (reading (now (message .entry))) r ⌝ }
 {
-    let mut octets = [0u8; 384];
-    let outline = reader::read_rows(message, &mut octets);
-    let outcome = outline.outcome;
-    let kind = outline.kind;
-    let row = row_in(&octets);
-    let component = row.kind;
-    let tag = message_tag(kind);
-    let first = first_of(outline.count, component);
+    let mut octets = [0u8; 428];
+    let outcome = read::read_octets(message, &mut octets);
+    let tag = octets[0];
+    let first = first_in(&octets);
     Key {
         outcome: outcome,
         tag: tag,

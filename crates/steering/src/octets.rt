@@ -3,6 +3,7 @@ ghost use mathlib.Core.Path.{_≡_};
 ghost use Prim.Native.Nat.{_≤_};
 ghost use lib.ListN.{length};
 ghost use Rattle.base.specs.Number.{numberFrom};
+ghost use Rattle.primitive.specs.Primitive.{signedOf};
 ghost use Rattle.steering.specs.Steering.{firstFit};
 ghost use Rattle.steering.specs.Layout.{ruleSize, kindIn, codeIn, ruleOf, rulesIn};
 use crate::Choice;
@@ -33,6 +34,15 @@ fn number_in(four: &[u8]) -> u32
     (high * 65536 + low) as u32
 }
 
+// Four octets as a signed number.
+pub fn signed_in(four: &[u8]) -> i32
+    requires { ⌜ length (now four) ≡ 4 ⌝ }
+    ensures { λ r. ⌜ r ≡ signedOf (now (four .entry)) ⌝ }
+{
+    let bits = number_in(four);
+    signed(TOP, bits)
+}
+
 // Octets whose flag is neither 0 nor 1 are no rule: they get a kind that fits nothing.
 fn kind_in(kind: u8, flag: u8) -> u8
     ensures { λ r. ⌜ r ≡ kindIn kind flag ⌝ }
@@ -51,8 +61,7 @@ fn code_in(flag: u8, four: &[u8]) -> RuleCode
     if flag == 0 {
         return RuleCode::Any;
     }
-    let bits = number_in(four);
-    RuleCode::Local(signed(TOP, bits))
+    RuleCode::Local(signed_in(four))
 }
 
 // The rule that octets begin with.

@@ -6,3 +6,4 @@ pub mod Reading
 pub mod Standard
 pub mod Due
 pub mod Refused
+pub mod Names

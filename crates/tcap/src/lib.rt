@@ -1,6 +1,8 @@
 // The record of a TCAP message, and what reading answers. A string of a record is a place and a length in the octets beside it.
 ghost use mathlib.Core.Path.{_≡_};
+ghost use lib.ListN.{length};
 ghost use Rattle.tcap.specs.Record.{blankRow, messageTag};
+ghost use Rattle.tcap.specs.Names.{common, nameKind};
 use element::FaultKind;
 
 pub struct Span {
@@ -204,4 +206,46 @@ pub enum Outcome {
 pub struct Reading {
     pub outcome: Outcome,
     pub message: Record,
+}
+
+// Whether seven octets are those that the two names have in common.
+fn is_known(contents: &[u8]) -> bool
+    requires { ⌜ length (now contents) ≡ 7 ⌝ }
+    ensures { λ r. ⌜ r ≡ common (now (contents .entry)) ⌝ }
+{
+    if contents[0] != 0x00 {
+        return false;
+    }
+    if contents[1] != 0x11 {
+        return false;
+    }
+    if contents[2] != 0x86 {
+        return false;
+    }
+    if contents[3] != 0x05 {
+        return false;
+    }
+    if contents[4] != 0x01 {
+        return false;
+    }
+    contents[6] == 0x01
+}
+
+// Which of the two names: 1 for the structured dialogue, 2 for the unstructured, 0 for another.
+pub fn name_kind(contents: &[u8]) -> usize
+    ensures { λ r. ⌜ r ≡ nameKind (now (contents .entry)) ⌝ }
+{
+    if contents.len() != 7 {
+        return 0;
+    }
+    if is_known(contents) {
+        if contents[5] == 0x01 {
+            return 1;
+        }
+        if contents[5] == 0x02 {
+            return 2;
+        }
+        return 0;
+    }
+    0
 }

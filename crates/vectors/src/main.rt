@@ -4,7 +4,7 @@ ghost use Prim.Native.Nat.{_≤_};
 ghost use lib.ListN.{length};
 ghost use Rattle.report.specs.Expected.{Tells};
 ghost use Rattle.vectors.specs.Expected.{AnswerIs, OutcomeIs, ReadingIs};
-use reader::read;
+use read::read;
 use report::Tally;
 use report::cases::MOST_CASES;
 use report::cases::Verdict;

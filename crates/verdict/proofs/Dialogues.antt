@@ -8,8 +8,7 @@ use lib.ListN.{length}
 use Rattle.base.specs.Value.{same}
 use Rattle.element.specs.Form.{Form, perhaps, shortest}
 use Rattle.tcap.specs.Meaning.{structured, unstructured, external}
-use Rattle.dialogue.specs.declared.NameKind.{NameKind}
-use Rattle.dialogue.specs.Reads.{kindOf}
+use Rattle.tcap.specs.Names.{kindOf, nameKind}
 use Rattle.judging.specs.declared.Judged.{Judged}
 use Rattle.judging.specs.Judged.{rankOf, judged, wholeSize, sizeOf}
 use Rattle.judging.proofs.Joining.{size-short, then-size, around-size, leaf-size}
@@ -36,23 +35,22 @@ external-size n f = rw (around-size, around-size, then-size, leaf-size)
 pub named-alike : (f : Form) → sizeOf (external structured f) ≡ sizeOf (external unstructured f)
 named-alike f = external-size structured f ∙ sym (external-size unstructured f)
 
--- whether a name is neither of the two, from its kind
-by-outside : (a b : Bool) → kindOf a b ≡ NameKind.Outside → (not a && not b) ≡ true
-by-outside true b e = let z : _≡_ {A = ℕ} 0 1 = cc in absurd (omega arith)
-by-outside false true e = let z : _≡_ {A = ℕ} 0 1 = cc in absurd (omega arith)
+-- whether a name is neither of the two, from its number
+by-outside : (a b : Bool) → 0 ≡ kindOf a b → (not a && not b) ≡ true
+unfolding kindOf
+by-outside true b e = absurd (omega (arith, e))
+by-outside false true e = absurd (omega (arith, e))
 by-outside false false e = refl
 
-by-known : (a b : Bool) → (kindOf a b ≡ NameKind.Outside → ⊥) → (not a && not b) ≡ false
+by-known : (a b : Bool) → (0 ≡ kindOf a b → ⊥) → (not a && not b) ≡ false
+unfolding kindOf
 by-known true b h = refl
 by-known false true h = refl
 by-known false false h = absurd (h refl)
 
-module _ (c : List ℕ) {k : NameKind} (is : k ≡ kindOf (same structured c) (same unstructured c)) where
-  pub kind-outside : k ≡ NameKind.Outside → (not (same structured c) && not (same unstructured c)) ≡ true
-  kind-outside e = by-outside (same structured c) (same unstructured c) (sym is ∙ e)
+module _ (c : List ℕ) (k : ℕ) (is : k ≡ nameKind c) where
+  pub kind-outside : k ≡ 0 → (not (same structured c) && not (same unstructured c)) ≡ true
+  kind-outside e = by-outside (same structured c) (same unstructured c) (sym e ∙ is)
 
-  pub kind-structured : k ≡ NameKind.Structured → (not (same structured c) && not (same unstructured c)) ≡ false
-  kind-structured e = by-known (same structured c) (same unstructured c) (λ f. let z : _≡_ {A = ℕ} 0 1 = cc in omega arith)
-
-  pub kind-unstructured : k ≡ NameKind.Unstructured → (not (same structured c) && not (same unstructured c)) ≡ false
-  kind-unstructured e = by-known (same structured c) (same unstructured c) (λ f. let z : _≡_ {A = ℕ} 0 1 = cc in omega arith)
+  pub kind-known : (k ≡ 0 → ⊥) → (not (same structured c) && not (same unstructured c)) ≡ false
+  kind-known h = by-known (same structured c) (same unstructured c) (λ e. h (is ∙ sym e))

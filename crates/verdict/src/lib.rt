@@ -6,8 +6,6 @@ ghost use Rattle.judging.specs.Verdict.{origThere, destThere, causeThere, allPa
 ghost use Rattle.judging.specs.Forms.{recordForm, octetsOf};
 ghost use Rattle.judging.specs.Judged.{rankOf, judged};
 ghost use Rattle.verdict.specs.Whole.{externalJudged, pduJudged, numberJudged, sourceJudged, origFits, destFits, restFits, partsJudged, infoJudged, contextJudged, outsideJudged, answerJudged, dialogueJudged, origJudged, destJudged, portionOf, behindJudged, messageJudged};
-use dialogue::NameKind;
-use dialogue::name_kind;
 use judging::Judged;
 use judging::around;
 use judging::both;
@@ -28,6 +26,7 @@ use tcap::OptionalSpan;
 use tcap::Record;
 use tcap::Row;
 use tcap::Span;
+use tcap::name_kind;
 
 // BE around a series of 28, which stand at level 7.
 fn info_judged(info: OptionalSpan, material: &[u8]) -> Judged
@@ -52,11 +51,12 @@ fn outside_judged(name: Span, material: &[u8]) -> Judged
 {
     match name_judged(name, material) {
         Judged::Bad(k) => Judged::Bad(k),
-        Judged::Fine(n) => match name_kind(octets_of(name, material)) {
-            NameKind::Structured => Judged::Bad(1),
-            NameKind::Unstructured => Judged::Bad(1),
-            NameKind::Outside => Judged::Fine(n),
-        },
+        Judged::Fine(n) => {
+            if name_kind(octets_of(name, material)) == 0 {
+                return Judged::Fine(n);
+            }
+            Judged::Bad(1)
+        }
     }
 }
 

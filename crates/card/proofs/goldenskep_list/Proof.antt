@@ -4,8 +4,8 @@ use Rattle.card.specs.Answer.{listAnswer, listRoom}
 use Rattle.card.proofs.goldenskep_list.Statement.{statement}
 use Rattle.card.proofs.goldenskep_list.Tie as tie
 
-reading-of-requires : tie.Need-reading-of-requires
-reading-of-requires c κs = search needs
+read-requires : tie.Need-read-requires
+read-requires c κs = search needs
 
 list-reading-requires : tie.Need-list-reading-requires
 list-reading-requires c κs = search needs
@@ -18,9 +18,9 @@ same-length c = search needs
 
 returns : tie.Need-returns
 unfolding listAnswer listRoom
-returns c = rw (← (c .before .before .before .before .before .reading-of .ensures), ← (c .before .before .before .list-reading .ensures .0)) (c .listed-bits .ensures, c .before .before .before .list-reading .ensures .1)
+returns c = rw (← (c .before .before .before .before .before .read .ensures), ← (c .before .before .before .list-reading .ensures .0)) (c .listed-bits .ensures, c .before .before .before .list-reading .ensures .1)
 
 pub goldenskep-list-spec : {M : Type 1} → statement M
 goldenskep-list-spec =
     tie.close
-    (tie.spec reading-of-requires list-reading-requires listed-bits-requires same-length returns)
+    (tie.spec read-requires list-reading-requires listed-bits-requires same-length returns)

@@ -1,5 +1,6 @@
 -- `known_id` meets its contract. Assumes nothing.
-use Prim.Native.Nat.{_+_}
+use Prim.Native.Nat.{_+_, _<_}
+use lib.ListN.{getD}
 use native.Mathlib.Omega.{arith}
 use borrow.Author.Needs.{needs}
 use Rattle.read_place.proofs.Optional.{entry-inside, entry-from, entry-to}
@@ -17,7 +18,7 @@ entry-at-requires : tie.Need-entry-at-requires
 entry-at-requires c κs = search needs
 
 returns : tie.Need-returns
-returns c = search told-entry
+returns c = search (needs, told-entry)
 
 add-start-of : tie.Need-add-start-of
 add-start-of c = search needs
@@ -29,7 +30,7 @@ octet-at-requires : tie.Need-octet-at-requires
 octet-at-requires c κs = search (needs, entry-from, entry-to)
 
 returns-2 : tie.Need-returns-2
-returns-2 c = search told-none
+returns-2 c = search (needs, told-none)
 
 add-result : tie.Need-add-result
 add-result c = let h = octet-inside (c .before .before .before .before .before .before .before .before .before .args .m .now) (c .before .before .before .before .before .before .before .before .before .args .at) (c .before .before .before .before .before .before .before .before .before .args .stop) (c .before .before .before .before .before .before .before .before .before .pre .0 .0 .1) (c .before .before .before .before .before .before .before .before .before .pre .1) _ (c .before .before .before .before .before .before .is-component .ensures) (c .before .before .before .before .before .if1 .taken) _ (c .before .before .before .before .entry-at .ensures) (c .before .before .before .before .before .before .before .before .before .pre .0 .0 .2) (c .before .before .before .if2 .left) _ (c .before .before .start-of .ensures) _ (c .before .octet-at .ensures) (c .if3 .left) in omega (arith, h, c .before .before .before .before .before .before .before .before .before .pre .0 .0 .2)
@@ -44,10 +45,12 @@ add-result-2 : tie.Need-add-result-2
 add-result-2 c = omega (arith, c .shared-slice-known3 .given (c .before .before .before .start-of .result + 2))
 
 returns-3 : tie.Need-returns-3
-returns-3 c = search told-id
+returns-3 c =
+    let low : getD (c .before .before .before .before .before .before .before .before .before .before .args .m .now) (c .before .before .before .start-of .result + 2) 0 < 256 = omega (arith, c .shared-slice-known3 .given (c .before .before .before .start-of .result + 2)) in
+    (search (told-id, low), omega (arith, low))
 
 returns-4 : tie.Need-returns-4
-returns-4 c = search told-wrong
+returns-4 c = search (needs, told-wrong)
 
 pub known-id-spec : {M : Type 1} → statement M
 known-id-spec =

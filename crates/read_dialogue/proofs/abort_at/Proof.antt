@@ -1,7 +1,9 @@
 -- `abort_at` meets its contract. Assumes nothing.
 use borrow.Author.Needs.{needs}
 use Rattle.read_place.proofs.Optional.{entry-inside, entry-from, entry-to}
+use Rattle.read_place.proofs.Leaves.{leaves-far}
 use Rattle.read_dialogue.proofs.Pdus.{abort-entry, abort-near}
+use Rattle.read_dialogue.proofs.PdusLeft.{abort-left}
 use Rattle.read_dialogue.proofs.abort_at.Statement.{statement}
 use Rattle.read_dialogue.proofs.abort_at.Tie as tie
 
@@ -9,7 +11,7 @@ entry-at-requires : tie.Need-entry-at-requires
 entry-at-requires c κs = search needs
 
 returns : tie.Need-returns
-returns c = search abort-entry
+returns c = search (abort-entry, leaves-far)
 
 add-start-of : tie.Need-add-start-of
 add-start-of c = search needs
@@ -20,8 +22,11 @@ start-of-requires c κs = search (needs, entry-inside)
 aborted-at-requires : tie.Need-aborted-at-requires
 aborted-at-requires c κs = search (needs, entry-from, entry-to)
 
+same-length : tie.Need-same-length
+same-length c = search needs
+
 returns-2 : tie.Need-returns-2
-returns-2 c = search abort-near
+returns-2 c = search (abort-near, abort-left)
 
 pub abort-at-spec : {M : Type 1} → statement M
 abort-at-spec =
@@ -32,4 +37,5 @@ abort-at-spec =
     add-start-of
     start-of-requires
     aborted-at-requires
+    same-length
     returns-2)

@@ -1,7 +1,11 @@
 -- `aborted_at` meets its contract. Assumes nothing.
 use borrow.Author.Needs.{needs}
+use mathlib.Core.Path.{_∙_}
+use lib.ListN.{length-set}
 use Rattle.read_place.proofs.Optional.{reads-within}
+use Rattle.read_place.proofs.Leaves.{leaves-all-far}
 use Rattle.read_dialogue.proofs.Pdus.{aborted-far, aborted-near}
+use Rattle.read_dialogue.proofs.PdusLeft.{aborted-in, aborted-left}
 use Rattle.read_dialogue.proofs.aborted_at.Statement.{statement}
 use Rattle.read_dialogue.proofs.aborted_at.Tie as tie
 
@@ -9,13 +13,25 @@ small-at-requires : tie.Need-small-at-requires
 small-at-requires c κs = search needs
 
 returns : tie.Need-returns
-returns c = search aborted-far
+returns c = search (aborted-far, leaves-all-far)
+
+add-out : tie.Need-add-out
+add-out c = search needs
+
+shared-slice-read-out : tie.Need-shared-slice-read-out
+shared-slice-read-out c = search aborted-in
+
+slice-write-out : tie.Need-slice-write-out
+slice-write-out c = search needs
 
 info-at-requires : tie.Need-info-at-requires
 info-at-requires c κs = search (needs, reads-within)
 
+same-length : tie.Need-same-length
+same-length c = c .before .out .given ∙ length-set (c .before .before .before .before .before .before .before .before .before .args .out .now) 41 _
+
 returns-2 : tie.Need-returns-2
-returns-2 c = search aborted-near
+returns-2 c = search (aborted-near, aborted-left)
 
 pub aborted-at-spec : {M : Type 1} → statement M
 aborted-at-spec =
@@ -23,5 +39,9 @@ aborted-at-spec =
     (tie.spec
     small-at-requires
     returns
+    add-out
+    shared-slice-read-out
+    slice-write-out
     info-at-requires
+    same-length
     returns-2)

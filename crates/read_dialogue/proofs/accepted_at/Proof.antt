@@ -1,35 +1,52 @@
 -- `accepted_at` meets its contract. Assumes nothing.
 use borrow.Author.Needs.{needs}
+use native.Mathlib.Omega.{arith}
 use Rattle.read_place.proofs.Optional.{reads-within}
+use Rattle.read_place.proofs.Leaves.{leaves-all-far}
 use Rattle.read_dialogue.proofs.Pdus.{accepted-result, accepted-source, accepted-near}
+use Rattle.read_dialogue.proofs.PdusLeft.{accepted-left}
+use Rattle.tcap.specs.WellFormed.{deepestLevel}
+use Rattle.tcap.specs.Productions.{sourceItem}
 use Rattle.read_dialogue.proofs.accepted_at.Statement.{statement}
 use Rattle.read_dialogue.proofs.accepted_at.Tie as tie
 
 number-at-requires : tie.Need-number-at-requires
 number-at-requires c κs = search needs
 
+same-length : tie.Need-same-length
+same-length c = search needs
+
 returns : tie.Need-returns
-returns c = search accepted-result
+returns c = search (accepted-result, leaves-all-far)
 
 source-at-requires : tie.Need-source-at-requires
 source-at-requires c κs = search (needs, reads-within)
 
+same-length-2 : tie.Need-same-length-2
+same-length-2 c = search needs
+
 returns-2 : tie.Need-returns-2
-returns-2 c = search accepted-source
+returns-2 c = search (accepted-source, leaves-all-far)
 
 info-at-requires : tie.Need-info-at-requires
-info-at-requires c κs = search (needs, reads-within)
+info-at-requires c κs = omega (arith, reads-within (sourceItem deepestLevel) _ _ _ _ (c .before .before .before .before .source-at .ensures .0) (c .before .if2 .left))
+
+same-length-3 : tie.Need-same-length-3
+same-length-3 c = search needs
 
 returns-3 : tie.Need-returns-3
-returns-3 c = search accepted-near
+returns-3 c = search (accepted-near, accepted-left)
 
 pub accepted-at-spec : {M : Type 1} → statement M
 accepted-at-spec =
     tie.close
     (tie.spec
     number-at-requires
+    same-length
     returns
     source-at-requires
+    same-length-2
     returns-2
     info-at-requires
+    same-length-3
     returns-3)

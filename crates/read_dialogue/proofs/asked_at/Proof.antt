@@ -1,7 +1,9 @@
 -- `asked_at` meets its contract. Assumes nothing.
 use borrow.Author.Needs.{needs}
 use Rattle.read_place.proofs.Optional.{reads-within}
+use Rattle.read_place.proofs.Leaves.{leaves-all-far}
 use Rattle.read_dialogue.proofs.Pdus.{passed-within, named-version, named-context, named-near}
+use Rattle.read_dialogue.proofs.PdusLeft.{asked-left}
 use Rattle.read_dialogue.proofs.asked_at.Statement.{statement}
 use Rattle.read_dialogue.proofs.asked_at.Tie as tie
 
@@ -9,19 +11,25 @@ past-version-requires : tie.Need-past-version-requires
 past-version-requires c κs = search needs
 
 returns : tie.Need-returns
-returns c = search named-version
+returns c = search (named-version, leaves-all-far)
 
 context-at-requires : tie.Need-context-at-requires
 context-at-requires c κs = search (needs, passed-within)
 
+same-length : tie.Need-same-length
+same-length c = search needs
+
 returns-2 : tie.Need-returns-2
-returns-2 c = search named-context
+returns-2 c = search (named-context, leaves-all-far)
 
 info-at-requires : tie.Need-info-at-requires
 info-at-requires c κs = search (needs, reads-within)
 
+same-length-2 : tie.Need-same-length-2
+same-length-2 c = search needs
+
 returns-3 : tie.Need-returns-3
-returns-3 c = search named-near
+returns-3 c = search (named-near, asked-left)
 
 pub asked-at-spec : {M : Type 1} → statement M
 asked-at-spec =
@@ -30,6 +38,8 @@ asked-at-spec =
     past-version-requires
     returns
     context-at-requires
+    same-length
     returns-2
     info-at-requires
+    same-length-2
     returns-3)

@@ -32,14 +32,23 @@ returns-3 c = search blames-cut
 wrapped-at-requires : tie.Need-wrapped-at-requires
 wrapped-at-requires c κs = search (needs, entry-from, entry-to)
 
+same-length : tie.Need-same-length
+same-length c = search needs
+
 returns-4 : tie.Need-returns-4
 returns-4 c = search blames-inside
 
 unfinished-requires-2 : tie.Need-unfinished-requires-2
 unfinished-requires-2 c κs = search (needs, reads-within, entry-to)
 
+same-length-2 : tie.Need-same-length-2
+same-length-2 c = search needs
+
 returns-5 : tie.Need-returns-5
 returns-5 c = search blames-end
+
+same-length-3 : tie.Need-same-length-3
+same-length-3 c = search needs
 
 returns-6 : tie.Need-returns-6
 returns-6 c = search blames-behind
@@ -57,7 +66,10 @@ blames-dialogue-spec =
     unfinished-requires
     returns-3
     wrapped-at-requires
+    same-length
     returns-4
     unfinished-requires-2
+    same-length-2
     returns-5
+    same-length-3
     returns-6)

@@ -27,8 +27,8 @@ returns c = search externals-ended
 stands-requires : tie.Need-stands-requires Inv-loop μ-loop
 stands-requires c κs = search needs
 
-walk-element-requires : tie.Need-walk-element-requires Inv-loop μ-loop
-walk-element-requires c κs = search needs
+walk-any-requires : tie.Need-walk-any-requires Inv-loop μ-loop
+walk-any-requires c κs = search needs
 
 returns-2 : tie.Need-returns-2 Inv-loop μ-loop
 returns-2 c = search externals-far
@@ -56,7 +56,7 @@ externals-at-spec =
     behind-requires
     returns
     stands-requires
-    walk-element-requires
+    walk-any-requires
     returns-2
     loop-less
     loop-again

@@ -1,7 +1,12 @@
 -- `info_at` meets its contract. Assumes nothing.
 use borrow.Author.Needs.{needs}
+use mathlib.Core.Path.{_∙_}
+use native.Mathlib.Omega.{arith}
+use lib.ListN.{length-set}
 use Rattle.read_place.proofs.Optional.{entry-inside, entry-from, entry-to}
+use Rattle.read_place.proofs.Leaves.{leaves-all-far}
 use Rattle.read_dialogue.proofs.Externals.{info-none, info-entry, info-far, info-near, info-within}
+use Rattle.read_dialogue.proofs.PdusLeft.{info-start, info-two, info-left-none, info-left}
 use Rattle.read_dialogue.proofs.info_at.Statement.{statement}
 use Rattle.read_dialogue.proofs.info_at.Tie as tie
 
@@ -12,13 +17,13 @@ behind-requires : tie.Need-behind-requires
 behind-requires c κs = search needs
 
 returns : tie.Need-returns
-returns c = search info-none
+returns c = search (info-none, info-left-none)
 
 entry-at-requires : tie.Need-entry-at-requires
 entry-at-requires c κs = search needs
 
 returns-2 : tie.Need-returns-2
-returns-2 c = search info-entry
+returns-2 c = search (info-entry, leaves-all-far)
 
 add-start-of : tie.Need-add-start-of
 add-start-of c = search needs
@@ -30,13 +35,28 @@ externals-at-requires : tie.Need-externals-at-requires
 externals-at-requires c κs = search (needs, entry-from, entry-to)
 
 returns-3 : tie.Need-returns-3
-returns-3 c = search info-far
+returns-3 c = search (info-far, leaves-all-far)
+
+slice-write-out : tie.Need-slice-write-out
+slice-write-out c = search needs
+
+end-before-requires : tie.Need-end-before-requires
+end-before-requires c κs = search info-two
+
+sub-put-text : tie.Need-sub-put-text
+sub-put-text c = let h = info-start _ _ _ _ 190 (omega arith) (omega arith) (c .before .before .before .before .before .before .entry-at .ensures) (c .before .before .before .before .before .if2 .left) (omega arith) _ (c .before .before .before .before .start-of .ensures) _ (c .before .before .before .externals-at .ensures) (c .before .before .if3 .left) in omega (arith, h, c .end-before .ensures)
+
+put-text-requires : tie.Need-put-text-requires
+put-text-requires c κs = simp length-set (omega arith)
 
 leave-requires : tie.Need-leave-requires
 leave-requires c κs = search (needs, info-within)
 
+same-length : tie.Need-same-length
+same-length c = c .before .before .out .given ∙ length-set (c .before .before .before .before .before .before .before .before .before .before .before .before .before .before .before .args .out .now) 40 1
+
 returns-4 : tie.Need-returns-4
-returns-4 c = search info-near
+returns-4 c = search (info-near, info-left)
 
 pub info-at-spec : {M : Type 1} → statement M
 info-at-spec =
@@ -51,5 +71,10 @@ info-at-spec =
     start-of-requires
     externals-at-requires
     returns-3
+    slice-write-out
+    end-before-requires
+    sub-put-text
+    put-text-requires
     leave-requires
+    same-length
     returns-4)

@@ -2,7 +2,8 @@
 use mathlib.Core.Path.{sym}
 use borrow.Author.Tests.{eq-eqb, ne-eqb}
 use Rattle.tcap.specs.Meaning.{version}
-use Rattle.read_dialogue.proofs.Pdus.{other-length, two}
+use Rattle.tcap.proofs.Names.{other-length}
+use Rattle.read_dialogue.proofs.Pdus.{two}
 use borrow.Author.Needs.{needs}
 use Rattle.read_dialogue.proofs.is_version.Statement.{statement}
 use Rattle.read_dialogue.proofs.is_version.Tie as tie

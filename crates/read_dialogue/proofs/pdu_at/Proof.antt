@@ -1,50 +1,74 @@
 -- `pdu_at` meets its contract. Assumes nothing.
 use borrow.Author.Needs.{needs}
+use mathlib.Core.Path.{_∙_}
+use mathlib.Core.Logic.{⊎-elim}
+use lib.ListN.{length-set}
 use Rattle.read_dialogue.proofs.Pdus.{pdu-response, pdu-abort, pdu-request, pdu-alone}
+use Rattle.read_dialogue.proofs.PdusLeft.{pdu-response-left, pdu-abort-left, pdu-request-left, alone-left}
 use Rattle.read_dialogue.proofs.pdu_at.Statement.{statement}
 use Rattle.read_dialogue.proofs.pdu_at.Tie as tie
 
 stands-requires : tie.Need-stands-requires
 stands-requires c κs = search needs
 
+slice-write-out : tie.Need-slice-write-out
+slice-write-out c = search needs
+
 response-at-requires : tie.Need-response-at-requires
 response-at-requires c κs = search needs
 
+same-length : tie.Need-same-length
+same-length c = c .before .out .given ∙ length-set (c .before .before .before .before .before .before .before .before .before .args .out .now) 3 3
+
 returns : tie.Need-returns
-returns c = search pdu-response
+returns c = search (pdu-response, pdu-response-left)
 
 stands-requires-2 : tie.Need-stands-requires-2
 stands-requires-2 c κs = search needs
 
+slice-write-out-2 : tie.Need-slice-write-out-2
+slice-write-out-2 c = search needs
+
 abort-at-requires : tie.Need-abort-at-requires
 abort-at-requires c κs = search needs
 
+same-length-2 : tie.Need-same-length-2
+same-length-2 c = c .before .out2 .given ∙ length-set (c .before .before .before .before .before .before .before .before .before .before .before .args .out .now) 3 4
+
 returns-2 : tie.Need-returns-2
-returns-2 c = search pdu-abort
+returns-2 c = search (pdu-abort, pdu-abort-left)
+
+asked-number-requires : tie.Need-asked-number-requires
+asked-number-requires c κs = search needs
+
+slice-write-out-3 : tie.Need-slice-write-out-3
+slice-write-out-3 c = search needs
 
 request-at-requires : tie.Need-request-at-requires
 request-at-requires c κs = search needs
 
+same-length-3 : tie.Need-same-length-3
+same-length-3 c = c .before .out3 .given ∙ length-set (c .before .before .before .before .before .before .before .before .args .out .now) 3 (c .before .before .before .before .asked-number .result)
+
 returns-3 : tie.Need-returns-3
-returns-3 c = search pdu-request
-
-request-at-requires-2 : tie.Need-request-at-requires-2
-request-at-requires-2 c κs = search needs
-
-returns-4 : tie.Need-returns-4
-returns-4 c = search pdu-alone
+returns-3 c = ⊎-elim (λ w. search (pdu-request, pdu-request-left)) (λ w. search (pdu-alone, alone-left)) (c .before .before .before .before .before .if1 .came)
 
 pub pdu-at-spec : {M : Type 1} → statement M
 pdu-at-spec =
     tie.close
     (tie.spec
     stands-requires
+    slice-write-out
     response-at-requires
+    same-length
     returns
     stands-requires-2
+    slice-write-out-2
     abort-at-requires
+    same-length-2
     returns-2
+    asked-number-requires
+    slice-write-out-3
     request-at-requires
-    returns-3
-    request-at-requires-2
-    returns-4)
+    same-length-3
+    returns-3)

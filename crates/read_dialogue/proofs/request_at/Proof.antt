@@ -1,7 +1,9 @@
 -- `request_at` meets its contract. Assumes nothing.
 use borrow.Author.Needs.{needs}
 use Rattle.read_place.proofs.Optional.{entry-inside, entry-from, entry-to}
+use Rattle.read_place.proofs.Leaves.{leaves-far}
 use Rattle.read_dialogue.proofs.Pdus.{request-entry, request-near}
+use Rattle.read_dialogue.proofs.PdusLeft.{request-left}
 use Rattle.read_dialogue.proofs.request_at.Statement.{statement}
 use Rattle.read_dialogue.proofs.request_at.Tie as tie
 
@@ -9,7 +11,7 @@ entry-at-requires : tie.Need-entry-at-requires
 entry-at-requires c κs = search needs
 
 returns : tie.Need-returns
-returns c = search request-entry
+returns c = search (request-entry, leaves-far)
 
 add-start-of : tie.Need-add-start-of
 add-start-of c = search needs
@@ -20,8 +22,11 @@ start-of-requires c κs = search (needs, entry-inside)
 asked-at-requires : tie.Need-asked-at-requires
 asked-at-requires c κs = search (needs, entry-from, entry-to)
 
+same-length : tie.Need-same-length
+same-length c = search needs
+
 returns-2 : tie.Need-returns-2
-returns-2 c = search request-near
+returns-2 c = search (request-near, request-left)
 
 pub request-at-spec : {M : Type 1} → statement M
 request-at-spec =
@@ -32,4 +37,5 @@ request-at-spec =
     add-start-of
     start-of-requires
     asked-at-requires
+    same-length
     returns-2)

@@ -1,7 +1,9 @@
 -- `source_at` meets its contract. Assumes nothing.
 use borrow.Author.Needs.{needs}
 use Rattle.read_place.proofs.Optional.{entry-inside, entry-from, entry-to, reads-within}
+use Rattle.read_place.proofs.Leaves.{leaves-far}
 use Rattle.read_dialogue.proofs.Pdus.{source-entry, source-far, source-near}
+use Rattle.read_dialogue.proofs.PdusLeft.{source-left}
 use Rattle.read_dialogue.proofs.source_at.Statement.{statement}
 use Rattle.read_dialogue.proofs.source_at.Tie as tie
 
@@ -9,7 +11,7 @@ entry-at-requires : tie.Need-entry-at-requires
 entry-at-requires c κs = search needs
 
 returns : tie.Need-returns
-returns c = search source-entry
+returns c = search (source-entry, leaves-far)
 
 add-start-of : tie.Need-add-start-of
 add-start-of c = search needs
@@ -20,14 +22,20 @@ start-of-requires c κs = search (needs, entry-inside)
 diagnostic-at-requires : tie.Need-diagnostic-at-requires
 diagnostic-at-requires c κs = search (needs, entry-from, entry-to)
 
+same-length : tie.Need-same-length
+same-length c = search needs
+
 returns-2 : tie.Need-returns-2
-returns-2 c = search source-far
+returns-2 c = search (source-far, leaves-far)
 
 leave-requires : tie.Need-leave-requires
 leave-requires c κs = search (needs, reads-within, entry-to)
 
+same-length-2 : tie.Need-same-length-2
+same-length-2 c = search needs
+
 returns-3 : tie.Need-returns-3
-returns-3 c = search source-near
+returns-3 c = search (source-near, source-left)
 
 pub source-at-spec : {M : Type 1} → statement M
 source-at-spec =
@@ -38,6 +46,8 @@ source-at-spec =
     add-start-of
     start-of-requires
     diagnostic-at-requires
+    same-length
     returns-2
     leave-requires
+    same-length-2
     returns-3)

@@ -1,7 +1,9 @@
 -- `wrapped_at` meets its contract. Assumes nothing.
 use borrow.Author.Needs.{needs}
 use Rattle.read_place.proofs.Optional.{entry-inside, entry-from, entry-to}
+use Rattle.read_place.proofs.Leaves.{leaves-far}
 use Rattle.read_dialogue.proofs.Names.{wrapped-entry, wrapped-near}
+use Rattle.read_dialogue.proofs.NamesLeft.{wrapped-left}
 use Rattle.read_dialogue.proofs.wrapped_at.Statement.{statement}
 use Rattle.read_dialogue.proofs.wrapped_at.Tie as tie
 
@@ -9,7 +11,7 @@ entry-at-requires : tie.Need-entry-at-requires
 entry-at-requires c κs = search needs
 
 returns : tie.Need-returns
-returns c = search wrapped-entry
+returns c = search (wrapped-entry, leaves-far)
 
 add-start-of : tie.Need-add-start-of
 add-start-of c = search needs
@@ -20,8 +22,11 @@ start-of-requires c κs = search (needs, entry-inside)
 external-at-requires : tie.Need-external-at-requires
 external-at-requires c κs = search (needs, entry-from, entry-to)
 
+same-length : tie.Need-same-length
+same-length c = search needs
+
 returns-2 : tie.Need-returns-2
-returns-2 c = search wrapped-near
+returns-2 c = search (wrapped-near, wrapped-left)
 
 pub wrapped-at-spec : {M : Type 1} → statement M
 wrapped-at-spec =
@@ -32,4 +37,5 @@ wrapped-at-spec =
     add-start-of
     start-of-requires
     external-at-requires
+    same-length
     returns-2)

@@ -2,7 +2,8 @@
 use borrow.Author.Needs.{needs}
 use native.Mathlib.Omega.{arith}
 use denote.Ref.{now}
-use Rattle.read_message.proofs.Whole.{alone-entry, alone-inside, alone-from, alone-to, alone-far, alone-within, alone-all, alone-after, alone-other}
+use Rattle.read_message.proofs.Whole.{answers-as, alone-entry, alone-inside, alone-from, alone-to, alone-far, alone-all, alone-after, alone-other}
+use Rattle.read_message.proofs.Accepted.{entry-left, far-left, all-left, after-left, other-left}
 use Rattle.read_message.proofs.alone_at.Statement.{statement}
 use Rattle.read_message.proofs.alone_at.Tie as tie
 
@@ -15,29 +16,56 @@ is-message-requires c κs = search needs
 entry-at-requires : tie.Need-entry-at-requires
 entry-at-requires c κs = search needs
 
+of-portion-requires : tie.Need-of-portion-requires
+of-portion-requires c κs = search needs
+
+same-length : tie.Need-same-length
+same-length c = search needs
+
 returns : tie.Need-returns
-returns c = search alone-entry
+returns c = (answers-as (now (c .before .before .before .before .before .before .before .before .before .before .before .args .m)) _ _ _ (alone-entry (now (c .before .before .before .before .before .before .before .before .before .before .before .args .m)) _ (c .before .before .before .before .before .before .before .before .before .before .before .pre .0) (c .before .before .before .before .before .before .before .before .before .before .before .pre .1) (c .before .before .before .before .before .before .before .before .before .before .before .pre .2) _ (c .before .before .before .before .before .before .before .is-message .ensures) (c .before .before .before .before .before .before .if1 .taken) _ (c .before .before .before .before .before .entry-at .ensures) (c .before .before .before .before .if2 .taken)) (c .before .before .of-portion .ensures .0), entry-left (now (c .before .before .before .before .before .before .before .before .before .before .before .args .m)) _ (c .before .before .before .before .before .before .before .before .before .before .before .pre .0) (c .before .before .before .before .before .before .before .before .before .before .before .pre .1) (c .before .before .before .before .before .before .before .before .before .before .before .pre .2) _ (c .before .before .before .before .before .before .before .is-message .ensures) (c .before .before .before .before .before .before .if1 .taken) _ (c .before .before .before .before .before .entry-at .ensures) (c .before .before .before .before .if2 .taken) _ _ (c .before .before .before .before .before .before .before .before .before .before .before .pre .3) (c .before .before .of-portion .ensures .1))
 
 start-of-requires : tie.Need-start-of-requires
-start-of-requires c κs = search (needs, alone-inside)
+start-of-requires c κs = omega (arith, alone-inside (now (c .before .before .before .before .before .before .before .args .m)) _ _ _ (c .before .before .before .before .before .before .before .pre .0) (c .before .before .before .before .before .before .before .pre .2) (c .before .entry-at .ensures) (c .if2 .left))
 
 contents-at-requires : tie.Need-contents-at-requires
-contents-at-requires c κs = let from = alone-from (now (c .before .before .before .before .before .before .before .args .m)) _ _ _ (c .before .before .before .before .before .before .before .pre .0) (c .before .before .before .before .before .before .before .pre .2) (c .before .before .entry-at .ensures) (c .before .if2 .left) _ (c .start-of .ensures) in let to = alone-to (now (c .before .before .before .before .before .before .before .args .m)) _ _ _ (c .before .before .before .before .before .before .before .pre .0) (c .before .before .before .before .before .before .before .pre .2) (c .before .before .entry-at .ensures) (c .before .if2 .left) _ (c .start-of .ensures) in omega (arith, from, to, c .before .before .before .before .before .before .before .pre, c .before .if2 .left)
+contents-at-requires c κs = omega (arith, alone-from (now (c .before .before .before .before .before .before .before .before .before .args .m)) _ _ _ (c .before .before .before .before .before .before .before .before .before .pre .0) (c .before .before .before .before .before .before .before .before .before .pre .2) (c .before .before .before .entry-at .ensures) (c .before .before .if2 .left) _ (c .before .start-of .ensures), alone-to (now (c .before .before .before .before .before .before .before .before .before .args .m)) _ _ _ (c .before .before .before .before .before .before .before .before .before .pre .0) (c .before .before .before .before .before .before .before .before .before .pre .2) (c .before .before .before .entry-at .ensures) (c .before .before .if2 .left) _ (c .before .start-of .ensures), c .before .before .before .before .before .before .before .before .before .pre, c .before .before .if2 .left)
+
+same-length-2 : tie.Need-same-length-2
+same-length-2 c = search needs
 
 returns-2 : tie.Need-returns-2
-returns-2 c = search alone-far
+returns-2 c = (alone-far (now (c .before .before .before .before .before .before .before .before .before .before .before .before .before .args .m)) _ (c .before .before .before .before .before .before .before .before .before .before .before .before .before .pre .0) (c .before .before .before .before .before .before .before .before .before .before .before .before .before .pre .1) (c .before .before .before .before .before .before .before .before .before .before .before .before .before .pre .2) _ (c .before .before .before .before .before .before .before .before .before .is-message .ensures) (c .before .before .before .before .before .before .before .before .if1 .taken) _ (c .before .before .before .before .before .before .before .entry-at .ensures) (c .before .before .before .before .before .before .if2 .left) _ (c .before .before .before .before .before .start-of .ensures) _ (c .before .before .before .contents-at .ensures .0) (c .if3 .taken), far-left (now (c .before .before .before .before .before .before .before .before .before .before .before .before .before .args .m)) _ (c .before .before .before .before .before .before .before .before .before .before .before .before .before .pre .0) (c .before .before .before .before .before .before .before .before .before .before .before .before .before .pre .1) (c .before .before .before .before .before .before .before .before .before .before .before .before .before .pre .2) _ (c .before .before .before .before .before .before .before .before .before .is-message .ensures) (c .before .before .before .before .before .before .before .before .if1 .taken) _ (c .before .before .before .before .before .before .before .entry-at .ensures) (c .before .before .before .before .before .before .if2 .left) _ (c .before .before .before .before .before .start-of .ensures) _ (c .before .before .before .contents-at .ensures .0) _ _ (c .before .before .before .contents-at .ensures .1) (c .if3 .taken))
+
+slice-write-out : tie.Need-slice-write-out
+slice-write-out c = search needs
+
+same-length-3 : tie.Need-same-length-3
+same-length-3 c = search needs
 
 returns-3 : tie.Need-returns-3
-returns-3 c = search alone-all
+returns-3 c = (alone-all (now (c .before .before .before .before .before .before .before .before .before .before .before .before .before .before .args .m)) _ (c .before .before .before .before .before .before .before .before .before .before .before .before .before .before .pre .0) (c .before .before .before .before .before .before .before .before .before .before .before .before .before .before .pre .1) (c .before .before .before .before .before .before .before .before .before .before .before .before .before .before .pre .2) _ (c .before .before .before .before .before .before .before .before .before .before .is-message .ensures) (c .before .before .before .before .before .before .before .before .before .if1 .taken) _ (c .before .before .before .before .before .before .before .before .entry-at .ensures) (c .before .before .before .before .before .before .before .if2 .left) _ (c .before .before .before .before .before .before .start-of .ensures) _ (c .before .before .before .before .contents-at .ensures .0) (c .before .if3 .left) (c .if4 .taken), all-left (now (c .before .before .before .before .before .before .before .before .before .before .before .before .before .before .args .m)) _ (c .before .before .before .before .before .before .before .before .before .before .before .before .before .before .pre .0) (c .before .before .before .before .before .before .before .before .before .before .before .before .before .before .pre .1) (c .before .before .before .before .before .before .before .before .before .before .before .before .before .before .pre .2) _ (c .before .before .before .before .before .before .before .before .before .before .is-message .ensures) (c .before .before .before .before .before .before .before .before .before .if1 .taken) _ (c .before .before .before .before .before .before .before .before .entry-at .ensures) (c .before .before .before .before .before .before .before .if2 .left) _ (c .before .before .before .before .before .before .start-of .ensures) _ (c .before .before .before .before .contents-at .ensures .0) _ _ (c .before .before .before .before .contents-at .ensures .1) (c .before .if3 .left) (c .if4 .taken))
 
-add-result : tie.Need-add-result
-add-result c = search (needs, alone-within)
+add-of-portion : tie.Need-add-of-portion
+add-of-portion c = search needs
+
+of-portion-requires-2 : tie.Need-of-portion-requires-2
+of-portion-requires-2 c κs = search needs
+
+same-length-4 : tie.Need-same-length-4
+same-length-4 c = search needs
 
 returns-4 : tie.Need-returns-4
-returns-4 c = search alone-after
+returns-4 c = (answers-as (now (c .before .before .before .before .before .before .before .before .before .before .before .before .before .before .before .before .before .before .args .m)) _ _ _ (alone-after (now (c .before .before .before .before .before .before .before .before .before .before .before .before .before .before .before .before .before .before .args .m)) _ (c .before .before .before .before .before .before .before .before .before .before .before .before .before .before .before .before .before .before .pre .0) (c .before .before .before .before .before .before .before .before .before .before .before .before .before .before .before .before .before .before .pre .1) (c .before .before .before .before .before .before .before .before .before .before .before .before .before .before .before .before .before .before .pre .2) _ (c .before .before .before .before .before .before .before .before .before .before .before .before .before .before .is-message .ensures) (c .before .before .before .before .before .before .before .before .before .before .before .before .before .if1 .taken) _ (c .before .before .before .before .before .before .before .before .before .before .before .before .entry-at .ensures) (c .before .before .before .before .before .before .before .before .before .before .before .if2 .left) _ (c .before .before .before .before .before .before .before .before .before .before .start-of .ensures) _ (c .before .before .before .before .before .before .before .before .contents-at .ensures .0) (c .before .before .before .before .before .if3 .left) (c .before .before .before .before .if4 .left)) (c .before .before .of-portion2 .ensures .0), after-left (now (c .before .before .before .before .before .before .before .before .before .before .before .before .before .before .before .before .before .before .args .m)) _ (c .before .before .before .before .before .before .before .before .before .before .before .before .before .before .before .before .before .before .pre .0) (c .before .before .before .before .before .before .before .before .before .before .before .before .before .before .before .before .before .before .pre .1) (c .before .before .before .before .before .before .before .before .before .before .before .before .before .before .before .before .before .before .pre .2) _ (c .before .before .before .before .before .before .before .before .before .before .before .before .before .before .is-message .ensures) (c .before .before .before .before .before .before .before .before .before .before .before .before .before .if1 .taken) _ (c .before .before .before .before .before .before .before .before .before .before .before .before .entry-at .ensures) (c .before .before .before .before .before .before .before .before .before .before .before .if2 .left) _ (c .before .before .before .before .before .before .before .before .before .before .start-of .ensures) _ (c .before .before .before .before .before .before .before .before .contents-at .ensures .0) _ _ (c .before .before .before .before .before .before .before .before .contents-at .ensures .1) (c .before .before .before .before .before .if3 .left) (c .before .before .before .before .if4 .left) (omega arith) _ (c .before .before .of-portion2 .ensures .1))
+
+of-portion-requires-3 : tie.Need-of-portion-requires-3
+of-portion-requires-3 c κs = search needs
+
+same-length-5 : tie.Need-same-length-5
+same-length-5 c = search needs
 
 returns-5 : tie.Need-returns-5
-returns-5 c = search alone-other
+returns-5 c = (answers-as (now (c .before .before .before .before .before .before .before .before .before .args .m)) _ _ _ (alone-other (now (c .before .before .before .before .before .before .before .before .before .args .m)) _ (c .before .before .before .before .before .before .before .before .before .pre .0) (c .before .before .before .before .before .before .before .before .before .pre .1) (c .before .before .before .before .before .before .before .before .before .pre .2) _ (c .before .before .before .before .before .is-message .ensures) (c .before .before .before .before .if1 .left)) (c .before .before .of-portion3 .ensures .0), other-left (now (c .before .before .before .before .before .before .before .before .before .args .m)) _ (c .before .before .before .before .before .before .before .before .before .pre .0) (c .before .before .before .before .before .before .before .before .before .pre .1) (c .before .before .before .before .before .before .before .before .before .pre .2) _ (c .before .before .before .before .before .is-message .ensures) (c .before .before .before .before .if1 .left) _ _ (c .before .before .before .before .before .before .before .before .before .pre .3) (c .before .before .of-portion3 .ensures .1))
 
 pub alone-at-spec : {M : Type 1} → statement M
 alone-at-spec =
@@ -46,11 +74,20 @@ alone-at-spec =
     shared-slice-read-tag
     is-message-requires
     entry-at-requires
+    of-portion-requires
+    same-length
     returns
     start-of-requires
     contents-at-requires
+    same-length-2
     returns-2
+    slice-write-out
+    same-length-3
     returns-3
-    add-result
+    add-of-portion
+    of-portion-requires-2
+    same-length-4
     returns-4
+    of-portion-requires-3
+    same-length-5
     returns-5)

@@ -1,27 +1,32 @@
 -- `begin_at` meets its contract. Assumes nothing.
 use borrow.Author.Needs.{needs}
+use native.Mathlib.Omega.{arith}
+use denote.Ref.{now}
 use Rattle.read_place.proofs.Optional.{reads-within}
 use Rattle.read_message.proofs.Portions.{begin-far, begin-near}
+use Rattle.read_message.proofs.Leaving.{begin-left-far, begin-left}
 use Rattle.read_message.proofs.begin_at.Statement.{statement}
 use Rattle.read_message.proofs.begin_at.Tie as tie
 
-transaction-id-at-requires : tie.Need-transaction-id-at-requires
-transaction-id-at-requires c κs = search needs
+orig-at-requires : tie.Need-orig-at-requires
+orig-at-requires c κs = search needs
+
+same-length : tie.Need-same-length
+same-length c = search needs
 
 returns : tie.Need-returns
-returns c = search begin-far
+returns c = (begin-far _ _ _ _ (c .before .before .before .orig-at .ensures .0) (c .if1 .taken), begin-left-far _ _ _ _ (c .before .before .before .orig-at .ensures .0) _ _ (c .before .before .before .orig-at .ensures .1) (c .if1 .taken))
 
 tail-at-requires : tie.Need-tail-at-requires
-tail-at-requires c κs = search (needs, reads-within)
+tail-at-requires c κs = omega (arith, reads-within _ (now (c .before .before .before .before .before .before .before .before .args .m)) _ _ _ (c .before .before .before .before .orig-at .ensures .0) (c .before .if1 .left))
+
+same-length-2 : tie.Need-same-length-2
+same-length-2 c = search needs
 
 returns-2 : tie.Need-returns-2
-returns-2 c = search begin-near
+returns-2 c = (begin-near _ _ _ _ (c .before .before .before .before .before .before .before .orig-at .ensures .0) (c .before .before .before .before .if1 .left) _ (c .before .before .tail-at .ensures .0), begin-left _ _ _ _ (c .before .before .before .before .before .before .before .orig-at .ensures .0) _ _ (c .before .before .before .before .before .before .before .orig-at .ensures .1) (c .before .before .before .before .if1 .left) _ (c .before .before .tail-at .ensures .1))
 
 pub begin-at-spec : {M : Type 1} → statement M
 begin-at-spec =
     tie.close
-    (tie.spec
-    transaction-id-at-requires
-    returns
-    tail-at-requires
-    returns-2)
+    (tie.spec orig-at-requires same-length returns tail-at-requires same-length-2 returns-2)

@@ -1,15 +1,24 @@
 -- `components_at` meets its contract. Assumes nothing.
 use borrow.Author.Needs.{needs}
+use native.Mathlib.Omega.{arith}
 use Rattle.read_place.proofs.Optional.{entry-inside, entry-from, entry-to}
 use Rattle.read_message.proofs.Portions.{components-entry, components-near}
+use Rattle.read_message.proofs.Fields.{reads-as}
+use Rattle.read_message.proofs.Leaving.{components-told, components-laid}
 use Rattle.read_message.proofs.components_at.Statement.{statement}
 use Rattle.read_message.proofs.components_at.Tie as tie
 
 entry-at-requires : tie.Need-entry-at-requires
 entry-at-requires c κs = search needs
 
+of-portion-requires : tie.Need-of-portion-requires
+of-portion-requires c κs = search needs
+
+same-length : tie.Need-same-length
+same-length c = search needs
+
 returns : tie.Need-returns
-returns c = search components-entry
+returns c = (reads-as _ _ _ _ _ _ (search components-entry) (c .before .before .of-portion .ensures .0), components-told _ _ _ _ (omega arith) (omega arith) (c .before .before .before .before .before .entry-at .ensures) _ (c .before .before .before .before .if1 .taken) (omega arith) _ (c .before .before .of-portion .ensures .1))
 
 add-start-of : tie.Need-add-start-of
 add-start-of c = search needs
@@ -20,16 +29,22 @@ start-of-requires c κs = search (needs, entry-inside)
 rows-at-requires : tie.Need-rows-at-requires
 rows-at-requires c κs = search (needs, entry-from, entry-to)
 
+same-length-2 : tie.Need-same-length-2
+same-length-2 c = search needs
+
 returns-2 : tie.Need-returns-2
-returns-2 c = search components-near
+returns-2 c = (search components-near, search components-laid)
 
 pub components-at-spec : {M : Type 1} → statement M
 components-at-spec =
     tie.close
     (tie.spec
     entry-at-requires
+    of-portion-requires
+    same-length
     returns
     add-start-of
     start-of-requires
     rows-at-requires
+    same-length-2
     returns-2)

@@ -1,35 +1,50 @@
 -- `continue_at` meets its contract. Assumes nothing.
 use borrow.Author.Needs.{needs}
+use native.Mathlib.Omega.{arith}
+use denote.Ref.{now}
 use Rattle.read_place.proofs.Optional.{reads-within}
 use Rattle.read_message.proofs.Portions.{continue-orig, continue-dest, continue-near}
+use Rattle.read_message.proofs.Leaving.{continue-left-orig, continue-left-dest, continue-left}
 use Rattle.read_message.proofs.continue_at.Statement.{statement}
 use Rattle.read_message.proofs.continue_at.Tie as tie
 
-transaction-id-at-requires : tie.Need-transaction-id-at-requires
-transaction-id-at-requires c κs = search needs
+orig-at-requires : tie.Need-orig-at-requires
+orig-at-requires c κs = search needs
+
+same-length : tie.Need-same-length
+same-length c = search needs
 
 returns : tie.Need-returns
-returns c = search continue-orig
+returns c = (continue-orig _ _ _ _ (c .before .before .before .orig-at .ensures .0) (c .if1 .taken), continue-left-orig _ _ _ _ (c .before .before .before .orig-at .ensures .0) _ _ (c .before .before .before .orig-at .ensures .1) (c .if1 .taken))
 
-transaction-id-at-requires-2 : tie.Need-transaction-id-at-requires-2
-transaction-id-at-requires-2 c κs = search (needs, reads-within)
+dest-at-requires : tie.Need-dest-at-requires
+dest-at-requires c κs = omega (arith, reads-within _ (now (c .before .before .before .before .before .before .before .before .args .m)) _ _ _ (c .before .before .before .before .orig-at .ensures .0) (c .before .if1 .left))
+
+same-length-2 : tie.Need-same-length-2
+same-length-2 c = search needs
 
 returns-2 : tie.Need-returns-2
-returns-2 c = search continue-dest
+returns-2 c = (continue-dest _ _ _ _ (c .before .before .before .before .before .before .before .before .orig-at .ensures .0) (c .before .before .before .before .before .if1 .left) _ (c .before .before .before .dest-at .ensures .0) (c .if2 .taken), continue-left-dest _ _ _ _ (c .before .before .before .before .before .before .before .before .orig-at .ensures .0) _ _ (c .before .before .before .before .before .before .before .before .orig-at .ensures .1) (c .before .before .before .before .before .if1 .left) _ (c .before .before .before .dest-at .ensures .0) _ (c .before .before .before .dest-at .ensures .1) (c .if2 .taken))
 
 tail-at-requires : tie.Need-tail-at-requires
-tail-at-requires c κs = search (needs, reads-within)
+tail-at-requires c κs = omega (arith, reads-within _ (now (c .before .before .before .before .before .before .before .before .before .before .before .before .before .args .m)) _ _ _ (c .before .before .before .before .dest-at .ensures .0) (c .before .if2 .left))
+
+same-length-3 : tie.Need-same-length-3
+same-length-3 c = search needs
 
 returns-3 : tie.Need-returns-3
-returns-3 c = search continue-near
+returns-3 c = (continue-near _ _ _ _ (c .before .before .before .before .before .before .before .before .before .before .before .before .orig-at .ensures .0) (c .before .before .before .before .before .before .before .before .before .if1 .left) _ (c .before .before .before .before .before .before .before .dest-at .ensures .0) (c .before .before .before .before .if2 .left) _ (c .before .before .tail-at .ensures .0), continue-left _ _ _ _ (c .before .before .before .before .before .before .before .before .before .before .before .before .orig-at .ensures .0) _ _ (c .before .before .before .before .before .before .before .before .before .before .before .before .orig-at .ensures .1) (c .before .before .before .before .before .before .before .before .before .if1 .left) _ (c .before .before .before .before .before .before .before .dest-at .ensures .0) _ (c .before .before .before .before .before .before .before .dest-at .ensures .1) (c .before .before .before .before .if2 .left) _ (c .before .before .tail-at .ensures .1))
 
 pub continue-at-spec : {M : Type 1} → statement M
 continue-at-spec =
     tie.close
     (tie.spec
-    transaction-id-at-requires
+    orig-at-requires
+    same-length
     returns
-    transaction-id-at-requires-2
+    dest-at-requires
+    same-length-2
     returns-2
     tail-at-requires
+    same-length-3
     returns-3)

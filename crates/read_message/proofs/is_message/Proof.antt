@@ -1,6 +1,6 @@
 -- `is_message` meets its contract. Assumes nothing.
-use Rattle.read_message.proofs.is_message.Statement.{statement}
 use borrow.Author.Tests.{eq-eqb, ne-eqb}
+use Rattle.read_message.proofs.is_message.Statement.{statement}
 use Rattle.read_message.proofs.is_message.Tie as tie
 
 returns : tie.Need-returns

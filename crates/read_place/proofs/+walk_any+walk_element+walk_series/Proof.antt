@@ -138,12 +138,6 @@ walk-element-walk-any-requires t c κs = search needs
 walk-element-returns-2 : (t : ℕ) → walk-element-lts.Need-returns-2 (walk-element-claims t) (walk-element-at t) walk-element.Post
 walk-element-returns-2 t c = search needs
 
-walk-element-walk-any-requires-2 : (t : ℕ) → walk-element-lts.Need-walk-any-requires-2 (walk-element-claims t) (walk-element-at t) walk-element.Post
-walk-element-walk-any-requires-2 t c κs = search needs
-
-walk-element-returns-3 : (t : ℕ) → walk-element-lts.Need-returns-3 (walk-element-claims t) (walk-element-at t) walk-element.Post
-walk-element-returns-3 t c = search needs
-
 abbrev walk-series-Inv-loop : walk-series-lts.InvT-loop
 walk-series-Inv-loop m from stop left at₀ at = (from ≤ at) × (at ≤ until stop) × Going m from stop left at
 
@@ -211,9 +205,7 @@ pub +walk-any+walk-element+walk-series-spec : {M : Type 1} → statement M
     (walk-element-short-at-requires t)
     (walk-element-returns t)
     (walk-element-walk-any-requires t)
-    (walk-element-returns-2 t)
-    (walk-element-walk-any-requires-2 t)
-    (walk-element-returns-3 t))
+    (walk-element-returns-2 t))
     λ t. walk-series-lts.spec (walk-series-claims t)
     (walk-series-at t)
     walk-series.Post

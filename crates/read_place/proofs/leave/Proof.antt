@@ -1,24 +1,17 @@
 -- `leave` meets its contract. Assumes nothing.
 use borrow.Author.Needs.{needs}
-use Rattle.read_place.proofs.Fronts.{leave-ended, leave-wrong}
+use Rattle.read_place.proofs.Fronts.{leave-here}
 use Rattle.read_place.proofs.leave.Statement.{statement}
 use Rattle.read_place.proofs.leave.Tie as tie
 
-ended-requires : tie.Need-ended-requires
-ended-requires c κs = search needs
-
-behind-requires : tie.Need-behind-requires
-behind-requires c κs = search needs
-
 returns : tie.Need-returns
-returns c = search leave-ended
+returns c = search leave-here
 
-wrong-at-requires : tie.Need-wrong-at-requires
-wrong-at-requires c κs = search needs
+left-at-requires : tie.Need-left-at-requires
+left-at-requires c κs = search needs
 
 returns-2 : tie.Need-returns-2
-returns-2 c = search leave-wrong
+returns-2 c = search needs
 
 pub leave-spec : {M : Type 1} → statement M
-leave-spec =
-    tie.close (tie.spec ended-requires behind-requires returns wrong-at-requires returns-2)
+leave-spec = tie.close (tie.spec returns left-at-requires returns-2)

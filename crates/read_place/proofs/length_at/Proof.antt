@@ -1,22 +1,9 @@
 -- `length_at` meets its contract. Assumes nothing.
 use borrow.Author.Needs.{needs}
 use native.Mathlib.Omega.{arith}
-use Rattle.element.specs.Head.{within}
-use Rattle.read_place.proofs.Views.{lengthBy, length-view}
-use Rattle.read_place.specs.Places.{lengthPlace, base}
-use Rattle.base.proofs.Tests.{tests}
+use Rattle.read_place.proofs.Views.{length-none, length-short, length-past, length-open, length-shut, length-long}
 use Rattle.read_place.proofs.length_at.Statement.{statement}
 use Rattle.read_place.proofs.length_at.Tie as tie
-
-sub-left : tie.Need-sub-left
-sub-left c = search needs
-
-add-result : tie.Need-add-result
-add-result c = search needs
-
-returns : tie.Need-returns
-unfolding lengthPlace base lengthBy within
-returns c = search (tests, length-view)
 
 shared-slice-read-b : tie.Need-shared-slice-read-b
 shared-slice-read-b c = search needs
@@ -27,71 +14,62 @@ cast-b c = omega (arith, c .shared-slice-known2 .given (c .before .before .befor
 sub-if3 : tie.Need-sub-if3
 sub-if3 c = search needs
 
+add-result : tie.Need-add-result
+add-result c = search needs
+
 add-result-2 : tie.Need-add-result-2
 add-result-2 c = search needs
+
+returns : tie.Need-returns
+returns c = search length-short
 
 add-result-3 : tie.Need-add-result-3
 add-result-3 c = search needs
 
 returns-2 : tie.Need-returns-2
-unfolding lengthPlace base lengthBy within
-returns-2 c = search (tests, length-view)
+returns-2 c = search length-past
 
 add-result-4 : tie.Need-add-result-4
 add-result-4 c = search needs
 
 returns-3 : tie.Need-returns-3
-unfolding lengthPlace base lengthBy within
-returns-3 c = search (tests, length-view)
+returns-3 c = search length-open
 
 add-result-5 : tie.Need-add-result-5
 add-result-5 c = search needs
 
 returns-4 : tie.Need-returns-4
-unfolding lengthPlace base lengthBy within
-returns-4 c = search (tests, length-view)
-
-add-result-6 : tie.Need-add-result-6
-add-result-6 c = search needs
-
-returns-5 : tie.Need-returns-5
-unfolding lengthPlace base lengthBy within
-returns-5 c = search (tests, length-view, c .if6 .taken)
-
-add-result-7 : tie.Need-add-result-7
-add-result-7 c = search needs
-
-returns-6 : tie.Need-returns-6
-unfolding lengthPlace base lengthBy within
-returns-6 c = search (tests, length-view, c .if6 .left)
+returns-4 c = search length-shut
 
 long-length-requires : tie.Need-long-length-requires
 long-length-requires c κs = search needs
 
-returns-7 : tie.Need-returns-7
-unfolding lengthPlace base lengthBy within
-returns-7 c = search (tests, length-view)
+returns-5 : tie.Need-returns-5
+returns-5 c = search length-long
+
+add-result-6 : tie.Need-add-result-6
+add-result-6 c = search needs
+
+returns-6 : tie.Need-returns-6
+returns-6 c = search length-none
 
 pub length-at-spec : {M : Type 1} → statement M
 length-at-spec =
     tie.close
     (tie.spec
-    sub-left
-    add-result
-    returns
     shared-slice-read-b
     cast-b
     sub-if3
+    add-result
     add-result-2
+    returns
     add-result-3
     returns-2
     add-result-4
     returns-3
     add-result-5
     returns-4
-    add-result-6
-    returns-5
-    add-result-7
-    returns-6
     long-length-requires
-    returns-7)
+    returns-5
+    add-result-6
+    returns-6)

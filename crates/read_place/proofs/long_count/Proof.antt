@@ -1,21 +1,18 @@
 -- `long_count` meets its contract. Assumes nothing.
-use Rattle.element.proofs.Reading.{number-next}
-use Rattle.read_place.proofs.Views.{place-early, place-within, place-past}
+use Rattle.read_place.proofs.Views.{lengthOctets, place-next, place-early, place-within, place-past}
 use Rattle.base.specs.Number.{numberFrom}
-use lib.ListN.{length, drop}
+use lib.ListN.{drop}
 use Prim.Native.Nat.{_≤_, _-_}
 use mathlib.Core.Path.{_≡_}
 use borrow.Author.Needs.{needs}
 use Rattle.read_place.proofs.long_count.Statement.{statement}
 use Rattle.read_place.proofs.long_count.Tie as tie
 
--- `long_count` meets its contract. Assumes nothing.
-
 abbrev Inv-loop : tie.InvT-loop
-Inv-loop octets at from room k value₀ i₀ value i = (i ≤ length octets) × (numberFrom 0 octets ≡ numberFrom value (drop i octets))
+Inv-loop m at from k room value₀ i₀ value i = (i ≤ k) × (numberFrom 0 (lengthOctets m from k) ≡ numberFrom value (drop i (lengthOctets m from k)))
 
 abbrev μ-loop : tie.MeasureT-loop
-μ-loop octets at from room k value₀ i₀ value i = length octets - i
+μ-loop m at from k room value₀ i₀ value i = k - i
 
 loop-holds : tie.Need-loop-holds Inv-loop μ-loop
 loop-holds c = search needs
@@ -28,6 +25,12 @@ returns c = search place-early
 
 mul-value : tie.Need-mul-value Inv-loop μ-loop
 mul-value c = search needs
+
+add-wide : tie.Need-add-wide Inv-loop μ-loop
+add-wide c = search needs
+
+add-wide-2 : tie.Need-add-wide-2 Inv-loop μ-loop
+add-wide-2 c = search needs
 
 shared-slice-read-wide : tie.Need-shared-slice-read-wide Inv-loop μ-loop
 shared-slice-read-wide c = search needs
@@ -45,7 +48,7 @@ loop-less : tie.Need-loop-less Inv-loop μ-loop
 loop-less c = search needs
 
 loop-again : tie.Need-loop-again Inv-loop μ-loop
-loop-again c = (search needs, search number-next)
+loop-again c = (search needs, search place-next)
 
 add-result-2 : tie.Need-add-result-2 Inv-loop μ-loop
 add-result-2 c = search needs
@@ -75,6 +78,8 @@ long-count-spec =
     add-result
     returns
     mul-value
+    add-wide
+    add-wide-2
     shared-slice-read-wide
     wide-requires
     add-value

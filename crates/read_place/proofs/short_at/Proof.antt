@@ -7,19 +7,28 @@ use native.Mathlib.Omega.{arith}
 use Rattle.read_place.proofs.short_at.Statement.{statement}
 use Rattle.read_place.proofs.short_at.Tie as tie
 
-sub-left : tie.Need-sub-left
-sub-left c = search needs
-
 returns : tie.Need-returns
 unfolding shortPlace
 returns c = search tests
 
-shared-slice-read-first : tie.Need-shared-slice-read-first
-shared-slice-read-first c = search needs
+sub-room : tie.Need-sub-room
+sub-room c = search needs
 
 returns-2 : tie.Need-returns-2
 unfolding shortPlace
 returns-2 c = search tests
+
+shared-slice-read-first : tie.Need-shared-slice-read-first
+shared-slice-read-first c = search needs
+
+add-n : tie.Need-add-n
+add-n c = search needs
+
+shared-slice-read-n : tie.Need-shared-slice-read-n
+shared-slice-read-n c = search needs
+
+cast-n : tie.Need-cast-n
+cast-n c = omega (arith, c .shared-slice-known2 .given (c .before .before .before .before .args .at + 1))
 
 returns-3 : tie.Need-returns-3
 unfolding shortPlace
@@ -29,38 +38,20 @@ returns-4 : tie.Need-returns-4
 unfolding shortPlace
 returns-4 c = search tests
 
-add-n : tie.Need-add-n
-add-n c = search needs
-
-shared-slice-read-n : tie.Need-shared-slice-read-n
-shared-slice-read-n c = search needs
-
-cast-n : tie.Need-cast-n
-cast-n c = omega (arith, c .shared-slice-known2 .given (c .before .before .before .before .before .before .args .at + 1))
-
 returns-5 : tie.Need-returns-5
 unfolding shortPlace
 returns-5 c = search tests
+
+add-result : tie.Need-add-result
+add-result c = search needs
 
 returns-6 : tie.Need-returns-6
 unfolding shortPlace
 returns-6 c = search tests
 
-add-result : tie.Need-add-result
-add-result c = search needs
-
-add-result-2 : tie.Need-add-result-2
-add-result-2 c = search needs
-
 returns-7 : tie.Need-returns-7
 unfolding shortPlace
 returns-7 c = search tests
-
-add-result-3 : tie.Need-add-result-3
-add-result-3 c = search needs
-
-add-result-4 : tie.Need-add-result-4
-add-result-4 c = search needs
 
 returns-8 : tie.Need-returns-8
 unfolding shortPlace
@@ -70,25 +61,35 @@ returns-9 : tie.Need-returns-9
 unfolding shortPlace
 returns-9 c = search tests
 
+add-result-2 : tie.Need-add-result-2
+add-result-2 c = search needs
+
+add-result-3 : tie.Need-add-result-3
+add-result-3 c = search needs
+
+returns-10 : tie.Need-returns-10
+unfolding shortPlace
+returns-10 c = search tests
+
 pub short-at-spec : {M : Type 1} → statement M
 short-at-spec =
     tie.close
     (tie.spec
-    sub-left
     returns
-    shared-slice-read-first
+    sub-room
     returns-2
-    returns-3
-    returns-4
+    shared-slice-read-first
     add-n
     shared-slice-read-n
     cast-n
+    returns-3
+    returns-4
     returns-5
-    returns-6
     add-result
-    add-result-2
+    returns-6
     returns-7
-    add-result-3
-    add-result-4
     returns-8
-    returns-9)
+    returns-9
+    add-result-2
+    add-result-3
+    returns-10)

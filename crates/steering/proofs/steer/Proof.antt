@@ -40,7 +40,9 @@ use denote.Triple.Walked.{says, Stays, stay-none-slice, walkOf, AllGo, goes-none
 use denote.Triple.Clauses.{ensured, lasts}
 use denote.Exit.{yes}
 use Rattle.tcap.specs.Reading.{reading}
-use Rattle.steering.specs.Steering.{keyOf, firstFit, answered, steeredBy, steering}
+use Rattle.steering.specs.Looked.{KeyIs}
+use Rattle.steering.specs.Steering.{firstFit, answered, steering}
+use Rattle.steering.proofs.First.{whole-answer}
 use Rattle.steering.specs.declared.Key.{Key}
 use Rattle.steering.specs.declared.Steered.{Steered}
 use Rattle.steering.specs.declared.Rule.{Rule}
@@ -78,10 +80,9 @@ use Rattle.steering.proofs.steer.Code as code
 abbrev stayed : Stays (steer.ended .signature .params) (steer.ended .kept)
 stayed = (stay-none-slice (0 ∷ []) tt (plain (λ _. u8)) yes, (stay-none-slice (1 ∷ []) tt (plain (λ _. R.the-row)) yes, tt))
 
--- the three answers make the function's own
-whole-answer : (m : List ℕ) (rs : List Rule) (key : Key) (choice : Choice) (r : Steered) → key ≡ keyOf (reading m) → choice ≡ firstFit rs (key .tag) (key .first) → r ≡ answered (key .outcome) choice → r ≡ steering m rs
-unfolding steeredBy steering
-whole-answer m rs key choice r e₁ e₂ e₃ = rw (e₃, e₂, e₁)
+-- what is known of the key
+abbrev Known : List ℕ → Key → Type 0
+Known m key = KeyIs (reading m .outcome) (reading m) key
 
 module _ {M : Type 1} (𝓤 : URA M) (H : Heap 𝓤) (A : Atoms 𝓤) (mem : Memory → SProp 𝓤) (run : Routine → Fun 𝓤) where
   -- the contracts that the proof cites
@@ -130,8 +131,8 @@ module _ {M : Type 1} (𝓤 : URA M) (H : Heap 𝓤) (A : Atoms 𝓤) (W : Given
   asks-key : ent 𝓤 (⋆ 𝓤 H A (‵ (flft κ₁ q₁) ∷ ‵ Own₁ ∷ [])) (KeyOf 𝓤 H A mem run .pre to-key)
   asks-key = qed W (‵ (flft κ₁ q₁) ∷ ‵ Own₁ ∷ []) ∵ nothing ! $ move ! (1 ∷ 0 ∷ []) $ join ! $ nothing ! $ move ! (2 ∷ 0 ∷ []) $ fjoin ! $ move ! (1 ∷ 0 ∷ []) $ join ! $ frame ! $ done !
 
-  said-key : (r : Key) → ent 𝓤 (ensured 𝓤 H A key-of.ended (key-of.clauses 𝓤 H A mem run) (κ₁, tt) (m, tt) tt r) (fact 𝓤 (r ≡ keyOf (reading (now m))))
-  said-key r = exE 𝓤 _ (λ ws. snd∗ 𝓤 (sem 𝓤 H A (lasts key-of.ended (κ₁, tt) (m, tt) ws)) (fact 𝓤 (r ≡ keyOf (reading (now m)))))
+  said-key : (r : Key) → ent 𝓤 (ensured 𝓤 H A key-of.ended (key-of.clauses 𝓤 H A mem run) (κ₁, tt) (m, tt) tt r) (fact 𝓤 (Known (now m) r))
+  said-key r = exE 𝓤 _ (λ ws. snd∗ 𝓤 (sem 𝓤 H A (lasts key-of.ended (κ₁, tt) (m, tt) ws)) (fact 𝓤 (Known (now m) r)))
 
   -- the call of `first_fit`, at a key
   abbrev key-val : Key → Val
@@ -184,7 +185,7 @@ module _ {M : Type 1} (𝓤 : URA M) (H : Heap 𝓤) (A : Atoms 𝓤) (W : Given
         move ! (2 ∷ 3 ∷ []) $ use2 W (raw (KeyOf 𝓤 H A mem run .pre to-key)) asks-key $
         calls-at ! fm (KeyOf 𝓤 H A mem run) known₁ to-key (and-then ! (load ! (from ! (stop !)) (look ! 13 refl)) (no-more !)) (λ u₁.
         use1 W (later (some (λ (r : Key). ((‵ (flft κ₁ q₁) ⊛ ‵ ftrue) ⊛ ‵ (K.the-row .own r (u₁ ∷ []))) ⊛ raw (ensured 𝓤 H A key-of.ended (key-of.clauses 𝓤 H A mem run) (κ₁, tt) (m, tt) tt r)))) (id⊢ 𝓤 _) $ await ! tt $ pick ! (λ key.
-        split ! $ move ! (1 ∷ []) $ use1 W (raw (fact 𝓤 (key ≡ keyOf (reading (now m))))) (said-key key) $ heard ! (key ≡ keyOf (reading (now m))) (λ e₁. split ! $ move ! (1 ∷ []) $
+        split ! $ move ! (1 ∷ []) $ use1 W (raw (fact 𝓤 (Known (now m) key))) (said-key key) $ heard ! (Known (now m) key) (λ e₁. split ! $ move ! (1 ∷ []) $
         facts ! K.the-row (Is K.the-row) (shows 𝓤 H A K.the-row) key (u₁ ∷ []) (λ k-is. split ! $
         -- [token 1; true; token 2; true; Own₁; Own₂; Own₂; true; room for _4; …; room for _3; …; _2; …; _1; …; room for _0; …]
         land ! (from ! (stop !)) (init ! 10 refl (LL.lawful K.the-type K′.the-laws 𝓤 H A W .typed key _ k-is .0)) $
@@ -204,7 +205,7 @@ module _ {M : Type 1} (𝓤 : URA M) (H : Heap 𝓤) (A : Atoms 𝓤) (W : Given
         -- [the result; token 2; true; token 1; true; true; Own₁; Own₂; true; _4; …; _3; …; _2; …; _1; …; room for _0; …]
         land ! (from ! (stop !)) (init ! 17 refl (EL.lawful S.the-type S′.the-laws 𝓤 H A W tt .typed r _ is .0)) $
         returns ! (look ! 17 refl) $ forget ! 9 refl $ forget ! 11 refl $ forget ! 13 refl $ forget ! 15 refl $ forget ! 17 refl $
-        keep ! (17 ∷ 18 ∷ 15 ∷ 16 ∷ 13 ∷ 14 ∷ 11 ∷ 12 ∷ 9 ∷ 10 ∷ 0 ∷ 3 ∷ 1 ∷ 6 ∷ 7 ∷ []) $ free1 ! $ free1 ! $ free1 ! $ free1 ! $ free1 ! $ free0 ! $ by ! (exits r u₃ (whole-answer (now m) (now s) key choice r e₁ e₂ e₃)))))))))))))))))))
+        keep ! (17 ∷ 18 ∷ 15 ∷ 16 ∷ 13 ∷ 14 ∷ 11 ∷ 12 ∷ 9 ∷ 10 ∷ 0 ∷ 3 ∷ 1 ∷ 6 ∷ 7 ∷ []) $ free1 ! $ free1 ! $ free1 ! $ free1 ! $ free1 ! $ free0 ! $ by ! (exits r u₃ (whole-answer (now m) (now s) key choice r e₂ e₃ e₁)))))))))))))))))))
 
 module _ {M : Type 1} (𝓤 : URA M) (H : Heap 𝓤) (A : Atoms 𝓤) (W : Given 𝓤 H A) (mem : Memory → SProp 𝓤) (run : Routine → Fun 𝓤) where
   steer-walks : (C : Calls 𝓤 H) (Λ : Loops 𝓤 H) → FmC 𝓤 H (W .laws) C → Triple 𝓤 (C #steering·key-of) (KeyOf 𝓤 H A mem run) → Triple 𝓤 (C #steering·first-fit) (FirstFit 𝓤 H A mem run) → Triple 𝓤 (C #steering·answer) (Answer 𝓤 H A mem run)

@@ -1,5 +1,5 @@
 -- `steer_octets` meets its contract. Assumes nothing.
-use Rattle.steering.specs.Steering.{steeredBy, steering}
+use Rattle.steering.proofs.First.{whole-answer}
 use borrow.Author.Needs.{needs}
 use Rattle.steering.proofs.steer_octets.Statement.{statement}
 use Rattle.steering.proofs.steer_octets.Tie as tie
@@ -14,8 +14,7 @@ answer-requires : tie.Need-answer-requires
 answer-requires c κs = search needs
 
 returns : tie.Need-returns
-unfolding steeredBy steering
-returns c = rw (c .answer .ensures, c .before .first-in .ensures, c .before .before .key-of .ensures)
+returns c = whole-answer _ _ _ _ _ (c .before .first-in .ensures) (c .answer .ensures) (c .before .before .key-of .ensures)
 
 pub steer-octets-spec : {M : Type 1} → statement M
 steer-octets-spec =

@@ -2,7 +2,7 @@
 use borrow.Author.Needs.{needs}
 use mathlib.Core.Path.{sym, _∙_}
 use Rattle.judging.proofs.Joining.{passed, later-fine, later-bad, later-not}
-use Rattle.verdict.proofs.Dialogues.{kind-structured, kind-unstructured, kind-outside}
+use Rattle.verdict.proofs.Dialogues.{kind-outside, kind-known}
 use Rattle.verdict.proofs.outside_judged.Statement.{statement}
 use Rattle.verdict.proofs.outside_judged.Tie as tie
 
@@ -21,26 +21,14 @@ octets-of-requires c κs = passed _ _ _ _ _ _ (sym (c .before .before .before .n
 name-kind-requires : tie.Need-name-kind-requires
 name-kind-requires c κs = search needs
 
-enum-told : tie.Need-enum-told
-enum-told c = search needs
-
-enum-told-2 : tie.Need-enum-told-2
-enum-told-2 c = search needs
-
-enum-told-3 : tie.Need-enum-told-3
-enum-told-3 c = search needs
-
 returns : tie.Need-returns
-returns c = later-bad _ _ _ _ _ _ (sym (c .before .before .before .name-judged .ensures) ∙ c .before .k .given .1)
+returns c = later-fine _ _ _ _ _ _ (sym (c .before .before .before .before .before .before .name-judged .ensures) ∙ c .before .before .before .before .n .given .1) (rw (← c .before .before .octets-of .ensures) (kind-outside _ _ (c .before .name-kind .ensures) (c .if1 .taken)))
 
 returns-2 : tie.Need-returns-2
-returns-2 c = later-not _ _ _ _ _ _ (sym (c .before .before .before .before .before .before .before .name-judged .ensures) ∙ c .before .before .before .before .before .n .given .1) (rw (← c .before .before .before .octets-of .ensures) (kind-structured _ (c .before .before .name-kind .ensures) (c .enum-told .given .1)))
+returns-2 c = later-bad _ _ _ _ _ _ (sym (c .before .before .before .name-judged .ensures) ∙ c .before .k .given .1)
 
 returns-3 : tie.Need-returns-3
-returns-3 c = later-not _ _ _ _ _ _ (sym (c .before .before .before .before .before .before .before .name-judged .ensures) ∙ c .before .before .before .before .before .n .given .1) (rw (← c .before .before .before .octets-of .ensures) (kind-unstructured _ (c .before .before .name-kind .ensures) (c .enum-told2 .given .1)))
-
-returns-4 : tie.Need-returns-4
-returns-4 c = later-fine _ _ _ _ _ _ (sym (c .before .before .before .before .before .before .before .name-judged .ensures) ∙ c .before .before .before .before .before .n .given .1) (rw (← c .before .before .before .octets-of .ensures) (kind-outside _ (c .before .before .name-kind .ensures) (c .enum-told3 .given .1)))
+returns-3 c = later-not _ _ _ _ _ _ (sym (c .before .before .before .before .before .before .name-judged .ensures) ∙ c .before .before .before .before .n .given .1) (rw (← c .before .before .octets-of .ensures) (kind-known _ _ (c .before .name-kind .ensures) (c .if1 .left)))
 
 pub outside-judged-spec : {M : Type 1} → statement M
 outside-judged-spec =
@@ -51,10 +39,6 @@ outside-judged-spec =
     enum-known-n
     octets-of-requires
     name-kind-requires
-    enum-told
-    enum-told-2
-    enum-told-3
     returns
     returns-2
-    returns-3
-    returns-4)
+    returns-3)

@@ -1,4 +1,0 @@
-pub mod Sizes
-pub mod Opened
-pub mod Fronts
-pub mod Shorts

@@ -1,6 +1,0 @@
-pub mod Bodies
-pub mod Whole
-pub mod Tails
-pub mod Rows
-pub mod Places
-pub mod Begins

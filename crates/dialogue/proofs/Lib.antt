@@ -1,4 +1,0 @@
-pub mod Sized
-pub mod Answers
-pub mod External
-pub mod Filled

@@ -1,7 +1,0 @@
-pub mod Leaves
-pub mod Peeks
-pub mod Plain
-pub mod Steps
-pub mod Told
-pub mod Fits
-pub mod Brief

@@ -1,3 +1,0 @@
-pub mod Sized
-pub mod Answers
-pub mod Chosen

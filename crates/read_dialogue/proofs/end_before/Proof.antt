@@ -1,0 +1,25 @@
+-- `end_before` meets its contract. Assumes nothing.
+use borrow.Author.Needs.{needs}
+use borrow.Author.Tests.{lt-ltb, le-ltb}
+use Rattle.read_dialogue.specs.Dialogues.{contentsEnd}
+use Rattle.read_dialogue.proofs.end_before.Statement.{statement}
+use Rattle.read_dialogue.proofs.end_before.Tie as tie
+
+returns : tie.Need-returns
+unfolding contentsEnd
+returns c = search (lt-ltb, le-ltb)
+
+sub-result : tie.Need-sub-result
+sub-result c = search needs
+
+returns-2 : tie.Need-returns-2
+unfolding contentsEnd
+returns-2 c = search (lt-ltb, le-ltb)
+
+pub end-before-spec : {M : Type 1} → statement M
+end-before-spec =
+    tie.close
+    (tie.spec
+    returns
+    sub-result
+    returns-2)

@@ -1,0 +1,58 @@
+-- `dest_at` meets its contract. Assumes nothing.
+use borrow.Author.Needs.{needs}
+use native.Mathlib.Omega.{arith}
+use lib.ListN.{length-set}
+use denote.Ref.{now}
+use Rattle.read_field.proofs.Choices.{reads-map}
+use Rattle.read_message.proofs.Fields.{reads-as, dest-told, dest-laid, id-room}
+use Rattle.read_message.proofs.dest_at.Statement.{statement}
+use Rattle.read_message.proofs.dest_at.Tie as tie
+
+transaction-id-at-requires : tie.Need-transaction-id-at-requires
+transaction-id-at-requires c κs = search needs
+
+of-portion-requires : tie.Need-of-portion-requires
+of-portion-requires c κs = search needs
+
+same-length : tie.Need-same-length
+same-length c = search needs
+
+returns : tie.Need-returns
+returns c = (reads-as _ _ _ _ _ _ (reads-map _ _ _ _ _ _ (c .before .before .before .before .before .transaction-id-at .ensures)) (c .before .before .of-portion .ensures .0), dest-told _ _ _ _ (c .before .before .before .before .before .transaction-id-at .ensures) (c .before .before .before .before .if1 .taken) _ _ (omega arith) (c .before .before .of-portion .ensures .1))
+
+slice-write-out : tie.Need-slice-write-out
+slice-write-out c = search needs
+
+add-put-text : tie.Need-add-put-text
+add-put-text c = search needs
+
+sub-put-text : tie.Need-sub-put-text
+sub-put-text c = omega (arith, id-room 73 (now (c .before .before .before .before .before .args .m)) _ _ _ (omega arith) (c .before .before .transaction-id-at .ensures) (c .before .if1 .left))
+
+sub-put-text-2 : tie.Need-sub-put-text-2
+sub-put-text-2 c = omega (arith, id-room 73 (now (c .before .before .before .before .before .args .m)) _ _ _ (omega arith) (c .before .before .transaction-id-at .ensures) (c .before .if1 .left))
+
+put-text-requires : tie.Need-put-text-requires
+put-text-requires c κs = simp length-set (omega arith)
+
+same-length-2 : tie.Need-same-length-2
+same-length-2 c = omega (arith, length-set (now (c .before .before .before .before .before .before .before .before .args .out)) 2 1)
+
+returns-2 : tie.Need-returns-2
+returns-2 c = (search reads-map, search dest-laid)
+
+pub dest-at-spec : {M : Type 1} → statement M
+dest-at-spec =
+    tie.close
+    (tie.spec
+    transaction-id-at-requires
+    of-portion-requires
+    same-length
+    returns
+    slice-write-out
+    add-put-text
+    sub-put-text
+    sub-put-text-2
+    put-text-requires
+    same-length-2
+    returns-2)

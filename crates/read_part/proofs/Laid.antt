@@ -1,0 +1,306 @@
+-- What the readers of a component's fields lay out, and how its contents are put together. Assumes nothing.
+use Prim.Native.Nat.{ℕ, suc, _+_, _-_, _*_, _/_, _%_, _≤_, _<_}
+use mathlib.Core.Path.{_≡_, refl, sym, ap, _∙_, fun-ext}
+use mathlib.Core.Bool.{Bool, true, false, cond, _||_}
+use mathlib.Core.List.{List, [], _∷_}
+use mathlib.Core.Option.{none, some}
+use native.Mathlib.Omega.{arith}
+use lib.ListN.{length, getD, drop, take, set, length-set, length-drop}
+use lib.Seq.{sets, length-take-le, drop-cons}
+use lib.Dec.{eqb, leb}
+use lib.IntN.{ℤ}
+use borrow.Author.Tests.{ne-eqb, leb-true}
+use Rattle.base.specs.Number.{numberFrom, octetsIn, topOf, bitsAt}
+use Rattle.base.specs.Value.{same}
+use Rattle.base.proofs.Numbers.{bits-signed}
+use Rattle.primitive.specs.Primitive.{identifierOk, integerOk, signedOf}
+use Rattle.primitive.specs.Answers.{integerOf}
+use Rattle.primitive.specs.declared.IntegerRead.{IntegerRead}
+use Rattle.element.specs.declared.FaultKind.{FaultKind}
+use Rattle.element.specs.declared.TagRead.{TagRead}
+use Rattle.element.specs.Fault.{Fault, Text}
+use Rattle.element.specs.Head.{endOf}
+use Rattle.element.specs.Answers.{elementWalk, frontOf}
+use Rattle.element.specs.Walk.{walkItem}
+use Rattle.element.specs.Ask.{Got, got, bad, next, blamed, Head, Body, ask}
+use Rattle.element.specs.Parts.{Item, Where, level, place, leafItem, mapItem, orItem, integerItem, onlyBody, lastBody}
+use Rattle.element.proofs.Asking.{Then, fact, the-fact, then-next, then-blamed, ask-sound}
+use Rattle.tcap.specs.declared.Problem.{Problem}
+use Rattle.tcap.specs.Meaning.{local, global}
+use Rattle.tcap.specs.Productions.{single?, octetItem, idItem, nameItem, codeItem, idOrNullItem, problemItem}
+use Rattle.read_place.specs.Places.{Far, Near, until, finite, part, front, Placed, Reads, Finishes, Leads, Walked, standsOf, countOf, entryPlace, badPlace, base, endedOf, unfinishedOf}
+use Rattle.read_place.specs.Leaves.{Left, Leaves, LeavesAll, untold}
+use Rattle.read_place.specs.Laying.{layText, layId, layRejectId, layCode, layElement, layParameter, layProblem}
+use Rattle.read_place.proofs.Views.{span-take, span-length}
+use Rattle.read_place.proofs.Answers.{placed-near}
+use Rattle.read_place.proofs.Fronts.{ended-is, not-ended, more-here}
+use Rattle.read_place.proofs.Items.{stands-only, stands-other, counted, or-left, or-right}
+use Rattle.read_place.proofs.Onto.{ask-onto, missing-both}
+use Rattle.read_place.proofs.Values.{placed-got, leaf-stood, value-walk}
+use Rattle.read_place.proofs.Optional.{walk-placed, deep-enough}
+use Rattle.read_place.proofs.Leaves.{leaves-far, leaves-all-far, left-next, only-left, last-left, last-left-none}
+use Rattle.read_field.proofs.Fields.{integer-sized, single-sized, name-sized, local-good}
+use Rattle.read_field.proofs.Choices.{reads-map}
+use Rattle.read_part.specs.Parts.{layOctet}
+
+-- a fault leaves anything
+pub fault-one : {A : Type 0} (lay : A → List ℕ → List ℕ) (x : Item A) (m : List ℕ) (at stop r : ℕ) (old new : List ℕ) → Reads x m at stop r → Far r → Reads x m at stop r × Leaves lay untold x m at stop old new
+fault-one lay x m at stop r old new e f = (e, leaves-far lay x m at stop r old new e f)
+
+-- under another name too
+pub fault-named : {A B : Type 0} (f : A → B) (out : B → List ℕ → List ℕ) (x : Item A) (m : List ℕ) (at stop r : ℕ) (old new : List ℕ) → Reads x m at stop r → Far r → Reads x m at stop r × Leaves out untold (mapItem f x) m at stop old new
+fault-named f out x m at stop r old new e g = (e, leaves-far out (mapItem f x) m at stop r old new (reads-map f x m at stop r e) g)
+
+pub fault-all : {A : Type 0} (lay : A → List ℕ → List ℕ) (b : Body A) (m : List ℕ) (at stop r : ℕ) (old new : List ℕ) → Finishes b m at stop r → Far r → Finishes b m at stop r × LeavesAll lay untold b m at stop old new
+fault-all lay b m at stop r old new e f = (e, leaves-all-far lay b m at stop r old new e f)
+
+pub bad-far : (m : List ℕ) (at stop tag r : ℕ) → r ≡ badPlace m at stop tag → Far r
+unfolding badPlace base
+bad-far m at stop tag r e = rw e (go (entryPlace false m at stop tag) (leb 131072 (entryPlace false m at stop tag)) refl)
+  where
+    go : (q : ℕ) (b : Bool) → leb 131072 q ≡ b → Far (cond b q (917504 + at))
+    go q true t = leb-true 131072 q t
+    go q false t = omega arith
+
+-- a store keeps the length
+pub stored : (l : List ℕ) (i a : ℕ) → length (set l i a) ≡ length l
+stored l i a = length-set l i a
+
+-- four stores, side by side
+pub number-laid : (l : List ℕ) (o n : ℕ) → set (set (set (set l o (n / 256 / 256 / 256 % 256)) (o + 1) (n / 256 / 256 % 256)) (o + 2) (n / 256 % 256)) (o + 3) (n % 256) ≡ sets l o (octetsIn 4 n)
+unfolding octetsIn
+number-laid l o n =
+    let a : o + 1 ≡ suc o = omega arith in
+    let b : o + 2 ≡ suc (suc o) = omega arith in
+    let c : o + 3 ≡ suc (suc (suc o)) = omega arith in
+    rw (a, b, c)
+
+-- what was got is known, and laid out
+got-left : {A : Type 0} (lay : A → List ℕ → List ℕ) (P : A → ℕ → Type 0) (x : Got A) (p end r : ℕ) (old new : List ℕ) → Placed p end x r → Then P x → ((a : A) → P a (r - p) → new ≡ lay a old) → Left lay untold x old new
+unfolding Placed Left
+got-left lay P (got a n) p end r old new e t g = let i : n ≡ r - p = omega (arith, e) in g a (rw i at (the-fact t))
+got-left lay P (bad b) p end r old new e t g = tt
+
+-- what lays nothing out changes nothing
+pub quiet : {A : Type 0} (x : Got A) (l : List ℕ) → Left (λ (a : A) (l : List ℕ). l) untold x l l
+unfolding Left
+quiet (got a n) l = refl
+quiet (bad f) l = tt
+
+-- A primitive of few octets
+
+module _ {B : Type 0} (f : Text → B) (tag most : ℕ) (fits : List ℕ → Bool) (leads : Leads tag) (few : most ≤ 127) (sized : (c : List ℕ) → fits c ≡ true → (1 ≤ length c) × (length c ≤ most)) where
+  abbrev leaf : Item B
+  leaf = mapItem f (leafItem tag fits)
+
+  abbrev Stood : ℕ → List ℕ → B → ℕ → Type 0
+  Stood p part b n = (3 ≤ n) × (b ≡ f (p + 2, take (n - 2) (drop 2 part))) × (n ≤ most + 2)
+
+  value-few : (d : Bool) (p : ℕ) (part : List ℕ) → Then (Stood p part) (ask (front (level 1) FaultKind.Another leaf) d p part)
+  value-few d p part =
+      ask-sound (Stood p part) (front (level 1) FaultKind.Another leaf) d p part (λ v e f. let z : _≡_ {A = ℕ} 0 1 = cc in absurd (omega arith)) (λ h i m. then-blamed (λ f. f)
+      (then-next (leaf-stood tag most fits leads few sized p part h i m) (λ v n q. fact (q .0, ap f (q .1), q .2))))
+
+  module _ (m : List ℕ) (at stop r : ℕ) (h : until stop ≤ length m) (e : Reads leaf m at stop r) (near : Near r) where
+    few-size : (at + 3 ≤ r) × (r ≤ until stop) × (r ≤ at + 2 + most)
+    few-size =
+        let (a, q, z) = placed-got (ask (front (level 1) FaultKind.Another leaf) (finite stop) at (part m at stop)) at (until stop) r (Stood at (part m at stop)) e near (value-few (finite stop) at (part m at stop)) in
+        let w = placed-near (ask (front (level 1) FaultKind.Another leaf) (finite stop) at (part m at stop)) at (until stop) r e near in
+        (omega (arith, z .0, w), w .1, omega (arith, z .2, w))
+
+    few-left : (lay : B → List ℕ → List ℕ) (old new : List ℕ) → ((b : B) → b ≡ f (at + 2, take (r - at - 2) (drop (at + 2) m)) → new ≡ lay b old) → Leaves lay untold leaf m at stop old new
+    few-left lay old new g =
+        let s = few-size in
+        let room : at + 2 + (r - at - 2) ≤ until stop = omega (arith, s) in
+        got-left lay (Stood at (part m at stop)) _ at (until stop) r old new e (value-few (finite stop) at (part m at stop)) (λ b q. g b (q .1 ∙ rw (span-take m at (until stop) 2 (r - at - 2) room h)))
+
+-- one octet
+module _ {B : Type 0} (f : Text → B) (tag : ℕ) (fits : List ℕ → Bool) (leads : Leads tag) (sized : (c : List ℕ) → fits c ≡ true → (1 ≤ length c) × (length c ≤ 1)) (m : List ℕ) (at stop r : ℕ) (h : until stop ≤ length m) (e : Reads (mapItem f (leafItem tag fits)) m at stop r) (near : Near r) where
+  one-inside : at + 2 < length m
+  one-inside = let s = few-size f tag 1 fits leads (omega arith) sized m at stop r h e near in omega (arith, s, h)
+
+  one-left : (lay : B → List ℕ → List ℕ) (old new : List ℕ) → ((b : B) → b ≡ f (at + 2, getD m (at + 2) 0 ∷ []) → new ≡ lay b old) → Leaves lay untold (mapItem f (leafItem tag fits)) m at stop old new
+  one-left lay old new g =
+      let s = few-size f tag 1 fits leads (omega arith) sized m at stop r h e near in
+      let one : r - at - 2 ≡ 1 = omega (arith, s) in
+      let is : take (r - at - 2) (drop (at + 2) m) ≡ getD m (at + 2) 0 ∷ [] = rw (one, drop-cons m (at + 2) 0 one-inside) in
+      few-left f tag 1 fits leads (omega arith) sized m at stop r h e near lay old new (λ b q. g b (q ∙ rw is))
+
+octet-back : (x : ℕ) → x < 256 → bitsAt (topOf 1) (signedOf (x ∷ [])) ≡ x
+unfolding signedOf topOf numberFrom
+octet-back x h = bits-signed 255 (0 * 256 + x) (omega (arith, h)) ∙ omega arith
+
+-- an ID, and one that is linked
+module _ (m : List ℕ) (at stop r : ℕ) (h : until stop ≤ length m) (tag : ℕ) (leads : Leads tag) (e : Reads (integerItem tag 1) m at stop r) (near : Near r) where
+  pub octet-inside : at + 2 < length m
+  octet-inside = one-inside (λ v. signedOf (v .1)) tag (integerOk 1) leads (integer-sized 1) m at stop r h e near
+
+  module _ (low : (i : ℕ) → getD m i 0 < 256) (old : List ℕ) where
+    by-octet : (lay : ℤ → List ℕ → List ℕ) (new : List ℕ) → ((i : ℤ) → getD m (at + 2) 0 ≡ bitsAt (topOf 1) i → new ≡ lay i old) → Leaves lay untold (integerItem tag 1) m at stop old new
+    by-octet lay new g = one-left (λ v. signedOf (v .1)) tag (integerOk 1) leads (integer-sized 1) m at stop r h e near lay old new (λ i q. g i (sym (ap (bitsAt (topOf 1)) q ∙ octet-back (getD m (at + 2) 0) (low (at + 2)))))
+
+    pub id-left : Leaves layId untold (integerItem tag 1) m at stop old (set (set old 1 1) 2 (getD m (at + 2) 0))
+    unfolding layId
+    id-left = by-octet layId _ (λ i q. ap (set (set old 1 1) 2) q)
+
+    pub linked-left : Leaves (λ i l. set (set l 3 1) 4 (bitsAt (topOf 1) i)) untold (integerItem tag 1) m at stop old (set (set old 3 1) 4 (getD m (at + 2) 0))
+    linked-left = by-octet (λ i l. set (set l 3 1) 4 (bitsAt (topOf 1) i)) _ (λ i q. ap (set (set old 3 1) 4) q)
+
+-- a problem of one tag
+module _ (m : List ℕ) (at stop r : ℕ) (h : until stop ≤ length m) (tag most : ℕ) (leads : Leads tag) (e : Reads (octetItem tag most) m at stop r) (near : Near r) where
+  pub small-inside : at + 2 < length m
+  small-inside = one-inside (λ v. getD (v .1) 0 0) tag (single? most) leads (single-sized most) m at stop r h e near
+
+  pub small-left : (old : List ℕ) → Leaves (layOctet tag) untold (octetItem tag most) m at stop old (set (set old 5 tag) 7 (getD m (at + 2) 0))
+  small-left old = one-left (λ v. getD (v .1) 0 0) tag (single? most) leads (single-sized most) m at stop r h e near (layOctet tag) old _ (λ b q. ap (set (set old 5 tag) 7) (sym q))
+
+-- An item under another name, and one of two
+
+blamed-next : {A B : Type 0} (w : Fault → Fault) (f : A → B) (x : Got A) → blamed w (next x (λ a n. got (f a) n)) ≡ next (blamed w x) (λ a n. got (f a) n)
+unfolding blamed next
+blamed-next w f (got a n) = refl
+blamed-next w f (bad g) = refl
+
+module _ {A B : Type 0} (w : Where) (o : FaultKind) (f : A → B) (x : Item A) (d : Bool) (p : ℕ) (part : List ℕ) where
+  renamed : front w o (mapItem f x) ≡ place w none (x .mine) o (λ d h p part. next (blamed (w .owner) (x .contents h p part)) (λ a n. got (f a) n))
+  renamed = ap (λ (g : Bool → Head → ℕ → List ℕ → Got B). place w none (x .mine) o g) (fun-ext λ d. fun-ext λ h. fun-ext λ p. fun-ext λ part. blamed-next (w .owner) f (x .contents h p part))
+
+  pub item-map : ask (front w o (mapItem f x)) d p part ≡ next (ask (front w o x) d p part) (λ a n. got (f a) n)
+  item-map = ap (λ (b : Body B). ask b d p part) renamed ∙ ask-onto (front w o x) none (λ d p part a n. got (f a) n) d p part (λ e. missing-both (front w o x) _ d p part _)
+
+leaves-map : {A B : Type 0} (f : A → B) (x : Item A) (lay : A → List ℕ → List ℕ) (out : B → List ℕ → List ℕ) (m : List ℕ) (at stop : ℕ) (old new : List ℕ) → ((a : A) → lay a old ≡ out (f a) old) → Leaves lay untold x m at stop old new → Leaves out untold (mapItem f x) m at stop old new
+leaves-map f x lay out m at stop old new same e = rw (item-map (level 1) FaultKind.Another f x (finite stop) at (part m at stop)) (left-next untold lay out f (λ n. n) _ old old new same e)
+
+module _ {A : Type 0} (x y : Item A) (lay : A → List ℕ → List ℕ) (m : List ℕ) (at stop : ℕ) (old new : List ℕ) where
+  leaves-first : ((a s : ℕ) → frontOf 1 (part m at stop) ≡ TagRead.Tag a s → y .mine a ≡ false) → Leaves lay untold x m at stop old new → Leaves lay untold (orItem x y) m at stop old new
+  leaves-first h e = rw (or-left (level 1) FaultKind.Another x y (finite stop) at (part m at stop) refl h) e
+
+  leaves-second : ((a s : ℕ) → frontOf 1 (part m at stop) ≡ TagRead.Tag a s → x .mine a ≡ false) → Leaves lay untold y m at stop old new → Leaves lay untold (orItem x y) m at stop old new
+  leaves-second h e = rw (or-right (level 1) FaultKind.Another x y (finite stop) at (part m at stop) refl h) e
+
+-- A code
+
+value-is : (b : Bool) (z v : ℤ) → cond b (IntegerRead.Value z) IntegerRead.Wrong ≡ IntegerRead.Value v → z ≡ v
+value-is true z v e = cc
+value-is false z v e = let q : _≡_ {A = ℕ} 0 1 = cc in absurd (omega arith)
+
+module _ (m : List ℕ) (at stop n : ℕ) (g : at ≤ until stop) (h : until stop ≤ length m) (is : n ≡ countOf (until stop - at) (getD m at 0) (getD m (at + 1) 0) 2 4) (there : n ≡ 0 → ⊥)
+    (xs : List ℕ) (i : IntegerRead) (xs-is : xs ≡ take n (drop (at + 2) m)) (told : i ≡ integerOf 4 xs) (v : ℤ) (t : i ≡ IntegerRead.Value v) where
+  value-here : v ≡ signedOf (take n (drop (at + 2) m))
+  unfolding integerOf
+  value-here = sym (value-is (integerOk 4 xs) (signedOf xs) v (sym told ∙ t)) ∙ ap signedOf xs-is
+
+  pub local-left : (old new : List ℕ) (number : ℕ) → number ≡ bitsAt 4294967295 v → new ≡ sets (set old 5 2) 8 (octetsIn 4 number) → Leaves layCode untold (mapItem local (integerItem 2 4)) m at stop old new
+  unfolding layCode topOf
+  local-left old new number bits laid =
+      let room = counted m at (until stop) 2 4 n is there .room in
+      let size : at + 2 + n - at - 2 ≡ n = omega arith in
+      leaves-map local (integerItem 2 4) (λ z. layCode (local z)) layCode m at stop old new (λ a. refl)
+      (few-left (λ v. signedOf (v .1)) 2 4 (integerOk 4) (omega arith, omega arith, omega arith) (omega arith) (integer-sized 4) m at stop (at + 2 + n) h (local-good m at stop n g h is there xs i xs-is told v t) (omega (arith, room)) (λ z. layCode (local z)) old new
+      (λ z q. let same-value : v ≡ z = value-here ∙ sym (q ∙ rw size) in laid ∙ ap (λ (b : ℕ). sets (set old 5 2) 8 (octetsIn 4 b)) (bits ∙ ap (bitsAt 4294967295) same-value)))
+
+pub global-left : (m : List ℕ) (at stop r : ℕ) → until stop ≤ length m → Reads nameItem m at stop r → Near r → (old new : List ℕ) → new ≡ layText 8 (at + 2) (r - at - 2) (set old 5 6) → Leaves layCode untold (mapItem global nameItem) m at stop old new
+unfolding layCode
+global-left m at stop r h e near old new laid =
+    let leads : Leads 6 = (omega arith, omega arith, omega arith) in
+    let there = reads-map global nameItem m at stop r e in
+    let s = few-size global 6 16 identifierOk leads (omega arith) name-sized m at stop r h there near in
+    let long : length (take (r - at - 2) (drop (at + 2) m)) ≡ r - at - 2 = length-take-le (r - at - 2) (drop (at + 2) m) (omega (arith, s, h, length-drop (at + 2) m)) in
+    few-left global 6 16 identifierOk leads (omega arith) name-sized m at stop r h there near layCode old new (λ b q. laid ∙ rw (q, long))
+
+pub name-sizes : (m : List ℕ) (at stop r : ℕ) → until stop ≤ length m → Reads nameItem m at stop r → Near r → (at + 3 ≤ r) × (r ≤ until stop)
+name-sizes m at stop r h e near = let s = few-size global 6 16 identifierOk (omega arith, omega arith, omega arith) (omega arith) name-sized m at stop r h (reads-map global nameItem m at stop r e) near in (s .0, s .1)
+
+module _ (m : List ℕ) (at stop : ℕ) (h : until stop ≤ length m) (b : Bool) (is : b ≡ standsOf m at stop 6) (old new : List ℕ) where
+  pub code-left-global : b ≡ true → Leaves layCode untold (mapItem global nameItem) m at stop old new → Leaves layCode untold codeItem m at stop old new
+  code-left-global t e = leaves-second (mapItem local (integerItem 2 4)) (mapItem global nameItem) layCode m at stop old new (λ a s z. ne-eqb a 2 (λ q. omega (arith, q, stands-only m at stop 6 h (sym is ∙ t) a s z))) e
+
+  pub code-left-local : b ≡ false → Leaves layCode untold (mapItem local (integerItem 2 4)) m at stop old new → Leaves layCode untold codeItem m at stop old new
+  code-left-local t e = leaves-first (mapItem local (integerItem 2 4)) (mapItem global nameItem) layCode m at stop old new (λ a s z. stands-other m at stop 6 h (sym is ∙ t) a s z) e
+
+-- The invoke ID of a Reject
+
+module _ (m : List ℕ) (at stop : ℕ) (h : until stop ≤ length m) (b : Bool) (is : b ≡ standsOf m at stop 5) (old : List ℕ) where
+  pub null-left : b ≡ true → Leaves layRejectId untold idOrNullItem m at stop old old
+  unfolding layRejectId
+  null-left t =
+      leaves-second (mapItem some idItem) (mapItem (λ v. none) (leafItem 5 (same []))) layRejectId m at stop old old (λ a s z. ap (λ (q : ℕ). eqb q 2) (stands-only m at stop 5 h (sym is ∙ t) a s z))
+      (leaves-map (λ v. none) (leafItem 5 (same [])) (λ a l. l) layRejectId m at stop old old (λ a. refl) (quiet _ old))
+
+  pub number-left : b ≡ false → (new : List ℕ) → Leaves layId untold idItem m at stop old new → Leaves layRejectId untold idOrNullItem m at stop old new
+  unfolding layRejectId
+  number-left t new e = leaves-first (mapItem some idItem) (mapItem (λ v. none) (leafItem 5 (same []))) layRejectId m at stop old new (λ a s z. stands-other m at stop 5 h (sym is ∙ t) a s z) (leaves-map some idItem layId layRejectId m at stop old new (λ a. refl) e)
+
+-- A problem, by its tag
+
+module _ (m : List ℕ) (at stop : ℕ) (h : until stop ≤ length m) (old new : List ℕ) where
+  abbrev Problems : Item Problem → Type 0
+  Problems x = Leaves layProblem untold x m at stop old new
+
+  -- the tag that stands here is none of those before it, or behind it
+  not-here : (tag : ℕ) → standsOf m at stop tag ≡ true → (f : ℕ → Bool) → f tag ≡ false → (a s : ℕ) → frontOf 1 (part m at stop) ≡ TagRead.Tag a s → f a ≡ false
+  not-here tag t f q a s z = ap f (stands-only m at stop tag h t a s z) ∙ q
+
+  problem-map : (f : ℕ → Problem) (tag most : ℕ) → ((n : ℕ) → layOctet tag n old ≡ layProblem (f n) old) → Leaves (layOctet tag) untold (octetItem tag most) m at stop old new → Problems (mapItem f (octetItem tag most))
+  problem-map f tag most same e = leaves-map f (octetItem tag most) (layOctet tag) layProblem m at stop old new same e
+
+  module _ (b : Bool) (t : b ≡ true) where
+    pub invoke-problem-left : b ≡ standsOf m at stop 129 → Leaves (layOctet 129) untold (octetItem 129 7) m at stop old new → Problems problemItem
+    unfolding layProblem
+    invoke-problem-left is e =
+        leaves-second (mapItem Problem.General (octetItem 128 2)) _ layProblem m at stop old new (not-here 129 (sym is ∙ t) (λ q. eqb q 128) refl)
+        (leaves-first (mapItem Problem.OfInvoke (octetItem 129 7)) _ layProblem m at stop old new (not-here 129 (sym is ∙ t) (λ q. eqb q 130 || eqb q 131) refl) (problem-map Problem.OfInvoke 129 7 (λ n. refl) e))
+
+    pub result-problem-left : b ≡ standsOf m at stop 130 → Leaves (layOctet 130) untold (octetItem 130 2) m at stop old new → Problems problemItem
+    unfolding layProblem
+    result-problem-left is e =
+        leaves-second (mapItem Problem.General (octetItem 128 2)) _ layProblem m at stop old new (not-here 130 (sym is ∙ t) (λ q. eqb q 128) refl)
+        (leaves-second (mapItem Problem.OfInvoke (octetItem 129 7)) _ layProblem m at stop old new (not-here 130 (sym is ∙ t) (λ q. eqb q 129) refl)
+        (leaves-first (mapItem Problem.OfResult (octetItem 130 2)) _ layProblem m at stop old new (not-here 130 (sym is ∙ t) (λ q. eqb q 131) refl) (problem-map Problem.OfResult 130 2 (λ n. refl) e)))
+
+    pub error-problem-left : b ≡ standsOf m at stop 131 → Leaves (layOctet 131) untold (octetItem 131 4) m at stop old new → Problems problemItem
+    unfolding layProblem
+    error-problem-left is e =
+        leaves-second (mapItem Problem.General (octetItem 128 2)) _ layProblem m at stop old new (not-here 131 (sym is ∙ t) (λ q. eqb q 128) refl)
+        (leaves-second (mapItem Problem.OfInvoke (octetItem 129 7)) _ layProblem m at stop old new (not-here 131 (sym is ∙ t) (λ q. eqb q 129) refl)
+        (leaves-second (mapItem Problem.OfResult (octetItem 130 2)) _ layProblem m at stop old new (not-here 131 (sym is ∙ t) (λ q. eqb q 130) refl) (problem-map Problem.OfError 131 4 (λ n. refl) e)))
+
+  module _ (b c d : Bool) (one : b ≡ standsOf m at stop 129) (two : c ≡ standsOf m at stop 130) (three : d ≡ standsOf m at stop 131) (not-one : b ≡ false) (not-two : c ≡ false) (not-three : d ≡ false) where
+    none-of : (a s : ℕ) → frontOf 1 (part m at stop) ≡ TagRead.Tag a s → (eqb a 129 || (eqb a 130 || eqb a 131)) ≡ false
+    none-of a s z = rw (stands-other m at stop 129 h (sym one ∙ not-one) a s z, stands-other m at stop 130 h (sym two ∙ not-two) a s z, stands-other m at stop 131 h (sym three ∙ not-three) a s z)
+
+    pub general-problem-left : Leaves (layOctet 128) untold (octetItem 128 2) m at stop old new → Problems problemItem
+    unfolding layProblem
+    general-problem-left e = leaves-first (mapItem Problem.General (octetItem 128 2)) _ layProblem m at stop old new none-of (problem-map Problem.General 128 2 (λ n. refl) e)
+
+-- A parameter
+
+module _ (left : ℕ) (m : List ℕ) (at stop : ℕ) (h : until stop ≤ length m) (b : Bool) (is : b ≡ endedOf (endOf (finite stop) (part m at stop))) (old : List ℕ) where
+  pub no-parameter : b ≡ true → LeavesAll layParameter untold (lastBody (level left) (walkItem left)) m at stop old old
+  unfolding layParameter
+  no-parameter t = last-left-none untold (level left) (walkItem left) layParameter m at stop old (λ l. refl) (ended-is (endOf (finite stop) (part m at stop)) b is t)
+
+  module _ (c : Bool) (also : c ≡ unfinishedOf (endOf (finite stop) (part m at stop))) (no : b ≡ false) (nor : c ≡ false) (r : ℕ) (walked : Walked at (until stop) (elementWalk 0 left at (part m at stop)) r) (near : Near r) where
+    walk-here : Placed at (until stop) (ask (front (level left) FaultKind.Another (walkItem left)) (finite stop) at (part m at stop)) r
+    walk-here = walk-placed left (finite stop) at (until stop) r (part m at stop) (more-here (endOf (finite stop) (part m at stop)) b c is also no nor) walked
+
+    pub walk-from : at ≤ r
+    walk-from = placed-near (ask (front (level left) FaultKind.Another (walkItem left)) (finite stop) at (part m at stop)) at (until stop) r walk-here near .0
+
+    pub walk-to : r ≤ until stop
+    walk-to = placed-near (ask (front (level left) FaultKind.Another (walkItem left)) (finite stop) at (part m at stop)) at (until stop) r walk-here near .1
+
+    module _ (new : List ℕ) (laid : new ≡ layText 16 at (r - at) (set old 6 1)) where
+      walk-left : Left layElement untold (ask (front (level left) FaultKind.Another (walkItem left)) (finite stop) at (part m at stop)) old new
+      unfolding layElement
+      walk-left =
+          let long : length (take (r - at) (part m at stop)) ≡ r - at = length-take-le (r - at) (part m at stop) (omega (arith, walk-from, walk-to, span-length m at (until stop) h)) in
+          got-left layElement (λ v n. v ≡ (at, take n (part m at stop))) _ at (until stop) r old new walk-here (value-walk left (level left) (finite stop) at (part m at stop)) (λ v q. laid ∙ rw (q, long))
+
+      pub last-parameter : 1 ≤ left → LeavesAll layParameter untold (lastBody (level left) (walkItem left)) m at stop old new
+      unfolding layParameter
+      last-parameter deep =
+          last-left untold (level left) (walkItem left) m at stop r walk-here layElement old (λ f l u. u) (deep-enough left deep) (not-ended (endOf (finite stop) (part m at stop)) b is no) layParameter (λ a l. refl) new near walk-left (quiet _ new)
+
+      pub sole-parameter : 1 ≤ left → LeavesAll layElement untold (onlyBody (level left) (walkItem left)) m at stop old new
+      sole-parameter deep = only-left untold (level left) (walkItem left) m at stop r walk-here layElement old (λ f l u. u) (deep-enough left deep) new near walk-left (quiet _ new)

@@ -1,0 +1,194 @@
+// The fields of a component, laid out in its row as they are read: an answer is the place behind the field, or a fault.
+ghost use mathlib.Core.Path.{_≡_};
+ghost use Prim.Native.Nat.{_+_, _/_, _%_, _≤_};
+ghost use lib.ListN.{length};
+ghost use lib.Seq.{sets};
+ghost use Rattle.base.specs.Number.{octetsIn};
+ghost use Rattle.read_place.specs.Places.{Leads, Reads, Finishes, Ready};
+ghost use Rattle.read_place.specs.Leaves.{Leaves, LeavesAll, untold};
+ghost use Rattle.read_place.specs.Laying.{layId, layRejectId, layCode, layElement, layParameter, layProblem};
+ghost use Rattle.read_part.specs.Parts.{layOctet};
+ghost use Rattle.tcap.specs.Meaning.{local, global};
+ghost use Rattle.tcap.specs.Productions.{octetItem, idItem, idOrNullItem, problemItem, nameItem, codeItem};
+ghost use Rattle.element.specs.Parts.{integerItem, mapItem, level, onlyBody, lastBody};
+ghost use Rattle.element.specs.Walk.{walkItem};
+use base::piece;
+use primitive::bits;
+use read_field::name_at;
+use read_field::null_at;
+use read_field::octet_at;
+use read_field::small_at;
+use read_place::BAD_CONTENTS;
+use read_place::CUT_OFF;
+use read_place::FAULT;
+use read_place::MISSING;
+use read_place::OPEN;
+use read_place::bad_field;
+use read_place::behind;
+use read_place::count_at;
+use read_place::ended;
+use read_place::leave;
+use read_place::put_text;
+use read_place::stands;
+use read_place::unfinished;
+use read_place::walk_element;
+
+// A number of four octets, most significant first.
+fn put_number(out: &mut [u8], o: usize, n: u32)
+    requires { ⌜ o + 4 ≤ length (now out) ⌝ }
+    ensures { λ r. ⌜ now (out .exit) ≡ sets (now (out .entry)) o (octetsIn 4 n) ⌝ }
+{
+    out[o] = (n / 256 / 256 / 256 % 256) as u8;
+    out[o + 1] = (n / 256 / 256 % 256) as u8;
+    out[o + 2] = (n / 256 % 256) as u8;
+    out[o + 3] = (n % 256) as u8;
+}
+
+// An invoke ID.
+pub fn id_at(m: &[u8], at: usize, stop: usize, row: &mut [u8]) -> usize
+    requires { ⌜ Ready (now m) at stop × (length (now row) ≡ 24) ⌝ }
+    ensures { λ r. ⌜ Reads idItem (now (m .entry)) at stop r ⌝ }
+    ensures { λ r. ⌜ Leaves layId untold idItem (now (m .entry)) at stop (now (row .entry)) (now (row .exit)) ⌝ }
+{
+    let r = octet_at(m, at, stop, 0x02);
+    if r >= FAULT {
+        return r;
+    }
+    row[1] = 1;
+    row[2] = m[at + 2];
+    r
+}
+
+// A local code.
+fn local_at(m: &[u8], at: usize, stop: usize, row: &mut [u8]) -> usize
+    requires { ⌜ Ready (now m) at stop × (length (now row) ≡ 24) ⌝ }
+    ensures { λ r. ⌜ Reads (integerItem 0x02 4) (now (m .entry)) at stop r ⌝ }
+    ensures { λ r. ⌜ Leaves layCode untold (mapItem local (integerItem 0x02 4)) (now (m .entry)) at stop (now (row .entry)) (now (row .exit)) ⌝ }
+{
+    let n = count_at(m, at, stop, 0x02, 4);
+    if n == 0 {
+        return bad_field(m, at, stop, 0x02);
+    }
+    match primitive::integer_at(piece(m, at + 2, n), 4) {
+        primitive::IntegerRead::Wrong => BAD_CONTENTS + at,
+        primitive::IntegerRead::Value(value) => {
+            row[5] = 0x02;
+            put_number(row, 8, bits(4294967295, value));
+            at + 2 + n
+        }
+    }
+}
+
+// A global code.
+fn global_at(m: &[u8], at: usize, stop: usize, row: &mut [u8]) -> usize
+    requires { ⌜ Ready (now m) at stop × (length (now row) ≡ 24) ⌝ }
+    ensures { λ r. ⌜ Reads nameItem (now (m .entry)) at stop r ⌝ }
+    ensures { λ r. ⌜ Leaves layCode untold (mapItem global nameItem) (now (m .entry)) at stop (now (row .entry)) (now (row .exit)) ⌝ }
+{
+    let r = name_at(m, at, stop);
+    if r >= FAULT {
+        return r;
+    }
+    row[5] = 0x06;
+    put_text(row, 8, at + 2, r - at - 2);
+    r
+}
+
+// A code.
+pub fn code_at(m: &[u8], at: usize, stop: usize, row: &mut [u8]) -> usize
+    requires { ⌜ Ready (now m) at stop × (length (now row) ≡ 24) ⌝ }
+    ensures { λ r. ⌜ Reads codeItem (now (m .entry)) at stop r ⌝ }
+    ensures { λ r. ⌜ Leaves layCode untold codeItem (now (m .entry)) at stop (now (row .entry)) (now (row .exit)) ⌝ }
+{
+    if stands(m, at, stop, 0x06) {
+        return global_at(m, at, stop, row);
+    }
+    local_at(m, at, stop, row)
+}
+
+// A parameter, or none: the place behind the contents.
+pub fn last_put(m: &[u8], at: usize, stop: usize, left: usize, row: &mut [u8]) -> usize
+    requires { ⌜ Ready (now m) at stop × (1 ≤ left) × (length (now row) ≡ 24) ⌝ }
+    ensures { λ r. ⌜ Finishes (lastBody (level left) (walkItem left)) (now (m .entry)) at stop r ⌝ }
+    ensures { λ r. ⌜ LeavesAll layParameter untold (lastBody (level left) (walkItem left)) (now (m .entry)) at stop (now (row .entry)) (now (row .exit)) ⌝ }
+{
+    if ended(m, at, stop) {
+        return behind(at, stop);
+    }
+    if unfinished(m, at, stop) {
+        return CUT_OFF + at;
+    }
+    let r = walk_element(m, at, stop % OPEN, left);
+    if r >= FAULT {
+        return r;
+    }
+    row[6] = 1;
+    put_text(row, 16, at, r - at);
+    leave(m, r, stop)
+}
+
+// A parameter that must stand here: the place behind the contents.
+pub fn sole_put(m: &[u8], at: usize, stop: usize, left: usize, row: &mut [u8]) -> usize
+    requires { ⌜ Ready (now m) at stop × (1 ≤ left) × (length (now row) ≡ 24) ⌝ }
+    ensures { λ r. ⌜ Finishes (onlyBody (level left) (walkItem left)) (now (m .entry)) at stop r ⌝ }
+    ensures { λ r. ⌜ LeavesAll layElement untold (onlyBody (level left) (walkItem left)) (now (m .entry)) at stop (now (row .entry)) (now (row .exit)) ⌝ }
+{
+    if ended(m, at, stop) {
+        return MISSING + at;
+    }
+    if unfinished(m, at, stop) {
+        return CUT_OFF + at;
+    }
+    let r = walk_element(m, at, stop % OPEN, left);
+    if r >= FAULT {
+        return r;
+    }
+    row[6] = 1;
+    put_text(row, 16, at, r - at);
+    leave(m, r, stop)
+}
+
+// The invoke ID of a Reject, or a null.
+pub fn reject_id_at(m: &[u8], at: usize, stop: usize, row: &mut [u8]) -> usize
+    requires { ⌜ Ready (now m) at stop × (length (now row) ≡ 24) ⌝ }
+    ensures { λ r. ⌜ Reads idOrNullItem (now (m .entry)) at stop r ⌝ }
+    ensures { λ r. ⌜ Leaves layRejectId untold idOrNullItem (now (m .entry)) at stop (now (row .entry)) (now (row .exit)) ⌝ }
+{
+    if stands(m, at, stop, 0x05) {
+        return null_at(m, at, stop);
+    }
+    id_at(m, at, stop, row)
+}
+
+// A problem of this tag, 0 to `most`.
+fn problem_of(m: &[u8], at: usize, stop: usize, tag: u8, most: u8, row: &mut [u8]) -> usize
+    requires { ⌜ Ready (now m) at stop × Leads tag × (tag / 32 % 2 ≡ 0) × (length (now row) ≡ 24) ⌝ }
+    ensures { λ r. ⌜ Reads (octetItem tag most) (now (m .entry)) at stop r ⌝ }
+    ensures { λ r. ⌜ Leaves (layOctet tag) untold (octetItem tag most) (now (m .entry)) at stop (now (row .entry)) (now (row .exit)) ⌝ }
+{
+    let r = small_at(m, at, stop, tag, most);
+    if r >= FAULT {
+        return r;
+    }
+    row[5] = tag;
+    row[7] = m[at + 2];
+    r
+}
+
+// A problem.
+pub fn problem_at(m: &[u8], at: usize, stop: usize, row: &mut [u8]) -> usize
+    requires { ⌜ Ready (now m) at stop × (length (now row) ≡ 24) ⌝ }
+    ensures { λ r. ⌜ Reads problemItem (now (m .entry)) at stop r ⌝ }
+    ensures { λ r. ⌜ Leaves layProblem untold problemItem (now (m .entry)) at stop (now (row .entry)) (now (row .exit)) ⌝ }
+{
+    if stands(m, at, stop, 0x81) {
+        return problem_of(m, at, stop, 0x81, 7, row);
+    }
+    if stands(m, at, stop, 0x82) {
+        return problem_of(m, at, stop, 0x82, 2, row);
+    }
+    if stands(m, at, stop, 0x83) {
+        return problem_of(m, at, stop, 0x83, 4, row);
+    }
+    problem_of(m, at, stop, 0x80, 2, row)
+}

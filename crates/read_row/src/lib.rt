@@ -1,0 +1,205 @@
+// A component, laid out in its row as it is read: an answer is the place behind what was read, or a fault.
+ghost use mathlib.Core.Path.{_≡_};
+ghost use mathlib.Core.Bool.{true};
+ghost use Prim.Native.Nat.{_<_};
+ghost use lib.ListN.{length};
+ghost use Rattle.read_place.specs.Places.{until, Finishes, Ready};
+ghost use Rattle.read_place.specs.Leaves.{LeavesAll, untold};
+ghost use Rattle.read_place.specs.Laying.{layId, layRejectId, layLinked, layCode, layElement, layReturned, layProblem, layComponent};
+ghost use Rattle.read_row.specs.Component.{bothBody, linkedBody, invokedBody, erredBody, returnedBody, rejectedBody, bodyOf, layBoth, layCoded, layInvoked, ReadsComponent, LeavesComponent};
+ghost use Rattle.tcap.specs.Productions.{componentItem, rejectBody, codeBody, bothItem, invokeBody, errorBody, levelAt};
+ghost use Rattle.element.specs.Parts.{lastBody};
+ghost use Rattle.tcap.specs.WellFormed.{deepestLevel};
+use read_field::octet_at;
+use read_part::code_at;
+use read_part::id_at;
+use read_part::last_put;
+use read_part::problem_at;
+use read_part::reject_id_at;
+use read_part::sole_put;
+use read_place::FAULT;
+use read_place::OPEN;
+use read_place::UNKNOWN_COMPONENT;
+use read_place::behind;
+use read_place::ended;
+use read_place::entry_at;
+use read_place::leave;
+use read_place::length_at;
+use read_place::stands;
+use read_place::start_of;
+use read_place::wrong_at;
+
+// A code, and a parameter or none.
+fn coded_at(m: &[u8], at: usize, stop: usize, row: &mut [u8]) -> usize
+    requires { ⌜ Ready (now m) at stop × (length (now row) ≡ 24) ⌝ }
+    ensures { λ r. ⌜ Finishes (codeBody deepestLevel) (now (m .entry)) at stop r ⌝ }
+    ensures { λ r. ⌜ LeavesAll layCoded untold (codeBody deepestLevel) (now (m .entry)) at stop (now (row .entry)) (now (row .exit)) ⌝ }
+{
+    let r = code_at(m, at, stop, row);
+    if r >= FAULT {
+        return r;
+    }
+    last_put(m, r, stop, 13, row)
+}
+
+// A code and a parameter, the contents of 30.
+fn both_at(m: &[u8], at: usize, stop: usize, row: &mut [u8]) -> usize
+    requires { ⌜ Ready (now m) at stop × (length (now row) ≡ 24) ⌝ }
+    ensures { λ r. ⌜ Finishes bothBody (now (m .entry)) at stop r ⌝ }
+    ensures { λ r. ⌜ LeavesAll (layBoth layCode layElement) untold bothBody (now (m .entry)) at stop (now (row .entry)) (now (row .exit)) ⌝ }
+{
+    let r = code_at(m, at, stop, row);
+    if r >= FAULT {
+        return r;
+    }
+    sole_put(m, r, stop, 12, row)
+}
+
+// What stands behind the invoke ID of an Invoke: a linked ID or none, code and parameter.
+fn linked_at(m: &[u8], at: usize, stop: usize, row: &mut [u8]) -> usize
+    requires { ⌜ Ready (now m) at stop × (length (now row) ≡ 24) ⌝ }
+    ensures { λ r. ⌜ Finishes linkedBody (now (m .entry)) at stop r ⌝ }
+    ensures { λ r. ⌜ LeavesAll (layBoth layLinked layCoded) untold linkedBody (now (m .entry)) at stop (now (row .entry)) (now (row .exit)) ⌝ }
+{
+    if stands(m, at, stop, 0x80) {
+        let r = octet_at(m, at, stop, 0x80);
+        if r >= FAULT {
+            return r;
+        }
+        row[3] = 1;
+        row[4] = m[at + 2];
+        return coded_at(m, r, stop, row);
+    }
+    coded_at(m, at, stop, row)
+}
+
+// The contents of an Invoke.
+fn invoke_at(m: &[u8], at: usize, stop: usize, row: &mut [u8]) -> usize
+    requires { ⌜ Ready (now m) at stop × (length (now row) ≡ 24) ⌝ }
+    ensures { λ r. ⌜ Finishes (invokeBody deepestLevel) (now (m .entry)) at stop r ⌝ }
+    ensures { λ r. ⌜ LeavesAll layInvoked untold invokedBody (now (m .entry)) at stop (now (row .entry)) (now (row .exit)) ⌝ }
+{
+    let r = id_at(m, at, stop, row);
+    if r >= FAULT {
+        return r;
+    }
+    linked_at(m, r, stop, row)
+}
+
+// The contents of a Return Error.
+fn error_at(m: &[u8], at: usize, stop: usize, row: &mut [u8]) -> usize
+    requires { ⌜ Ready (now m) at stop × (length (now row) ≡ 24) ⌝ }
+    ensures { λ r. ⌜ Finishes (errorBody deepestLevel) (now (m .entry)) at stop r ⌝ }
+    ensures { λ r. ⌜ LeavesAll (layBoth layId layCoded) untold erredBody (now (m .entry)) at stop (now (row .entry)) (now (row .exit)) ⌝ }
+{
+    let r = id_at(m, at, stop, row);
+    if r >= FAULT {
+        return r;
+    }
+    coded_at(m, r, stop, row)
+}
+
+// Code and parameter in 30, or nothing: what stands behind the invoke ID of a result.
+fn result_at(m: &[u8], at: usize, stop: usize, row: &mut [u8]) -> usize
+    requires { ⌜ Ready (now m) at stop × (length (now row) ≡ 24) ⌝ }
+    ensures { λ r. ⌜ Finishes (lastBody (levelAt deepestLevel 4) (bothItem deepestLevel)) (now (m .entry)) at stop r ⌝ }
+    ensures { λ r. ⌜ LeavesAll layReturned untold (lastBody (levelAt deepestLevel 4) (bothItem deepestLevel)) (now (m .entry)) at stop (now (row .entry)) (now (row .exit)) ⌝ }
+{
+    if ended(m, at, stop) {
+        return behind(at, stop);
+    }
+    let inner = entry_at(m, at, stop, 0x30);
+    if inner >= FAULT {
+        return inner;
+    }
+    let r = both_at(m, start_of(m, at + 1), inner, row);
+    if r >= FAULT {
+        return r;
+    }
+    leave(m, r, stop)
+}
+
+// The contents of a result, last or not.
+fn returned_at(m: &[u8], at: usize, stop: usize, row: &mut [u8]) -> usize
+    requires { ⌜ Ready (now m) at stop × (length (now row) ≡ 24) ⌝ }
+    ensures { λ r. ⌜ Finishes returnedBody (now (m .entry)) at stop r ⌝ }
+    ensures { λ r. ⌜ LeavesAll (layBoth layId layReturned) untold returnedBody (now (m .entry)) at stop (now (row .entry)) (now (row .exit)) ⌝ }
+{
+    let r = id_at(m, at, stop, row);
+    if r >= FAULT {
+        return r;
+    }
+    result_at(m, r, stop, row)
+}
+
+// The contents of a Reject.
+fn reject_at(m: &[u8], at: usize, stop: usize, row: &mut [u8]) -> usize
+    requires { ⌜ Ready (now m) at stop × (length (now row) ≡ 24) ⌝ }
+    ensures { λ r. ⌜ Finishes (rejectBody deepestLevel) (now (m .entry)) at stop r ⌝ }
+    ensures { λ r. ⌜ LeavesAll (layBoth layRejectId layProblem) untold rejectedBody (now (m .entry)) at stop (now (row .entry)) (now (row .exit)) ⌝ }
+{
+    let r = reject_id_at(m, at, stop, row);
+    if r >= FAULT {
+        return r;
+    }
+    let s = problem_at(m, r, stop, row);
+    if s >= FAULT {
+        return s;
+    }
+    leave(m, s, stop)
+}
+
+// The contents of a component by its tag.
+fn contents_at(m: &[u8], at: usize, stop: usize, tag: u8, row: &mut [u8]) -> usize
+    requires { ⌜ Ready (now m) at stop × (componentItem deepestLevel .mine tag ≡ true) × (length (now row) ≡ 24) ⌝ }
+    ensures { λ r. ⌜ Finishes (bodyOf tag) (now (m .entry)) at stop r ⌝ }
+    ensures { λ r. ⌜ LeavesAll layComponent untold (bodyOf tag) (now (m .entry)) at stop (now (row .entry)) (now (row .exit)) ⌝ }
+{
+    row[0] = tag;
+    if tag == 0xA1 {
+        return invoke_at(m, at, stop, row);
+    }
+    if tag == 0xA3 {
+        return error_at(m, at, stop, row);
+    }
+    if tag == 0xA4 {
+        return reject_at(m, at, stop, row);
+    }
+    returned_at(m, at, stop, row)
+}
+
+// Whether a first octet is the tag of a component.
+pub fn is_component(first: u8) -> bool
+    ensures { λ r. ⌜ r ≡ componentItem deepestLevel .mine first ⌝ }
+{
+    if first == 0xA1 {
+        return true;
+    }
+    if first == 0xA2 {
+        return true;
+    }
+    if first == 0xA3 {
+        return true;
+    }
+    if first == 0xA4 {
+        return true;
+    }
+    first == 0xA7
+}
+
+// A component that must stand here.
+pub fn component_at(m: &[u8], at: usize, stop: usize, row: &mut [u8]) -> usize
+    requires { ⌜ Ready (now m) at stop × (at < until stop) × (length (now row) ≡ 24) ⌝ }
+    ensures { λ r. ⌜ ReadsComponent (now (m .entry)) at stop r ⌝ }
+    ensures { λ r. ⌜ LeavesComponent (now (m .entry)) at stop (now (row .entry)) (now (row .exit)) ⌝ }
+{
+    let tag = m[at];
+    if is_component(tag) {
+        let inner = length_at(m, at, at + 1, stop % OPEN, true);
+        if inner >= FAULT {
+            return inner;
+        }
+        return contents_at(m, start_of(m, at + 1), inner, tag, row);
+    }
+    wrong_at(m, at, stop, UNKNOWN_COMPONENT)
+}
