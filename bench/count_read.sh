@@ -4,7 +4,8 @@
 #
 # PROGRAM is the crate `readings`, built. It reads each message once more for every
 # octet of its argument: what two octets cost over one is a reading, and a turn of
-# the loop around it. Counted by qemu-x86_64 with the plug-in icount.c.
+# the loop around it. Counted by qemu-x86_64 with the plug-in icount.c, or on an
+# x86-64 machine without that by valgrind.
 set -eu
 if [ $# -ne 2 ]; then
     echo "usage: count_read.sh PROGRAM VECTORS" >&2
@@ -17,8 +18,12 @@ vectors=$2
 tmp=$(mktemp -d)
 trap 'rm -rf "$tmp"' EXIT
 
-if ! command -v qemu-x86_64 >/dev/null || ! ${HOSTCC:-cc} -O2 -shared -fPIC -o "$tmp/icount.so" "$here/icount.c"; then
-    echo "not counted: that needs qemu-x86_64 with plug-ins"
+if command -v qemu-x86_64 >/dev/null && ${HOSTCC:-cc} -O2 -shared -fPIC -o "$tmp/icount.so" "$here/icount.c"; then
+    counter=plugin
+elif command -v valgrind >/dev/null && [ "$(uname -m)" = x86_64 ]; then
+    counter=valgrind
+else
+    echo "not counted: that needs qemu-x86_64 with plug-ins, or an x86-64 valgrind"
     exit 0
 fi
 sh "$tools" cc -std=c99 -Wall -Wextra -O2 -I"$here" -o "$tmp/plain" "$here/count_loop.c" "$here/count_plain.c" "$here/plain.c"
@@ -26,7 +31,11 @@ sh "$tools" cc -std=c99 -Wall -Wextra -O2 -I"$here" -o "$tmp/none" "$here/count_
 
 # instructions PROGRAM ARGS...: of one whole run
 instructions() {
-    (cd "$tmp" && sh "$tools" count "$tmp/icount.so" "$@" 2>&1 >/dev/null) | sed -n 's/^instructions //p'
+    if [ $counter = plugin ]; then
+        (cd "$tmp" && sh "$tools" count "$tmp/icount.so" "$@" 2>&1 >/dev/null) | sed -n 's/^instructions //p'
+    else
+        (cd "$tmp" && valgrind --tool=callgrind --callgrind-out-file=/dev/null "$@" 2>&1 >/dev/null) | sed -n 's/^==.*Collected : //p'
+    fi
 }
 
 # over PROGRAM LESS MORE: what the arguments MORE cost over LESS
