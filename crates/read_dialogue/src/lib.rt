@@ -458,6 +458,7 @@ pub fn dialogue_at(m: &[u8], at: usize, stop: usize, out: &mut [u8]) -> usize
 }
 
 // Whether the first fault in 6B belongs to what stands inside its contents: all but its tag, its length and its own end.
+// What is left in `out`, lent for this second look, means nothing.
 pub fn blames_dialogue(m: &[u8], at: usize, stop: usize, out: &mut [u8]) -> bool
     requires { ⌜ Ready (now m) at stop × (length (now out) ≡ 428) ⌝ }
     ensures { λ r. ⌜ Owns r (now (m .entry)) at stop ⌝ }

@@ -1,6 +1,6 @@
 // Where a reader stands, and what may stand there: ends, tags, lengths, elements that are walked.
 // Contents stand from a place to a `stop`: the place where they end, or, if they are indefinite, OPEN and the end of what is around them.
-// An answer below OPEN is the place behind what was read, or a stop; from FAULT on it is a fault: kind and place.
+// An answer below FAULT is the place behind what was read, or a stop; from FAULT on it is a fault: kind and place, each kind in a block of OPEN.
 ghost use mathlib.Core.Path.{_≡_};
 ghost use mathlib.Core.Bool.{true, false};
 ghost use Prim.Native.Nat.{suc, _+_, _-_, _/_, _%_, _<_, _≤_};
