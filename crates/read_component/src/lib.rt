@@ -15,7 +15,7 @@ use read_place::MISSING;
 use read_place::SEVENTEENTH;
 use read_place::behind;
 use read_place::ended;
-use read_place::entry_at;
+use read_place::entry_asked;
 use read_place::start_of;
 use read_place::unfinished;
 use read_row::component_at;
@@ -29,7 +29,7 @@ pub fn known_id(m: &[u8], at: usize, stop: usize) -> usize
 {
     let tag = m[at];
     if is_component(tag) {
-        let inner = entry_at(m, at, stop, tag);
+        let inner = entry_asked(m, at, stop, tag);
         if inner >= FAULT {
             return 0;
         }

@@ -46,7 +46,7 @@ two (x ∷ y ∷ z ∷ r) h = absurd (omega (arith, h))
 version-sized : (c : List ℕ) → same version c ≡ true → (1 ≤ length c) × (length c ≤ 2)
 version-sized c e = rw (same-equal version c e) (omega arith, omega arith)
 
-module _ (m : List ℕ) (at stop n : ℕ) (g : at ≤ until stop) (h : until stop ≤ length m) (is : n ≡ countOf (until stop - at) (getD m at 0) (getD m (at + 1) 0) 128 2) where
+module _ (m : List ℕ) (at stop n : ℕ) (g : at ≤ until stop) (h : until stop ≤ length m) (is : n ≡ countOf (until stop) at (getD m at 0) (getD m (at + 1) 0) 128 2) where
   pub version-none : n ≡ 0 → (r : ℕ) → r ≡ badPlace m at stop 128 → Reads versionItem m at stop r
   unfolding constructorOf
   version-none z r e = leaf-none m at stop 128 2 n (same version) g h (omega arith, omega arith, omega arith) refl (omega arith) is z version-sized r e

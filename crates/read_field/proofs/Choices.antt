@@ -147,7 +147,7 @@ transaction-fits : (c : List ℕ) → 1 ≤ length c → length c ≤ 4 → idOk
 unfolding idOk
 transaction-fits c p q = rw (le-leb 1 (length c) p, le-leb (length c) 4 q)
 
-module _ (m : List ℕ) (at stop tag n : ℕ) (g : at ≤ until stop) (h : until stop ≤ length m) (leads : Leads tag) (kind : tag / 32 % 2 ≡ 0) (is : n ≡ countOf (until stop - at) (getD m at 0) (getD m (at + 1) 0) tag 4) where
+module _ (m : List ℕ) (at stop tag n : ℕ) (g : at ≤ until stop) (h : until stop ≤ length m) (leads : Leads tag) (kind : tag / 32 % 2 ≡ 0) (is : n ≡ countOf (until stop) at (getD m at 0) (getD m (at + 1) 0) tag 4) where
   pub transaction-none : n ≡ 0 → (r : ℕ) → r ≡ badPlace m at stop tag → Reads (leafItem tag idOk) m at stop r
   transaction-none z r e = leaf-none m at stop tag 4 n idOk g h leads (plain tag kind) (omega arith) is z transaction-sized r e
 

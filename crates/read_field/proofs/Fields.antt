@@ -31,7 +31,7 @@ between-sized most c x e =
 
 module _ (m : List ℕ) (at stop n : ℕ) (g : at ≤ until stop) (h : until stop ≤ length m) where
   -- an object identifier
-  module _ (is : n ≡ countOf (until stop - at) (getD m at 0) (getD m (at + 1) 0) 6 16) where
+  module _ (is : n ≡ countOf (until stop) at (getD m at 0) (getD m (at + 1) 0) 6 16) where
     pub name-none : n ≡ 0 → (r : ℕ) → r ≡ badPlace m at stop 6 → Reads nameItem m at stop r
     unfolding identifierOk constructorOf
     name-none z r e = leaf-none m at stop 6 16 n identifierOk g h (omega arith, omega arith, omega arith) refl (omega arith) is z (λ c e. between-sized 16 c (numbers c true) e) r e
@@ -45,13 +45,13 @@ module _ (m : List ℕ) (at stop n : ℕ) (g : at ≤ until stop) (h : until sto
       unfolding constructorOf
       name-bad t = leaf-bad m at stop 6 16 n identifierOk g h (omega arith, omega arith, omega arith) refl (omega arith) is there (rw xs-is at (sym told ∙ t))
 
-pub count-room : (m : List ℕ) (at end tag most n : ℕ) → n ≡ countOf (end - at) (getD m at 0) (getD m (at + 1) 0) tag most → (n ≡ 0 → ⊥) → (at + 2 + n ≤ end) × (n ≤ most)
+pub count-room : (m : List ℕ) (at end tag most n : ℕ) → n ≡ countOf end at (getD m at 0) (getD m (at + 1) 0) tag most → (n ≡ 0 → ⊥) → (at + 2 + n ≤ end) × (n ≤ most)
 count-room m at end tag most n is there = let i = counted m at end tag most n is there in (i .room, i .few)
 
-pub count-more : (m : List ℕ) (at end tag most n : ℕ) → n ≡ countOf (end - at) (getD m at 0) (getD m (at + 1) 0) tag most → (n ≡ 0 → ⊥) → end ≤ length m → at + 2 + n ≤ length m
+pub count-more : (m : List ℕ) (at end tag most n : ℕ) → n ≡ countOf end at (getD m at 0) (getD m (at + 1) 0) tag most → (n ≡ 0 → ⊥) → end ≤ length m → at + 2 + n ≤ length m
 count-more m at end tag most n is there h = omega (arith, counted m at end tag most n is there .room, h)
 
-pub count-third : (m : List ℕ) (at end tag most n : ℕ) → n ≡ countOf (end - at) (getD m at 0) (getD m (at + 1) 0) tag most → (n ≡ 0 → ⊥) → end ≤ length m → at + 2 < length m
+pub count-third : (m : List ℕ) (at end tag most n : ℕ) → n ≡ countOf end at (getD m at 0) (getD m (at + 1) 0) tag most → (n ≡ 0 → ⊥) → end ≤ length m → at + 2 < length m
 count-third m at end tag most n is there h = some-third n there (counted m at end tag most n is there .room)
   where
     some-third : (k : ℕ) → (k ≡ 0 → ⊥) → at + 2 + k ≤ end → at + 2 < length m
@@ -82,7 +82,7 @@ unfolding integerOk
 integer-sized most c e = between-sized most c (same (integerOctets (signedOf c)) c) e
 
 -- a primitive of one octet
-module _ (m : List ℕ) (at stop tag n : ℕ) (g : at ≤ until stop) (h : until stop ≤ length m) (leads : Leads tag) (kind : tag / 32 % 2 ≡ 0) (is : n ≡ countOf (until stop - at) (getD m at 0) (getD m (at + 1) 0) tag 1) where
+module _ (m : List ℕ) (at stop tag n : ℕ) (g : at ≤ until stop) (h : until stop ≤ length m) (leads : Leads tag) (kind : tag / 32 % 2 ≡ 0) (is : n ≡ countOf (until stop) at (getD m at 0) (getD m (at + 1) 0) tag 1) where
   pub id-none : n ≡ 0 → (r : ℕ) → r ≡ badPlace m at stop tag → Reads (integerItem tag 1) m at stop r
   id-none z r e = placed-item (level 1) FaultKind.Another (λ v. signedOf (v .1)) (leafItem tag (integerOk 1)) (finite stop) at (part m at stop) (until stop) r
       (leaf-none m at stop tag 1 n (integerOk 1) g h leads (plain tag kind) (omega arith) is z (integer-sized 1) r e)
@@ -121,7 +121,7 @@ by-wrong : (b : Bool) (z : ℤ) → cond b (IntegerRead.Value z) IntegerRead.Wro
 by-wrong true z e = let q : _≡_ {A = ℕ} 0 1 = cc in absurd (omega arith)
 by-wrong false z e = refl
 
-module _ (m : List ℕ) (at stop n : ℕ) (g : at ≤ until stop) (h : until stop ≤ length m) (is : n ≡ countOf (until stop - at) (getD m at 0) (getD m (at + 1) 0) 2 4) where
+module _ (m : List ℕ) (at stop n : ℕ) (g : at ≤ until stop) (h : until stop ≤ length m) (is : n ≡ countOf (until stop) at (getD m at 0) (getD m (at + 1) 0) 2 4) where
   pub local-none : n ≡ 0 → (r : ℕ) → r ≡ badPlace m at stop 2 → Reads (integerItem 2 4) m at stop r
   local-none z r e = placed-item (level 1) FaultKind.Another (λ v. signedOf (v .1)) (leafItem 2 (integerOk 4)) (finite stop) at (part m at stop) (until stop) r
       (leaf-none m at stop 2 4 n (integerOk 4) g h (omega arith, omega arith, omega arith) (plain 2 (omega arith)) (omega arith) is z (integer-sized 4) r e)

@@ -184,7 +184,7 @@ value-is : (b : Bool) (z v : ℤ) → cond b (IntegerRead.Value z) IntegerRead.W
 value-is true z v e = cc
 value-is false z v e = let q : _≡_ {A = ℕ} 0 1 = cc in absurd (omega arith)
 
-module _ (m : List ℕ) (at stop n : ℕ) (g : at ≤ until stop) (h : until stop ≤ length m) (is : n ≡ countOf (until stop - at) (getD m at 0) (getD m (at + 1) 0) 2 4) (there : n ≡ 0 → ⊥)
+module _ (m : List ℕ) (at stop n : ℕ) (g : at ≤ until stop) (h : until stop ≤ length m) (is : n ≡ countOf (until stop) at (getD m at 0) (getD m (at + 1) 0) 2 4) (there : n ≡ 0 → ⊥)
     (xs : List ℕ) (i : IntegerRead) (xs-is : xs ≡ take n (drop (at + 2) m)) (told : i ≡ integerOf 4 xs) (v : ℤ) (t : i ≡ IntegerRead.Value v) where
   value-here : v ≡ signedOf (take n (drop (at + 2) m))
   unfolding integerOf

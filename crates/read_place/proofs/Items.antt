@@ -153,12 +153,12 @@ pub record Counted (m : List ℕ) (at end tag most n : ℕ) : Type 0 where
   pub size : getD m (at + 1) 0 ≡ n
   pub few : n ≤ most
 
-pub counted : (m : List ℕ) (at end tag most n : ℕ) → n ≡ countOf (end - at) (getD m at 0) (getD m (at + 1) 0) tag most → (n ≡ 0 → ⊥) → Counted m at end tag most n
+pub counted : (m : List ℕ) (at end tag most n : ℕ) → n ≡ countOf end at (getD m at 0) (getD m (at + 1) 0) tag most → (n ≡ 0 → ⊥) → Counted m at end tag most n
 unfolding countOf
 counted m at end tag most n is there =
-    by-left (ltb (end - at) 3) (eqb (getD m at 0) tag) (ltb most (getD m (at + 1) 0)) (ltb (end - at - 2) (getD m (at + 1) 0)) refl refl refl refl is
+    by-left (ltb end (at + 3)) (eqb (getD m at 0) tag) (ltb most (getD m (at + 1) 0)) (ltb end (at + 2 + getD m (at + 1) 0)) refl refl refl refl is
   where
-    by-left : (a b c d : Bool) → ltb (end - at) 3 ≡ a → eqb (getD m at 0) tag ≡ b → ltb most (getD m (at + 1) 0) ≡ c → ltb (end - at - 2) (getD m (at + 1) 0) ≡ d
+    by-left : (a b c d : Bool) → ltb end (at + 3) ≡ a → eqb (getD m at 0) tag ≡ b → ltb most (getD m (at + 1) 0) ≡ c → ltb end (at + 2 + getD m (at + 1) 0) ≡ d
         → n ≡ cond a 0 (cond b (cond c 0 (cond d 0 (getD m (at + 1) 0))) 0) → Counted m at end tag most n
     by-left true b c d i j k l e = absurd (there e)
     by-left false false c d i j k l e = absurd (there e)
@@ -166,16 +166,16 @@ counted m at end tag most n is there =
     by-left false true false true i j k l e = absurd (there e)
     by-left false true false false i j k l e =
         record {
-          room = omega (arith, ltb-false (end - at) 3 i, ltb-false (end - at - 2) (getD m (at + 1) 0) l, e);
+          room = omega (arith, ltb-false end (at + 2 + getD m (at + 1) 0) l, e);
           first = eqb-true (getD m at 0) tag j;
           size = sym e;
           few = omega (arith, ltb-false most (getD m (at + 1) 0) k, e);
         }
 
-counted-not : (m : List ℕ) (at end tag most n : ℕ) → 1 ≤ n → n ≤ most → at + 2 + n ≤ end → getD m at 0 ≡ tag → getD m (at + 1) 0 ≡ n → 0 ≡ countOf (end - at) (getD m at 0) (getD m (at + 1) 0) tag most → ⊥
+counted-not : (m : List ℕ) (at end tag most n : ℕ) → 1 ≤ n → n ≤ most → at + 2 + n ≤ end → getD m at 0 ≡ tag → getD m (at + 1) 0 ≡ n → 0 ≡ countOf end at (getD m at 0) (getD m (at + 1) 0) tag most → ⊥
 unfolding countOf
 counted-not m at end tag most n l f r i z e =
-    let q : 0 ≡ n = e ∙ rw (le-ltb (end - at) 3 (omega (arith, l, r)), eq-eqb (getD m at 0) tag i, z, le-ltb most n f, le-ltb (end - at - 2) n (omega (arith, r))) in
+    let q : 0 ≡ n = e ∙ rw (le-ltb end (at + 3) (omega (arith, l, r)), eq-eqb (getD m at 0) tag i, z, le-ltb most n f, le-ltb end (at + 2 + n) (omega (arith, r))) in
     omega (arith, q, l)
 
 pub stands-short : (l : List ℕ) (n : ℕ) → StandsFor l n → n < 128 → l ≡ n ∷ []
@@ -190,7 +190,7 @@ module _ (m : List ℕ) (at stop tag most n : ℕ) (fits : List ℕ → Bool) (g
   abbrev here-leaf : Got Text
   here-leaf = ask (front (level 1) FaultKind.Another (leafItem tag fits)) (finite stop) at (part m at stop)
 
-  module _ (is : n ≡ countOf (until stop - at) (getD m at 0) (getD m (at + 1) 0) tag most) where
+  module _ (is : n ≡ countOf (until stop) at (getD m at 0) (getD m (at + 1) 0) tag most) where
     module _ (there : n ≡ 0 → ⊥) where
       short-length : lengthOf (part m (at + 1) stop) false ≡ LengthRead.Definite 1 n
       unfolding lengthBy within

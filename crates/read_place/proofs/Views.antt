@@ -243,11 +243,11 @@ module _ (m : List ℕ) (at from end : ℕ) (c : Bool) (h : end ≤ length m) wh
     there z = omega (arith, z, l)
 
     module _ (low : getD m from 0 < 128) where
-      pub length-short : getD m from 0 < end - from → from + (1 + getD m from 0) ≡ lengthPlace at from end (lengthOf (span m from end) c)
+      pub length-short : from + (1 + getD m from 0) ≤ end → from + (1 + getD m from 0) ≡ lengthPlace at from end (lengthOf (span m from end) c)
       unfolding lengthPlace lengthBy within
       length-short g = rw (length-view m from end c h, ne-eqb (end - from) 0 there, lt-ltb (getD m from 0) 128 low, le-leb (getD m from 0) (end - from - 1) (omega (arith, g)))
 
-      pub length-past : end - from ≤ getD m from 0 → passesEnd + at ≡ lengthPlace at from end (lengthOf (span m from end) c)
+      pub length-past : end < from + (1 + getD m from 0) → passesEnd + at ≡ lengthPlace at from end (lengthOf (span m from end) c)
       unfolding lengthPlace base lengthBy within
       length-past g = rw (length-view m from end c h, ne-eqb (end - from) 0 there, lt-ltb (getD m from 0) 128 low, lt-leb (getD m from 0) (end - from - 1) (omega (arith, g, l)))
 

@@ -295,12 +295,12 @@ pub record Shortly (m : List ℕ) (at end r : ℕ) : Type 0 where
   pub answer : r ≡ at + 2 + getD m (at + 1) 0
   pub leaf : (getD m at 0 / 32 % 2 ≡ 0) ⊎ (getD m (at + 1) 0 ≡ 0)
 
-shortly : (m : List ℕ) (at end left r : ℕ) → r ≡ shortPlace left at (end - at) (getD m at 0) (getD m (at + 1) 0) → 0 < r → (0 < left) × Shortly m at end r
+shortly : (m : List ℕ) (at end left r : ℕ) → r ≡ shortPlace left at end (getD m at 0) (getD m (at + 1) 0) → 0 < r → (0 < left) × Shortly m at end r
 unfolding shortPlace
 shortly m at end left r is there =
-    go (eqb left 0) (ltb (end - at) 2) (eqb (getD m at 0 % 32) 31) (eqb (getD m at 0) 0) (eqb (getD m at 0) 32) (eqb (getD m (at + 1) 0) 0) (eqb (getD m at 0 / 32 % 2) 1) (ltb 127 (getD m (at + 1) 0)) (ltb (end - at - 2) (getD m (at + 1) 0)) refl refl refl refl refl refl refl refl refl is
+    go (eqb left 0) (ltb end (at + 2)) (eqb (getD m at 0 % 32) 31) (eqb (getD m at 0) 0) (eqb (getD m at 0) 32) (eqb (getD m (at + 1) 0) 0) (eqb (getD m at 0 / 32 % 2) 1) (ltb 127 (getD m (at + 1) 0)) (ltb end (at + 2 + getD m (at + 1) 0)) refl refl refl refl refl refl refl refl refl is
   where
-    go : (a b c d e f g h i : Bool) → eqb left 0 ≡ a → ltb (end - at) 2 ≡ b → eqb (getD m at 0 % 32) 31 ≡ c → eqb (getD m at 0) 0 ≡ d → eqb (getD m at 0) 32 ≡ e → eqb (getD m (at + 1) 0) 0 ≡ f → eqb (getD m at 0 / 32 % 2) 1 ≡ g → ltb 127 (getD m (at + 1) 0) ≡ h → ltb (end - at - 2) (getD m (at + 1) 0) ≡ i
+    go : (a b c d e f g h i : Bool) → eqb left 0 ≡ a → ltb end (at + 2) ≡ b → eqb (getD m at 0 % 32) 31 ≡ c → eqb (getD m at 0) 0 ≡ d → eqb (getD m at 0) 32 ≡ e → eqb (getD m (at + 1) 0) 0 ≡ f → eqb (getD m at 0 / 32 % 2) 1 ≡ g → ltb 127 (getD m (at + 1) 0) ≡ h → ltb end (at + 2 + getD m (at + 1) 0) ≡ i
         → r ≡ cond a 0 (cond b 0 (cond c 0 (cond d 0 (cond e 0 (cond f (at + 2) (cond g 0 (cond h 0 (cond i 0 (at + 2 + getD m (at + 1) 0))))))))) → (0 < left) × Shortly m at end r
     go true b c d e f g h i ia ib ic id ie iff ig ih ii z = absurd (omega (arith, z, there))
     go false true c d e f g h i ia ib ic id ie iff ig ih ii z = absurd (omega (arith, z, there))
@@ -309,12 +309,12 @@ shortly m at end left r is there =
     go false false false false true f g h i ia ib ic id ie iff ig ih ii z = absurd (omega (arith, z, there))
     go false false false false false true g h i ia ib ic id ie iff ig ih ii z =
         let n : getD m (at + 1) 0 ≡ 0 = eqb-true (getD m (at + 1) 0) 0 iff in
-        (omega (arith, eqb-false left 0 ia), record { plain = ic; first = id; code = ie; low = omega (arith, n); room = omega (arith, n, ltb-false (end - at) 2 ib); answer = omega (arith, n, z); leaf = inr n })
+        (omega (arith, eqb-false left 0 ia), record { plain = ic; first = id; code = ie; low = omega (arith, n); room = omega (arith, n, ltb-false end (at + 2) ib); answer = omega (arith, n, z); leaf = inr n })
     go false false false false false false true h i ia ib ic id ie iff ig ih ii z = absurd (omega (arith, z, there))
     go false false false false false false false true i ia ib ic id ie iff ig ih ii z = absurd (omega (arith, z, there))
     go false false false false false false false false true ia ib ic id ie iff ig ih ii z = absurd (omega (arith, z, there))
     go false false false false false false false false false ia ib ic id ie iff ig ih ii z =
-        (omega (arith, eqb-false left 0 ia), record { plain = ic; first = id; code = ie; low = ltb-false 127 (getD m (at + 1) 0) ih; room = omega (arith, ltb-false (end - at) 2 ib, ltb-false (end - at - 2) (getD m (at + 1) 0) ii); answer = z; leaf = inl (omega (arith, eqb-false (getD m at 0 / 32 % 2) 1 ig)) })
+        (omega (arith, eqb-false left 0 ia), record { plain = ic; first = id; code = ie; low = ltb-false 127 (getD m (at + 1) 0) ih; room = ltb-false end (at + 2 + getD m (at + 1) 0) ii; answer = z; leaf = inl (omega (arith, eqb-false (getD m at 0 / 32 % 2) 1 ig)) })
 
 module _ (m : List ℕ) (at end left r : ℕ) (g : at ≤ end) (h : end ≤ length m) (top : length m ≤ 65535) (deep : 0 < left) (i : Shortly m at end r) where
   short-tag : at + 1 ≡ tagPlace at (tagOf (span m at end))
@@ -340,5 +340,5 @@ module _ (m : List ℕ) (at end left r : ℕ) (g : at ≤ end) (h : end ≤ leng
       (rw (short-len true) (omega (arith, z))) (omega (arith, low)) (rw (le-leb (getD m (at + 1) 0) 128 (omega (arith, i .low))) (omega arith)) (at + 2)
       (rw (lt-ltb (at + 2) opening low, same, empty, series-ended 0 (left - 1) true (at + 2) [] refl)))
 
-pub short-walk : (m : List ℕ) (at end left r : ℕ) → at ≤ end → end ≤ length m → length m ≤ 65535 → r ≡ shortPlace left at (end - at) (getD m at 0) (getD m (at + 1) 0) → 0 < r → Walked at end (elementWalk 0 left at (span m at end)) r
+pub short-walk : (m : List ℕ) (at end left r : ℕ) → at ≤ end → end ≤ length m → length m ≤ 65535 → r ≡ shortPlace left at end (getD m at 0) (getD m (at + 1) 0) → 0 < r → Walked at end (elementWalk 0 left at (span m at end)) r
 short-walk m at end left r g h top is there = let i = shortly m at end left r is there in short-by m at end left r g h top (i .0) (i .1) (i .1 .leaf) (eqb (getD m at 0 / 32 % 2) 0) refl

@@ -197,13 +197,17 @@ standsOf m at stop tag = cond (eqb at (until stop)) false (eqb (getD m at 0) tag
 unfoldable pub entryPlace : Bool → List ℕ → ℕ → ℕ → ℕ → ℕ
 entryPlace c m at stop tag = cond (standsOf m at stop tag) (lengthPlace at (at + 1) (until stop) (lengthOf (part m (at + 1) stop) c)) (wrongPlace m at stop (base FaultKind.Another))
 
+-- the stop of the contents of a constructor whose tag and length take an octet each, the length of indefinite contents too; 0 if none stands here
+unfoldable pub shortStop : ℕ → ℕ → ℕ → ℕ → ℕ → ℕ
+shortStop end at a n tag = cond (ltb end (at + 2)) 0 (cond (eqb a tag) (cond (eqb n 128) (opening + end) (cond (ltb 127 n) 0 (cond (ltb end (at + 2 + n)) 0 (at + 2 + n)))) 0)
+
 -- its contents are not as wanted
 unfoldable pub badPlace : List ℕ → ℕ → ℕ → ℕ → ℕ
 badPlace m at stop tag = cond (leb faults (entryPlace false m at stop tag)) (entryPlace false m at stop tag) (base FaultKind.BadContents + at)
 
 -- how many contents octets a primitive of this tag has, if they are 1 to `most`; else 0
-unfoldable pub countOf : ℕ → ℕ → ℕ → ℕ → ℕ → ℕ
-countOf left a b tag most = cond (ltb left 3) 0 (cond (eqb a tag) (cond (ltb most b) 0 (cond (ltb (left - 2) b) 0 b)) 0)
+unfoldable pub countOf : ℕ → ℕ → ℕ → ℕ → ℕ → ℕ → ℕ
+countOf end at a b tag most = cond (ltb end (at + 3)) 0 (cond (eqb a tag) (cond (ltb most b) 0 (cond (ltb end (at + 2 + b)) 0 b)) 0)
 
 -- a tag of one octet, not of code 0
 abbrev pub Leads : ℕ → Type 0
@@ -220,13 +224,13 @@ WalkedOut d p end (Walk.Whole n) r = Shut d p end n r
 
 -- the place behind a primitive, or an empty constructor, whose tag and length take an octet each; 0 if none stands here, or no level is left
 unfoldable pub shortPlace : ℕ → ℕ → ℕ → ℕ → ℕ → ℕ
-shortPlace left at room a n =
+shortPlace left at end a n =
     cond (eqb left 0) 0
-    (cond (ltb room 2) 0
+    (cond (ltb end (at + 2)) 0
     (cond (eqb (a % 32) 31) 0
     (cond (eqb a 0) 0
     (cond (eqb a 32) 0
     (cond (eqb n 0) (at + 2)
     (cond (eqb (a / 32 % 2) 1) 0
     (cond (ltb 127 n) 0
-    (cond (ltb (room - 2) n) 0 (at + 2 + n)))))))))
+    (cond (ltb end (at + 2 + n)) 0 (at + 2 + n)))))))))

@@ -7,7 +7,7 @@ ghost use Prim.Native.Nat.{suc, _+_, _-_, _/_, _%_, _<_, _≤_};
 ghost use Rattle.base.specs.Number.{numberFrom};
 ghost use lib.ListN.{length, getD, take, drop};
 ghost use Rattle.element.specs.Head.{endOf, tagOf, within, lengthOf};
-ghost use Rattle.read_place.specs.Places.{span, part, finite, Stands, endedOf, unfinishedOf, behindOf, tagPlace, lengthPlace, longRead, lengthSize, wrongPlace, standsOf, entryPlace, badPlace, countOf, Finishes, nothing, Walked, WalkedOut, shortPlace, until, Ready};
+ghost use Rattle.read_place.specs.Places.{span, part, finite, Stands, endedOf, unfinishedOf, behindOf, tagPlace, lengthPlace, longRead, lengthSize, wrongPlace, standsOf, entryPlace, shortStop, badPlace, countOf, Finishes, nothing, Walked, WalkedOut, shortPlace, until, Ready};
 ghost use Rattle.element.specs.Answers.{elementWalk, seriesWalk};
 ghost use Rattle.read_place.specs.Laying.{layText};
 use base::wide;
@@ -192,7 +192,7 @@ pub fn length_at(m: &[u8], at: usize, from: usize, end: usize, constructor: bool
     if from < end {
         let b = m[from] as usize;
         if b < 128 {
-            if b < end - from {
+            if from + (1 + b) <= end {
                 return from + (1 + b);
             }
             return PASSES_END + at;
@@ -277,8 +277,44 @@ pub fn stands(m: &[u8], at: usize, stop: usize, tag: u8) -> bool
     m[at] == tag
 }
 
-// A constructor of this tag must stand here: the stop of its contents.
+// The stop of the contents of a constructor of this tag whose length takes one octet; 0 if none stands here. Places are compared, so that the compiler sees that none is a fault.
+fn short_stop(m: &[u8], at: usize, end: usize, tag: u8) -> usize
+    requires { ⌜ Stands (now m) at end ⌝ }
+    ensures { λ r. ⌜ r ≡ shortStop end at (getD (now (m .entry)) at 0) (getD (now (m .entry)) (at + 1) 0) tag ⌝ }
+{
+    if end < at + 2 {
+        return 0;
+    }
+    if m[at] != tag {
+        return 0;
+    }
+    let n = m[at + 1] as usize;
+    if n == 128 {
+        return OPEN + end;
+    }
+    if n > 127 {
+        return 0;
+    }
+    if end < at + 2 + n {
+        return 0;
+    }
+    at + 2 + n
+}
+
+// A constructor of this tag must stand here: the stop of its contents. Most lengths take one octet.
 pub fn entry_at(m: &[u8], at: usize, stop: usize, tag: u8) -> usize
+    requires { ⌜ Ready (now m) at stop ⌝ }
+    ensures { λ r. ⌜ r ≡ entryPlace true (now (m .entry)) at stop tag ⌝ }
+{
+    let r = short_stop(m, at, stop % OPEN, tag);
+    if r > 0 {
+        return r;
+    }
+    entry_asked(m, at, stop, tag)
+}
+
+// The same by the questions in their order.
+pub fn entry_asked(m: &[u8], at: usize, stop: usize, tag: u8) -> usize
     requires { ⌜ Ready (now m) at stop ⌝ }
     ensures { λ r. ⌜ r ≡ entryPlace true (now (m .entry)) at stop tag ⌝ }
 {
@@ -314,10 +350,10 @@ pub fn bad_field(m: &[u8], at: usize, stop: usize, tag: u8) -> usize
 // How many contents octets the primitive of this tag has, if they are 1 to `most`, at most 127; else 0.
 pub fn count_at(m: &[u8], at: usize, stop: usize, tag: u8, most: usize) -> usize
     requires { ⌜ Stands (now m) at (until stop) ⌝ }
-    ensures { λ r. ⌜ r ≡ countOf (until stop - at) (getD (now (m .entry)) at 0) (getD (now (m .entry)) (at + 1) 0) tag most ⌝ }
+    ensures { λ r. ⌜ r ≡ countOf (until stop) at (getD (now (m .entry)) at 0) (getD (now (m .entry)) (at + 1) 0) tag most ⌝ }
 {
-    let left = stop % OPEN - at;
-    if left < 3 {
+    let end = stop % OPEN;
+    if end < at + 3 {
         return 0;
     }
     if m[at] != tag {
@@ -327,7 +363,7 @@ pub fn count_at(m: &[u8], at: usize, stop: usize, tag: u8, most: usize) -> usize
     if n > most {
         return 0;
     }
-    if n > left - 2 {
+    if end < at + 2 + n {
         return 0;
     }
     n
@@ -336,13 +372,12 @@ pub fn count_at(m: &[u8], at: usize, stop: usize, tag: u8, most: usize) -> usize
 // The place behind a primitive, or an empty constructor, whose tag and length take an octet each; 0 if none stands here, or no level is left.
 pub fn short_at(m: &[u8], at: usize, end: usize, left: usize) -> usize
     requires { ⌜ Stands (now m) at end ⌝ }
-    ensures { λ r. ⌜ r ≡ shortPlace left at (end - at) (getD (now (m .entry)) at 0) (getD (now (m .entry)) (at + 1) 0) ⌝ }
+    ensures { λ r. ⌜ r ≡ shortPlace left at end (getD (now (m .entry)) at 0) (getD (now (m .entry)) (at + 1) 0) ⌝ }
 {
     if left == 0 {
         return 0;
     }
-    let room = end - at;
-    if room < 2 {
+    if end < at + 2 {
         return 0;
     }
     let first = m[at];
@@ -365,7 +400,7 @@ pub fn short_at(m: &[u8], at: usize, end: usize, left: usize) -> usize
     if n > 127 {
         return 0;
     }
-    if n > room - 2 {
+    if end < at + 2 + n {
         return 0;
     }
     at + 2 + n

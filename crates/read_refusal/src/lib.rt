@@ -15,7 +15,7 @@ use read_fault::kind_from;
 use read_field::transaction_id_at;
 use read_place::FAULT;
 use read_place::OPEN;
-use read_place::entry_at;
+use read_place::entry_asked;
 use read_place::start_of;
 use tcap::Answer;
 use tcap::Ground;
@@ -97,7 +97,7 @@ fn orig_at(m: &[u8], len: usize, tag: u8) -> OptionalOrig
     requires { ⌜ (len ≡ length (now m)) × (1 ≤ len) × (len ≤ 255) × (tag ≡ getD (now m) 0 0) × Ided tag ⌝ }
     ensures { λ r. ⌜ OrigTold r (locatedUpTo deepestLevel (now (m .entry))) ⌝ }
 {
-    let inner = entry_at(m, 0, len, tag);
+    let inner = entry_asked(m, 0, len, tag);
     if inner >= FAULT {
         return OptionalOrig::NoOrig;
     }

@@ -14,8 +14,8 @@ shared-slice-read-tag c = search needs
 is-component-requires : tie.Need-is-component-requires
 is-component-requires c κs = search needs
 
-entry-at-requires : tie.Need-entry-at-requires
-entry-at-requires c κs = search needs
+entry-asked-requires : tie.Need-entry-asked-requires
+entry-asked-requires c κs = search needs
 
 returns : tie.Need-returns
 returns c = search (needs, told-entry)
@@ -33,10 +33,10 @@ returns-2 : tie.Need-returns-2
 returns-2 c = search (needs, told-none)
 
 add-result : tie.Need-add-result
-add-result c = let h = octet-inside (c .before .before .before .before .before .before .before .before .before .args .m .now) (c .before .before .before .before .before .before .before .before .before .args .at) (c .before .before .before .before .before .before .before .before .before .args .stop) (c .before .before .before .before .before .before .before .before .before .pre .0 .0 .1) (c .before .before .before .before .before .before .before .before .before .pre .1) _ (c .before .before .before .before .before .before .is-component .ensures) (c .before .before .before .before .before .if1 .taken) _ (c .before .before .before .before .entry-at .ensures) (c .before .before .before .before .before .before .before .before .before .pre .0 .0 .2) (c .before .before .before .if2 .left) _ (c .before .before .start-of .ensures) _ (c .before .octet-at .ensures) (c .if3 .left) in omega (arith, h, c .before .before .before .before .before .before .before .before .before .pre .0 .0 .2)
+add-result c = let h = octet-inside (c .before .before .before .before .before .before .before .before .before .args .m .now) (c .before .before .before .before .before .before .before .before .before .args .at) (c .before .before .before .before .before .before .before .before .before .args .stop) (c .before .before .before .before .before .before .before .before .before .pre .0 .0 .1) (c .before .before .before .before .before .before .before .before .before .pre .1) _ (c .before .before .before .before .before .before .is-component .ensures) (c .before .before .before .before .before .if1 .taken) _ (c .before .before .before .before .entry-asked .ensures) (c .before .before .before .before .before .before .before .before .before .pre .0 .0 .2) (c .before .before .before .if2 .left) _ (c .before .before .start-of .ensures) _ (c .before .octet-at .ensures) (c .if3 .left) in omega (arith, h, c .before .before .before .before .before .before .before .before .before .pre .0 .0 .2)
 
 shared-slice-read-result : tie.Need-shared-slice-read-result
-shared-slice-read-result c = octet-inside (c .before .before .before .before .before .before .before .before .before .before .args .m .now) (c .before .before .before .before .before .before .before .before .before .before .args .at) (c .before .before .before .before .before .before .before .before .before .before .args .stop) (c .before .before .before .before .before .before .before .before .before .before .pre .0 .0 .1) (c .before .before .before .before .before .before .before .before .before .before .pre .1) _ (c .before .before .before .before .before .before .before .is-component .ensures) (c .before .before .before .before .before .before .if1 .taken) _ (c .before .before .before .before .before .entry-at .ensures) (c .before .before .before .before .before .before .before .before .before .before .pre .0 .0 .2) (c .before .before .before .before .if2 .left) _ (c .before .before .before .start-of .ensures) _ (c .before .before .octet-at .ensures) (c .before .if3 .left)
+shared-slice-read-result c = octet-inside (c .before .before .before .before .before .before .before .before .before .before .args .m .now) (c .before .before .before .before .before .before .before .before .before .before .args .at) (c .before .before .before .before .before .before .before .before .before .before .args .stop) (c .before .before .before .before .before .before .before .before .before .before .pre .0 .0 .1) (c .before .before .before .before .before .before .before .before .before .before .pre .1) _ (c .before .before .before .before .before .before .before .is-component .ensures) (c .before .before .before .before .before .before .if1 .taken) _ (c .before .before .before .before .before .entry-asked .ensures) (c .before .before .before .before .before .before .before .before .before .before .pre .0 .0 .2) (c .before .before .before .before .if2 .left) _ (c .before .before .before .start-of .ensures) _ (c .before .before .octet-at .ensures) (c .before .if3 .left)
 
 cast-result : tie.Need-cast-result
 cast-result c = omega (arith, c .shared-slice-known3 .given (c .before .before .before .start-of .result + 2))
@@ -58,7 +58,7 @@ known-id-spec =
     (tie.spec
     shared-slice-read-tag
     is-component-requires
-    entry-at-requires
+    entry-asked-requires
     returns
     add-start-of
     start-of-requires

@@ -7,8 +7,8 @@ use Rattle.base.proofs.Tests.{tests}
 use Rattle.read_place.proofs.count_at.Statement.{statement}
 use Rattle.read_place.proofs.count_at.Tie as tie
 
-sub-left : tie.Need-sub-left
-sub-left c = search needs
+add-if1 : tie.Need-add-if1
+add-if1 c = search needs
 
 returns : tie.Need-returns
 unfolding countOf
@@ -34,8 +34,11 @@ returns-3 : tie.Need-returns-3
 unfolding countOf
 returns-3 c = search tests
 
-sub-if4 : tie.Need-sub-if4
-sub-if4 c = search needs
+add-if4 : tie.Need-add-if4
+add-if4 c = search needs
+
+add-if4-2 : tie.Need-add-if4-2
+add-if4-2 c = omega (arith, c .before .shared-slice-known2 .given (c .before .before .before .before .before .args .at + 1))
 
 returns-4 : tie.Need-returns-4
 unfolding countOf
@@ -49,7 +52,7 @@ pub count-at-spec : {M : Type 1} → statement M
 count-at-spec =
     tie.close
     (tie.spec
-    sub-left
+    add-if1
     returns
     shared-slice-read-if2
     returns-2
@@ -57,6 +60,7 @@ count-at-spec =
     shared-slice-read-n
     cast-n
     returns-3
-    sub-if4
+    add-if4
+    add-if4-2
     returns-4
     returns-5)

@@ -1,28 +1,20 @@
 -- `entry_at` meets its contract. Assumes nothing.
 use borrow.Author.Needs.{needs}
-use Rattle.read_place.proofs.Fronts.{stands-inside, entry-stands, entry-wrong}
+use Rattle.read_place.proofs.Fronts.{short-entry}
 use Rattle.read_place.proofs.entry_at.Statement.{statement}
 use Rattle.read_place.proofs.entry_at.Tie as tie
 
-stands-requires : tie.Need-stands-requires
-stands-requires c κs = search needs
-
-add-length-at : tie.Need-add-length-at
-add-length-at c = search needs
-
-length-at-requires : tie.Need-length-at-requires
-length-at-requires c κs = search (needs, stands-inside)
+short-stop-requires : tie.Need-short-stop-requires
+short-stop-requires c κs = search needs
 
 returns : tie.Need-returns
-returns c = search entry-stands
+returns c = search short-entry
 
-wrong-at-requires : tie.Need-wrong-at-requires
-wrong-at-requires c κs = search needs
+entry-asked-requires : tie.Need-entry-asked-requires
+entry-asked-requires c κs = search needs
 
 returns-2 : tie.Need-returns-2
-returns-2 c = search entry-wrong
+returns-2 c = search needs
 
 pub entry-at-spec : {M : Type 1} → statement M
-entry-at-spec =
-    tie.close
-    (tie.spec stands-requires add-length-at length-at-requires returns wrong-at-requires returns-2)
+entry-at-spec = tie.close (tie.spec short-stop-requires returns entry-asked-requires returns-2)

@@ -11,8 +11,11 @@ shared-slice-read-b c = search needs
 cast-b : tie.Need-cast-b
 cast-b c = omega (arith, c .shared-slice-known2 .given (c .before .before .before .args .from))
 
-sub-if3 : tie.Need-sub-if3
-sub-if3 c = search needs
+add-if3 : tie.Need-add-if3
+add-if3 c = search needs
+
+add-if3-2 : tie.Need-add-if3-2
+add-if3-2 c = search needs
 
 add-result : tie.Need-add-result
 add-result c = search needs
@@ -59,7 +62,8 @@ length-at-spec =
     (tie.spec
     shared-slice-read-b
     cast-b
-    sub-if3
+    add-if3
+    add-if3-2
     add-result
     add-result-2
     returns

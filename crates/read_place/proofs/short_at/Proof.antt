@@ -1,9 +1,9 @@
 -- `short_at` meets its contract. Assumes nothing.
 use borrow.Author.Needs.{needs}
-use Rattle.read_place.specs.Places.{shortPlace}
-use Rattle.base.proofs.Tests.{tests}
 use Prim.Native.Nat.{_+_}
 use native.Mathlib.Omega.{arith}
+use Rattle.read_place.specs.Places.{shortPlace}
+use Rattle.base.proofs.Tests.{tests}
 use Rattle.read_place.proofs.short_at.Statement.{statement}
 use Rattle.read_place.proofs.short_at.Tie as tie
 
@@ -11,8 +11,8 @@ returns : tie.Need-returns
 unfolding shortPlace
 returns c = search tests
 
-sub-room : tie.Need-sub-room
-sub-room c = search needs
+add-if2 : tie.Need-add-if2
+add-if2 c = search needs
 
 returns-2 : tie.Need-returns-2
 unfolding shortPlace
@@ -57,6 +57,12 @@ returns-8 : tie.Need-returns-8
 unfolding shortPlace
 returns-8 c = search tests
 
+add-if9 : tie.Need-add-if9
+add-if9 c = search needs
+
+add-if9-2 : tie.Need-add-if9-2
+add-if9-2 c = search needs
+
 returns-9 : tie.Need-returns-9
 unfolding shortPlace
 returns-9 c = search tests
@@ -76,7 +82,7 @@ short-at-spec =
     tie.close
     (tie.spec
     returns
-    sub-room
+    add-if2
     returns-2
     shared-slice-read-first
     add-n
@@ -89,6 +95,8 @@ short-at-spec =
     returns-6
     returns-7
     returns-8
+    add-if9
+    add-if9-2
     returns-9
     add-result-2
     add-result-3
