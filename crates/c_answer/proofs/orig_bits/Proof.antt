@@ -1,0 +1,49 @@
+-- Absent, or both fields. Assumes nothing.
+use borrow.Author.Needs.{needs}
+use Rattle.layout.specs.Layout.{origSpan}
+use Rattle.c_answer.specs.Answer.{origBits}
+use Rattle.c_answer.proofs.orig_bits.Statement.{statement}
+use Rattle.c_answer.proofs.orig_bits.Tie as tie
+
+enum-told : tie.Need-enum-told
+enum-told c = search needs
+
+enum-known-orig : tie.Need-enum-known-orig
+enum-known-orig c = search needs
+
+cast-result : tie.Need-cast-result
+cast-result c = search needs
+
+mul-result : tie.Need-mul-result
+mul-result c = search needs
+
+cast-result-2 : tie.Need-cast-result-2
+cast-result-2 c = search needs
+
+mul-result-2 : tie.Need-mul-result-2
+mul-result-2 c = search needs
+
+add-result : tie.Need-add-result
+add-result c = search needs
+
+returns : tie.Need-returns
+unfolding origBits origSpan
+returns c = rw (c .enum-told .given .1)
+
+returns-2 : tie.Need-returns-2
+unfolding origBits origSpan
+returns-2 c = rw (c .before .before .before .orig .given .1)
+
+pub orig-bits-spec : {M : Type 1} → statement M
+orig-bits-spec =
+    tie.close
+    (tie.spec
+    enum-told
+    enum-known-orig
+    cast-result
+    mul-result
+    cast-result-2
+    mul-result-2
+    add-result
+    returns
+    returns-2)
