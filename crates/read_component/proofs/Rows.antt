@@ -128,12 +128,6 @@ module _ (m : List ℕ) (from stop k at : ℕ) (going : Onward m from stop k at)
           rw next-one (λ q y. going q (rw (one-more m stop k at b c is also no nor most unfull r e) (close-near _ _ at (until stop) r (here m stop k at b c is also no nor most unfull r e) (finite stop) at (until stop) q f (λ a n i z.
           rw (span-drop m at (until stop) n) (closing-rest (λ ws. a ∷ ws) (finite stop) (ask (rowsBody (16 - suc k) (suc k)) (finite stop) (at + n) (part m (at + n) stop)) at n (until stop) q (rw z at y))))))
 
-      pub rows-count : k + 1 ≤ 16
-      rows-count = omega (arith, most, unfull)
-
-      pub rows-less : 16 - (k + 1) < 16 - k
-      rows-less = omega (arith, most, unfull)
-
       pub rows-to : Near r → r ≤ until stop
       rows-to f = placed-near (ask (front (wheres k) FaultKind.UnknownComponent kinds) (finite stop) at (part m at stop)) at (until stop) r (here m stop k at b c is also no nor most unfull r e) f .1
 

@@ -1,27 +1,18 @@
 // The fields that stand in a component, a dialogue or a message: an answer is the place behind the field, or a fault.
 ghost use mathlib.Core.Path.{_≡_};
 ghost use mathlib.Core.List.{[]};
-ghost use Prim.Native.Nat.{_+_, _/_, _%_, _≤_};
-ghost use Rattle.read_place.specs.Places.{Leads, Reads, Finishes, Ready};
+ghost use Prim.Native.Nat.{_/_, _%_};
+ghost use Rattle.read_place.specs.Places.{Leads, Reads, Ready};
 ghost use Rattle.base.specs.Value.{same};
 ghost use Rattle.tcap.specs.WellFormed.{idOk};
 ghost use Rattle.tcap.specs.Productions.{octetItem, nameItem};
-ghost use Rattle.element.specs.Parts.{leafItem, integerItem, level, onlyBody, lastBody};
-ghost use Rattle.element.specs.Walk.{walkItem};
+ghost use Rattle.element.specs.Parts.{leafItem, integerItem};
 use base::piece;
 use read_place::BAD_CONTENTS;
-use read_place::CUT_OFF;
 use read_place::FAULT;
-use read_place::MISSING;
-use read_place::OPEN;
 use read_place::bad_field;
-use read_place::behind;
 use read_place::count_at;
-use read_place::ended;
 use read_place::field_asked;
-use read_place::leave;
-use read_place::unfinished;
-use read_place::walk_element;
 
 // An object identifier.
 pub fn name_at(m: &[u8], at: usize, stop: usize) -> usize
@@ -63,42 +54,6 @@ pub fn small_at(m: &[u8], at: usize, stop: usize, tag: u8, most: u8) -> usize
         return at + 3;
     }
     BAD_CONTENTS + at
-}
-
-// One last element of any kind, or none: the place behind the contents.
-pub fn last_at(m: &[u8], at: usize, stop: usize, left: usize) -> usize
-    requires { ⌜ Ready (now m) at stop × (1 ≤ left) ⌝ }
-    ensures { λ r. ⌜ Finishes (lastBody (level left) (walkItem left)) (now (m .entry)) at stop r ⌝ }
-{
-    if ended(m, at, stop) {
-        return behind(at, stop);
-    }
-    if unfinished(m, at, stop) {
-        return CUT_OFF + at;
-    }
-    let r = walk_element(m, at, stop % OPEN, left);
-    if r >= FAULT {
-        return r;
-    }
-    leave(m, r, stop)
-}
-
-// One last element of any kind: the place behind the contents.
-pub fn sole_at(m: &[u8], at: usize, stop: usize, left: usize) -> usize
-    requires { ⌜ Ready (now m) at stop × (1 ≤ left) ⌝ }
-    ensures { λ r. ⌜ Finishes (onlyBody (level left) (walkItem left)) (now (m .entry)) at stop r ⌝ }
-{
-    if ended(m, at, stop) {
-        return MISSING + at;
-    }
-    if unfinished(m, at, stop) {
-        return CUT_OFF + at;
-    }
-    let r = walk_element(m, at, stop % OPEN, left);
-    if r >= FAULT {
-        return r;
-    }
-    leave(m, r, stop)
 }
 
 // A null.

@@ -37,12 +37,6 @@ unfolding Placed
 placed-near (got a n) p end r e h = omega (arith, e)
 placed-near (bad f) p end r e h = absurd (omega (arith, e, h, far-fault f))
 
-pub closing-near : {A : Type 0} (d : Bool) (x : Got A) (p end r : ℕ) → Closing d p end x r → Near r → r ≤ end
-unfolding Closing Shut
-closing-near true (got a n) p end r e h = omega (arith, e)
-closing-near false (got a n) p end r e h = omega (arith, e)
-closing-near d (bad f) p end r e h = absurd (omega (arith, e, h, far-fault f))
-
 -- a fault is passed on as it is; behind a place the rest is asked there
 module _ {A B : Type 0} (x : Got A) (k : A → ℕ → Got B) (p end r : ℕ) (e : Placed p end x r) where
   pub next-far : (q top : ℕ) → Near end → Far r → Placed q top (next x k) r
@@ -100,9 +94,6 @@ pub closing-blamed : {A : Type 0} (w : Fault → Fault) → Keeps w → (d : Boo
 unfolding Closing blamed
 closing-blamed w h d (got a n) p end r e = e
 closing-blamed w h d (bad g) p end r e = e ∙ sym (h g)
-
-pub keeps-all : (f : Fault) → faultPlace f ≡ faultPlace f
-keeps-all f = refl
 
 -- what is read behind n octets
 pub closing-rest : {A B : Type 0} (f : A → B) (d : Bool) (x : Got A) (p n end r : ℕ) → Closing d (p + n) end x r → Closing d p end (next x (λ b k. got (f b) (n + k))) r

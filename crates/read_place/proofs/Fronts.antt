@@ -123,11 +123,6 @@ module _ (m : List ℕ) (at end r : ℕ) (g : at ≤ end) (h : end ≤ length m)
   pub tag-room : r ≡ tagPlace at (tagOf (span m at end)) → Near r → (at < end) × (at < r) × (r ≤ end)
   tag-room is l = let t = tag-here is l in omega (arith, t .some, t .room, t .place)
 
-tag-far-by : (at r : ℕ) (t : TagRead) (goes : ℕ → ℕ) (mine : ℕ → Bool) (other : ℕ) → Near (at + 4) → (((a s : ℕ) → t ≡ TagRead.Tag a s → s ≤ 4)) → r ≡ tagPlace at t → Far r → r ≡ askedPlace mine goes other at EndRead.More (fronted 1 t)
-unfolding tagPlace askedPlace fronted
-tag-far-by at r (TagRead.Fault k) goes mine other b q e h = e
-tag-far-by at r (TagRead.Tag a s) goes mine other b q e h = absurd (omega (arith, e, h, b, q a s refl))
-
 module _ (m : List ℕ) (at stop other : ℕ) (g : at ≤ until stop) (h : until stop ≤ length m) (more : endOf (finite stop) (part m at stop) ≡ EndRead.More) (r : ℕ) (is : r ≡ tagPlace at (tagOf (part m at stop))) where
   pub wrong-tag : Far r → r ≡ wrongPlace m at stop other
   unfolding frontOf tagPlace fronted askedPlace

@@ -357,8 +357,5 @@ module _ {A : Type 0} (b : Body A) (m : List ℕ) (at stop tag r st s : ℕ) (g 
       )
 
   -- the contents stand within the whole, and their reader's answer is the constructor's
-  pub around-stands : (st ≤ until r) × (until r ≤ length m)
-  around-stands = let i = entered true m at stop tag r g h is near in let z = around-len i (i .len) refl in (z .0, z .1)
-
   pub around-near : Closed st r (ask b (finite r) st (part m st r)) s → Placed at (until stop) here-around s
   around-near c = let i = entered true m at stop tag r g h is near in around-len i (i .len) refl .2 c

@@ -27,11 +27,6 @@ unfolding check next
 next-check true f x k = refl
 next-check false f x k = refl
 
-pub next-next : {A B C : Type 0} (x : Got A) (f : A → ℕ → Got B) (g : B → ℕ → Got C) → next (next x f) g ≡ next x (λ a n. next (f a n) g)
-unfolding next
-next-next (got a n) f g = refl
-next-next (bad f) g h = refl
-
 pub blamed-same : {A : Type 0} (x : Got A) → blamed (λ f. f) x ≡ x
 unfolding blamed
 blamed-same (got a n) = refl

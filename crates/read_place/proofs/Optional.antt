@@ -201,9 +201,6 @@ module _ {A : Type 0} (w : Where) (o u : FaultKind) (x : Item A) (d : Bool) (p :
   other-front EndRead.More (TagRead.Fault k) h = refl
   other-front EndRead.More (TagRead.Tag a s) h = rw (h a s refl) (other-length a s (lengthOf (drop s part) (constructorOf a)))
 
-  pub placed-other : ltb 0 (w .left) ≡ true → ((a s : ℕ) → frontOf 1 part ≡ TagRead.Tag a s → x .mine a ≡ true) → (end r : ℕ) → Placed p end (ask (front w o x) d p part) r → Placed p end (ask (front w u x) d p part) r
-  placed-other deep h end r e = rw (sym (ask-front (front w o x) d p part refl deep ∙ other-front (endOf d part) (frontOf 1 part) h ∙ sym (ask-front (front w u x) d p part refl deep))) e
-
 -- A component: its tag, its length, its contents
 module _ {A : Type 0} (tag : ℕ) (leads : Leads tag) (kind : constructorOf tag ≡ true) (b : Body A) (m : List ℕ) (at stop inner : ℕ) (g : at ≤ until stop) (h : until stop ≤ length m) (entry : inner ≡ entryPlace true m at stop tag) where
   pub around-entry : Far inner → Reads (aroundItem tag b) m at stop inner

@@ -116,9 +116,6 @@ module _ {A : Type 0} (w : Where) (x : Item A) (m : List ℕ) (at stop r : ℕ) 
   bind-value note y Q h =
       rw (ask-bind w x (finite stop) at (part m at stop) note y) (step (λ v n. Q (v .0) (v .1)) _ (λ a n q z. then-blamed (note a) (behind-value (y a) (λ b. (a, b)) n z (Q a) (λ v. Q (v .0) (v .1)) (λ b i. i) (h a q))))
 
-  pub then-value : {B : Type 0} (y : Body B) (Q : A → B → Type 0) → ((a : A) → P a (r - at) → Then (λ b k. Q a b) (ask y (finite stop) r (part m r stop))) → Then (λ v n. Q (v .0) (v .1)) (ask (thenBody w x y) (finite stop) at (part m at stop))
-  then-value y Q h = bind-value silently (λ a. y) Q h
-
   pub done-value : (a : A) (d : Bool) (p : ℕ) (l : List ℕ) → Then (λ b k. b ≡ a) (ask (done w a) d p l)
   done-value a d p l = ask-sound (λ b k. b ≡ a) (done w a) d p l (λ v e f. cc) (λ h i m. absurd (false≢true m))
 
