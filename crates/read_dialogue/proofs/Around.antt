@@ -1,5 +1,5 @@
 -- What stands in a constructor: one element, contents under another name or with other levels left, octets that are kept. Assumes nothing.
-use Prim.Native.Nat.{ℕ, _+_, _-_, _≤_}
+use Prim.Native.Nat.{ℕ, _+_, _≤_}
 use mathlib.Core.Path.{_≡_, refl, sym, ap, ap₂, _∙_, fun-ext}
 use mathlib.Core.Bool.{Bool, true, false}
 use mathlib.Core.List.{List}
@@ -23,7 +23,7 @@ use Rattle.read_place.specs.Places.{Far, Near, until, finite, part, front, Plac
 use Rattle.read_place.proofs.Views.{span-length, span-get, span-drop}
 use Rattle.read_place.proofs.Answers.{Keeps, far, close-near, closing-blamed, closing-rest}
 use Rattle.read_place.proofs.Fronts.{byFront, ask-front}
-use Rattle.read_place.proofs.Onto.{rest, ask-bind, ask-only, ask-map}
+use Rattle.read_place.proofs.Onto.{ask-bind, ask-only, ask-map}
 use Rattle.read_place.proofs.Bodies.{placed-where, only-far, only-near}
 use Rattle.read_place.proofs.Items.{SizeIs, length-sized, Entered, entered, ask-entered, around-near}
 use Rattle.read_place.proofs.Optional.{around-entry, around-read}

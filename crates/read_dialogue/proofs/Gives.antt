@@ -1,11 +1,11 @@
 -- The value of what was read, from the values of its parts: an element gives it, contents have it. Assumes nothing.
 use Prim.Native.Nat.{ℕ, _+_, _≤_}
-use mathlib.Core.Path.{_≡_, refl, sym, ap, ap₂, _∙_}
+use mathlib.Core.Path.{_≡_, refl, sym, ap, _∙_}
 use mathlib.Core.Bool.{Bool, true, false, false≢true}
 use mathlib.Core.List.{List}
-use mathlib.Core.Option.{Option, none, some}
+use mathlib.Core.Option.{none, some}
 use lib.ListN.{length, getD, drop}
-use lib.Dec.{eqb, ltb}
+use lib.Dec.{ltb}
 use Rattle.element.specs.declared.FaultKind.{FaultKind}
 use Rattle.element.specs.declared.EndRead.{EndRead}
 use Rattle.element.specs.declared.TagRead.{TagRead}
@@ -15,17 +15,16 @@ use Rattle.element.specs.Fault.{Fault, at}
 use Rattle.element.specs.Head.{endOf, lengthOf}
 use Rattle.element.specs.Answers.{frontOf}
 use Rattle.element.specs.Ask.{Got, got, bad, check, blamed, Head, definite, indefinite, head, Body, askLength, atEnd, ask}
-use Rattle.element.specs.Parts.{Item, Where, level, done, aroundItem, mapItem, orItem, bindBody, silently, thenBody, onlyBody, lastBody, optBody, mapBody}
+use Rattle.element.specs.Parts.{Item, Where, level, done, aroundItem, mapItem, orItem, onlyBody, lastBody}
 use Rattle.element.proofs.Asking.{Then, fact, void, then-next, then-weaken, then-blamed}
-use Rattle.read_place.specs.Places.{Near, until, finite, part, front, Placed, Reads, Leads, standsOf, entryPlace, lengthSize}
+use Rattle.read_place.specs.Places.{Near, until, finite, part, front, Placed, Reads, Leads, entryPlace, lengthSize}
 use Rattle.read_place.proofs.Answers.{Keeps}
 use Rattle.read_place.proofs.Fronts.{byFront, ask-front}
 use Rattle.read_place.proofs.Onto.{ask-only, ask-last-ended}
 use Rattle.read_place.proofs.Around.{around-ask}
 use Rattle.read_place.proofs.Bodies.{placed-where}
-use Rattle.read_place.proofs.Items.{or-left, or-right}
-use Rattle.read_place.proofs.Values.{step, behind-value, done-value, bind-value, last-value, map-value, opt-none-value, opt-some-value}
-use Rattle.read_dialogue.specs.Dialogues.{Passed, Passes}
+use Rattle.read_place.proofs.Items.{or-right}
+use Rattle.read_place.proofs.Values.{step, behind-value, done-value, last-value}
 
 abbrev pub Gives : {A : Type 0} → Item A → List ℕ → ℕ → ℕ → A → Type 0
 Gives x m at stop v = Then (λ a n. a ≡ v) (ask (front (level 1) FaultKind.Another x) (finite stop) at (part m at stop))
@@ -72,9 +71,6 @@ module _ {A : Type 0} (x : Item A) (m : List ℕ) (at stop : ℕ) (a : A) (g : G
   pub gives-map : {B : Type 0} (f : A → B) → Gives (mapItem f x) m at stop (f a)
   gives-map f = then-front (λ b n. b ≡ a) (λ b n. b ≡ f a) x (mapItem f x) (level 1) (level 1) FaultKind.Another FaultKind.Another (λ b. refl) (finite stop) at (part m at stop) (λ h e. then-next e (λ b n q. fact (ap f q))) refl refl g
 
-  pub gives-first : (y : Item A) → ((b s : ℕ) → frontOf 1 (part m at stop) ≡ TagRead.Tag b s → y .mine b ≡ false) → Gives (orItem x y) m at stop a
-  gives-first y h = rw (or-left (level 1) FaultKind.Another x y (finite stop) at (part m at stop) refl h) g
-
   pub gives-second : (y : Item A) → ((b s : ℕ) → frontOf 1 (part m at stop) ≡ TagRead.Tag b s → y .mine b ≡ false) → Gives (orItem y x) m at stop a
   gives-second y h = rw (or-right (level 1) FaultKind.Another y x (finite stop) at (part m at stop) refl h) g
 
@@ -82,13 +78,6 @@ module _ {A : Type 0} (x : Item A) (m : List ℕ) (at stop : ℕ) (a : A) (g : G
   module _ (r : ℕ) (e : Reads x m at stop r) (near : Near r) (w : Where) (keeps : Keeps (w .owner)) (deep : ltb 0 (w .left) ≡ true) where
     there : Placed at (until stop) (ask (front w FaultKind.Another x) (finite stop) at (part m at stop)) r
     there = placed-where x FaultKind.Another w keeps (finite stop) at (part m at stop) (until stop) r deep e
-
-    pub bind-has : {B : Type 0} (note : A → Fault → Fault) (y : A → Body B) (b : B) → Has (y a) m r stop b → Has (bindBody w note x y) m at stop (a, b)
-    bind-has {B} note y b h =
-        then-weaken (bind-value w x m at stop r there near (λ c n. c ≡ a) (gives-where w deep) note y (λ c u. (c ≡ a) × (u ≡ b)) (λ c i. then-weaken {P = λ u n. u ≡ b} (rw i h) (λ u n j. (i, j)))) (λ v n q. ap₂ (λ (c : A) (u : B). (c, u)) (q .0) (q .1))
-
-    pub then-has : {B : Type 0} (y : Body B) (b : B) → Has y m r stop b → Has (thenBody w x y) m at stop (a, b)
-    then-has y b h = bind-has silently (λ c. y) b h
 
     pub only-has : Has (onlyBody w x) m at stop a
     only-has =
@@ -101,34 +90,10 @@ module _ {A : Type 0} (x : Item A) (m : List ℕ) (at stop : ℕ) (a : A) (g : G
 pub none-has : {A : Type 0} (w : Where) (x : Item A) (m : List ℕ) (at stop : ℕ) → endOf (finite stop) (part m at stop) ≡ EndRead.Ended → Has (lastBody w x) m at stop none
 none-has w x m at stop e = rw (ask-last-ended w x (finite stop) at (part m at stop) e) (fact refl)
 
-pub map-has : {A B : Type 0} (f : A → B) (b : Body A) (m : List ℕ) (at stop : ℕ) (v : A) → Has b m at stop v → Has (mapBody f b) m at stop (f v)
-map-has f b m at stop v h = map-value f b (finite stop) at (part m at stop) (λ a. a ≡ v) (λ c. c ≡ f v) (λ a q. ap f q) h
-
--- one that may be left out, and whose value does not matter
+-- whatever was got
 pub whatever : {A : Type 0} (x : Got A) → Then (λ a n. Unit {0}) x
 whatever (got a n) = fact tt
 whatever (bad f) = void
-
-module _ {A B : Type 0} (tag : ℕ) (x : Item A) (only : (a : ℕ) → x .mine a ≡ eqb a tag) (y : Body B) (full : y .full ≡ false) (deep : ltb 0 (y .left) ≡ true) (another : y .other ≡ FaultKind.Another) (keeps : Keeps (y .owner)) (leads : Leads tag)
-    (m : List ℕ) (at stop : ℕ) (g : at ≤ until stop) (h : until stop ≤ length m) (r : ℕ) (e : Passes tag x m at stop r) (near : Near r) (v : B) where
-  pub pass-has : Has y m r stop v → Has (mapBody (λ u. u .1) (optBody x y)) m at stop v
-  unfolding Passed
-  pass-has q = map-value (λ u. u .1) (optBody x y) (finite stop) at (part m at stop) (λ u. u .1 ≡ v) (λ c. c ≡ v) (λ u i. i) (go (standsOf m at stop tag) refl e)
-    where
-      go : (b : Bool) → standsOf m at stop tag ≡ b → Passed b x m at stop r → Then (λ u n. u .1 ≡ v) (ask (optBody x y) (finite stop) at (part m at stop))
-      go true t e = then-weaken (opt-some-value tag x only y full deep another keeps leads m at stop g h true (sym t) (λ u. u ≡ v) refl r e near (λ a n. Unit {0}) (whatever _) q) (λ u n i. i .1)
-      go false t e = then-weaken (opt-none-value tag x only y full deep another keeps leads m at stop g h false (sym t) (λ u. u ≡ v) refl (rw e at q)) (λ u n i. i .1)
-
--- one that may be left out, and whose value does matter
-module _ {A B : Type 0} (tag : ℕ) (x : Item A) (only : (a : ℕ) → x .mine a ≡ eqb a tag) (y : Body B) (full : y .full ≡ false) (deep : ltb 0 (y .left) ≡ true) (another : y .other ≡ FaultKind.Another) (keeps : Keeps (y .owner)) (leads : Leads tag)
-    (m : List ℕ) (at stop : ℕ) (g : at ≤ until stop) (h : until stop ≤ length m) (b : Bool) (is : b ≡ standsOf m at stop tag) (v : B) where
-  pub opt-has-none : b ≡ false → Has y m at stop v → Has (optBody x y) m at stop (none, v)
-  opt-has-none t q = then-weaken (opt-none-value tag x only y full deep another keeps leads m at stop g h b is (λ u. u ≡ v) t q) (λ u n i. ap₂ (λ (c : Option A) (z : B). (c, z)) (i .0) (i .1))
-
-  pub opt-has-some : b ≡ true → (r : ℕ) → Reads x m at stop r → Near r → (a : A) → Gives x m at stop a → Has y m r stop v → Has (optBody x y) m at stop (some a, v)
-  opt-has-some t r e near a given q =
-      then-weaken (opt-some-value tag x only y full deep another keeps leads m at stop g h b is (λ u. u ≡ v) t r e near (λ c n. c ≡ a) (gives-where x m at stop a given (record { left = y .left; owner = y .owner }) deep) q)
-      (λ u n i. ap₂ (λ (c : Option A) (z : B). (c, z)) (i .0 .1 ∙ ap (λ (c : A). some c) (i .0 .2)) (i .1))
 
 -- A constructor gives what its contents have
 

@@ -7,4 +7,5 @@ pub mod Leaving
 pub mod Values
 pub mod PdusLeft
 pub mod NamesLeft
+pub mod Told
 pub mod Owners

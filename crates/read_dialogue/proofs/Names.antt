@@ -1,13 +1,14 @@
 -- The two names, what stands behind a name, 28 and 6B. Assumes nothing.
-use Prim.Native.Nat.{ℕ, _+_, _-_, _≤_}
+use Prim.Native.Nat.{ℕ, zero, suc, _+_, _-_, _≤_}
 use mathlib.Core.Path.{_≡_, refl, sym, ap, _∙_}
-use mathlib.Core.Bool.{Bool, true, false, _&&_, false≢true}
-use mathlib.Core.List.{List, [], _∷_}
+use mathlib.Core.Bool.{Bool, true, false, cond, false≢true}
+use mathlib.Core.List.{List, []}
 use native.Mathlib.Omega.{arith}
 use lib.ListN.{length, getD, drop, take}
-use lib.Dec.{eqb, ltb}
-use borrow.Author.Tests.{eq-eqb, ne-eqb, ltb-true, ltb-false}
+use lib.Dec.{eqb, ltb, leb}
+use borrow.Author.Tests.{ltb-true, ltb-false, leb-true}
 use Rattle.base.specs.Value.{same}
+use Rattle.base.proofs.Values.{same-equal}
 use Rattle.element.specs.declared.FaultKind.{FaultKind}
 use Rattle.element.specs.declared.LengthRead.{LengthRead}
 use Rattle.element.specs.Element.{constructorOf}
@@ -17,12 +18,12 @@ use Rattle.element.specs.Parts.{Item, level, leafContents, leafItem, aroundItem
 use Rattle.element.specs.Walk.{walkItem}
 use Rattle.element.proofs.Asking.{the-fact}
 use Rattle.element.proofs.Reading.{definite-size, indefinite-size}
-use Rattle.primitive.specs.Primitive.{identifierOk}
+use Rattle.primitive.specs.Primitive.{identifierOk, numbers}
 use Rattle.tcap.specs.Meaning.{Dialogue, single, octets, structured, unstructured}
 use Rattle.tcap.specs.Names.{kindOf, nameKind}
 use Rattle.tcap.specs.WellFormed.{deepestLevel}
 use Rattle.tcap.specs.Productions.{nameItem, heldItem, externalBody, inside6B, dialogueItem}
-use Rattle.read_place.specs.Places.{Far, Near, until, faults, finite, part, faultPlace, front, Placed, nothing, Reads, Finishes, standsOf, entryPlace, lengthPlace, lengthSize}
+use Rattle.read_place.specs.Places.{Far, Near, until, faults, finite, part, faultPlace, front, Placed, nothing, Reads, Finishes, standsOf, entryPlace, badPlace, countOf, base, badContents, lengthPlace, lengthSize, Ready}
 use Rattle.read_place.proofs.Views.{span-length, span-take}
 use Rattle.read_place.proofs.Answers.{Keeps, far, placed-near}
 use Rattle.read_place.proofs.Bodies.{placed-where, bind-far, only-far, only-near, map-closed}
@@ -30,8 +31,8 @@ use Rattle.read_place.proofs.Items.{Entered, entered, ask-entered, entry-far, s
 use Rattle.read_place.proofs.Optional.{around-entry, around-read}
 use Rattle.read_place.proofs.Values.{placed-got, value-leaf}
 use Rattle.read_field.proofs.Choices.{first-of, second-of, reads-map}
-use Rattle.read_field.proofs.Fields.{name-sized}
-use Rattle.read_dialogue.specs.Dialogues.{pduItem, Holds}
+use Rattle.read_field.proofs.Fields.{name-none, name-good, name-bad, count-room, name-sized}
+use Rattle.read_dialogue.specs.Dialogues.{pduItem, NameCounted, Holds}
 use Rattle.read_dialogue.proofs.Around.{one-entry, one-far, one-near, bind-known}
 
 -- Behind another name: A0 around one element
@@ -144,6 +145,85 @@ module _ (m : List ℕ) (at stop r : ℕ) (e : Reads nameItem m at stop r) where
       external-near f q y =
           map-closed (λ v. v .1) (bindBody (level 13) silently nameItem (λ n. onlyBody (level 13) (held-by n))) m at stop q (bind-known (level 13) nameItem m at stop r name-lifted (λ n. onlyBody (level 13) (held-by n)) q near (λ a n i z.
           only-near (level 13) (held-by a) m r stop s (held-lifted a (octets-are a n i z)) (λ f. refl) refl q f y))
+
+-- by how many octets are counted of the name: none, one of the two names, which are sound, or another
+
+pub bad-far : (m : List ℕ) (at stop tag r : ℕ) → r ≡ badPlace m at stop tag → Far r
+unfolding badPlace base
+bad-far m at stop tag r e = rw e (go (entryPlace false m at stop tag) (leb faults (entryPlace false m at stop tag)) refl)
+  where
+    go : (q : ℕ) (b : Bool) → leb faults q ≡ b → Far (cond b q (badContents + at))
+    go q true t = leb-true faults q t
+    go q false t = omega arith
+
+sound-name : (c : List ℕ) (s u : Bool) → same structured c ≡ s → same unstructured c ≡ u → (kindOf s u ≡ 0 → ⊥) → identifierOk c ≡ true
+unfolding kindOf identifierOk numbers
+sound-name c true u i j f = rw (same-equal structured c i)
+sound-name c false true i j f = rw (same-equal unstructured c j)
+sound-name c false false i j f = absurd (f refl)
+
+pub name-other : (m : List ℕ) (at n k : ℕ) (xs : List ℕ) → xs ≡ take n (drop (at + 2) m) → k ≡ nameKind xs → k ≡ 0 → nameKind (take n (drop (at + 2) m)) ≡ 0
+name-other m at n k xs xs-is told z = ap nameKind (sym xs-is) ∙ sym told ∙ z
+
+module _ (m : List ℕ) (at stop n : ℕ) (ready : Ready m at stop) where
+  pub name-lacks : n ≡ countOf (until stop - at) (getD m at 0) (getD m (at + 1) 0) 6 16 → n ≡ 0 → (r : ℕ) → r ≡ badPlace m at stop 6 → Finishes (externalBody deepestLevel) m at stop r
+  name-lacks is z r e = external-far m at stop r (name-none m at stop n (ready .0 .0) (ready .0 .1) is z r e) (bad-far m at stop 6 r e)
+
+  pub name-counted : n ≡ countOf (until stop - at) (getD m at 0) (getD m (at + 1) 0) 6 16 → (n ≡ 0 → ⊥) → NameCounted m at stop n
+  name-counted is some = (is, positive n some)
+    where
+      positive : (k : ℕ) → (k ≡ 0 → ⊥) → 1 ≤ k
+      positive zero f = absurd (f refl)
+      positive (suc k) f = omega arith
+
+  module _ (counted : NameCounted m at stop n) where
+    there : n ≡ 0 → ⊥
+    there z = omega (arith, z, counted .1)
+
+    pub name-to : at + 2 + n ≤ until stop
+    name-to = count-room m at (until stop) 6 16 n (counted .0) there .0
+
+    pub name-near : Near (at + 2 + n)
+    name-near = omega (arith, name-to)
+
+    module _ (xs : List ℕ) (xs-is : xs ≡ take n (drop (at + 2) m)) where
+      pub piece-is : xs ≡ take (at + 2 + n - (at + 2)) (drop (at + 2) m)
+      piece-is = let z : at + 2 + n - (at + 2) ≡ n = omega arith in rw z xs-is
+
+      abbrev pub Behind-name : ℕ → Type 0
+      Behind-name r = Holds (same structured (take (at + 2 + n - (at + 2)) (drop (at + 2) m))) (same unstructured (take (at + 2 + n - (at + 2)) (drop (at + 2) m))) m (at + 2 + n) stop r
+
+      module _ (k : ℕ) (told : k ≡ nameKind xs) (known : k ≡ 0 → ⊥) where
+        pub known-name : Reads nameItem m at stop (at + 2 + n)
+        known-name = name-good m at stop n (ready .0 .0) (ready .0 .1) (counted .0) there xs true xs-is (sym (sound-name xs (same structured xs) (same unstructured xs) refl refl (λ z. known (told ∙ z)))) refl
+
+        module _ (r : ℕ) (e : Reads (aroundItem 160 (onlyBody (level 12) (pduItem (eqb k 1)))) m (at + 2 + n) stop r) where
+          pub known-behind : Behind-name r
+          known-behind = held-known m (at + 2 + n) stop r (at + 2) k xs piece-is told known e
+
+          pub known-far : Far r → Finishes (externalBody deepestLevel) m at stop r
+          known-far f = external-held m at stop (at + 2 + n) known-name (ready .0 .1) name-near r known-behind f
+
+          pub known-near : Near r → (s : ℕ) → Finishes nothing m r stop s → Finishes (externalBody deepestLevel) m at stop s
+          known-near f s q = external-near m at stop (at + 2 + n) known-name (ready .0 .1) name-near r known-behind f s q
+
+      module _ (other : nameKind (take n (drop (at + 2) m)) ≡ 0) (b : Bool) (told : b ≡ identifierOk xs) where
+        pub other-bad : b ≡ false → Finishes (externalBody deepestLevel) m at stop (badContents + at)
+        other-bad t = external-far m at stop (badContents + at) (name-bad m at stop n (ready .0 .0) (ready .0 .1) (counted .0) there xs b xs-is told t) (omega arith)
+
+        module _ (t : b ≡ true) where
+          pub other-name : Reads nameItem m at stop (at + 2 + n)
+          other-name = name-good m at stop n (ready .0 .0) (ready .0 .1) (counted .0) there xs b xs-is told t
+
+          module _ (r : ℕ) (e : Holds false false m (at + 2 + n) stop r) where
+            pub other-behind : Behind-name r
+            other-behind = held-outside m (at + 2 + n) stop r (at + 2) 0 xs piece-is (sym other ∙ ap nameKind (sym xs-is)) refl e
+
+            pub other-far : Far r → Finishes (externalBody deepestLevel) m at stop r
+            other-far f = external-held m at stop (at + 2 + n) other-name (ready .0 .1) name-near r other-behind f
+
+            pub other-near : Near r → (s : ℕ) → Finishes nothing m r stop s → Finishes (externalBody deepestLevel) m at stop s
+            other-near f s q = external-near m at stop (at + 2 + n) other-name (ready .0 .1) name-near r other-behind f s q
 
 pub holds-within : (s u : Bool) (m : List ℕ) (at stop r : ℕ) → Holds s u m at stop r → Near r → r ≤ until stop
 unfolding Holds

@@ -20,10 +20,11 @@ use Rattle.element.specs.Parts.{Item, level, leafItem, aroundItem, mapItem, fir
 use Rattle.element.specs.Walk.{walkItem}
 use Rattle.element.proofs.Asking.{Then, fact, void, then-next, then-blamed, ask-sound}
 use Rattle.element.proofs.Reading.{definite-size, indefinite-size}
+use Rattle.primitive.specs.Primitive.{identifierOk}
 use Rattle.tcap.specs.Meaning.{Dialogue, single, octets, structured, unstructured}
 use Rattle.tcap.specs.WellFormed.{deepestLevel}
 use Rattle.tcap.specs.Productions.{nameItem, heldItem, externalBody, inside6B, dialogueItem}
-use Rattle.read_place.specs.Places.{Far, Near, until, finite, part, front, nothing, Reads, Finishes, endedOf, unfinishedOf, standsOf, entryPlace, lengthPlace, lengthSize, Walked, cutOff, missing}
+use Rattle.read_place.specs.Places.{Far, Near, until, finite, part, front, nothing, Reads, Finishes, endedOf, unfinishedOf, standsOf, entryPlace, lengthPlace, lengthSize, Ready, Walked, cutOff, missing, badContents}
 use Rattle.read_place.specs.Laying.{layText, laySpan, layName, layDialogue}
 use Rattle.read_place.specs.Leaves.{Left, Leaves, LeavesAll, untold}
 use Rattle.read_place.proofs.Views.{span-length, span-drop, span-cut}
@@ -33,12 +34,12 @@ use Rattle.read_place.proofs.Bodies.{placed-where}
 use Rattle.read_place.proofs.Walks.{walked-near}
 use Rattle.read_place.proofs.Items.{SizeIs, Entered, entered, stands-here, stands-only}
 use Rattle.read_place.proofs.Optional.{here-placed, sole-missing, sole-cut, sole-walk-far, sole-walk, entry-inside, entry-from, entry-to, reads-within}
-use Rattle.read_place.proofs.Leaves.{leaves-far, left-blamed, left-next, left-where, only-left, map-left, around-left}
+use Rattle.read_place.proofs.Leaves.{leaves-far, leaves-all-far, left-blamed, left-next, left-where, only-left, map-left, around-left}
 use Rattle.read_place.proofs.Values.{value-walk}
-use Rattle.read_dialogue.specs.Dialogues.{pduItem, Holds, textAt, layElse, Lays}
+use Rattle.read_dialogue.specs.Dialogues.{pduItem, NameCounted, Holds, textAt, layElse, Lays}
 use Rattle.tcap.specs.Names.{kindOf, nameKind}
 use Rattle.read_dialogue.proofs.Around.{size-is}
-use Rattle.read_dialogue.proofs.Names.{single-near, name-lifted, octets-read, outside-octets, dialogue-keeps}
+use Rattle.read_dialogue.proofs.Names.{single-near, name-lifted, octets-read, outside-octets, name-to, name-near, piece-is, known-name, known-behind, other-bad, other-name, other-behind, dialogue-keeps}
 use Rattle.read_dialogue.proofs.Gives.{whatever, gives-where, around-gives}
 use Rattle.read_dialogue.proofs.Values.{known, name-gives, octets-gives}
 use Rattle.read_dialogue.proofs.Leaving.{value-left, same-left, span-laid, leaves-map, leaves-first, one-left, known-left}
@@ -196,6 +197,23 @@ module _ (m : List ℕ) (at stop r : ℕ) (h : until stop ≤ length m) (e : Rea
       (known-left _ _ at (until stop) r named (λ v l. layDialogue (v .1) l) old new (name-lifted m at stop r e) (gives-where nameItem m at stop named (name-gives m at stop r h near e) (level 13) refl) (λ n z.
       left-blamed untold (λ v l. layDialogue (v .1) l) (silently named) (λ f l t. tt) _ old new
       (rw (span-drop m at (until stop) n, ← z) (left-next untold layDialogue (λ v l. layDialogue (v .1) l) (λ b. (named, b)) (λ k. n + k) (ask (onlyBody (level 13) (held-by named)) (finite stop) r (part m r stop)) old old new (λ b. refl) behind)))))
+
+module _ (m : List ℕ) (at stop n : ℕ) (ready : Ready m at stop) (counted : NameCounted m at stop n) (xs : List ℕ) (xs-is : xs ≡ take n (drop (at + 2) m)) (old new : List ℕ) where
+  pub known-laid : (k : ℕ) → k ≡ nameKind xs → (k ≡ 0 → ⊥) → (r : ℕ) → Reads (aroundItem 160 (onlyBody (level 12) (pduItem (eqb k 1)))) m (at + 2 + n) stop r → Near r
+      → Leaves layDialogue untold (aroundItem 160 (onlyBody (level 12) (pduItem (eqb k 1)))) m (at + 2 + n) stop old new → LeavesAll layDialogue untold (externalBody deepestLevel) m at stop old new
+  known-laid k told f r e near q =
+      external-left m at stop (at + 2 + n) (ready .0 .1) (known-name m at stop n ready counted xs xs-is k told f) (name-near m at stop n ready counted) r (known-behind m at stop n ready counted xs xs-is k told f r e) near old new
+      (held-known-left m (at + 2 + n) stop (at + 2) k xs (piece-is m at stop n ready counted xs xs-is) told old new f q)
+
+  pub other-bad-left : nameKind (take n (drop (at + 2) m)) ≡ 0 → (b : Bool) → b ≡ identifierOk xs → b ≡ false → LeavesAll layDialogue untold (externalBody deepestLevel) m at stop old new
+  other-bad-left other b told t = leaves-all-far layDialogue (externalBody deepestLevel) m at stop (badContents + at) old new (other-bad m at stop n ready counted xs xs-is other b told t) (omega arith)
+
+  pub other-laid : nameKind (take n (drop (at + 2) m)) ≡ 0 → (b : Bool) → b ≡ identifierOk xs → b ≡ true → (r : ℕ) → Holds false false m (at + 2 + n) stop r → Near r → (mid : List ℕ) → mid ≡ layText 24 (at + 2) n old → Lays layElse false false m (at + 2 + n) stop mid new
+      → LeavesAll layDialogue untold (externalBody deepestLevel) m at stop old new
+  other-laid other b told t r e near mid z q =
+      let size : at + 2 + n - (at + 2) ≡ n = omega arith in
+      external-left m at stop (at + 2 + n) (ready .0 .1) (other-name m at stop n ready counted xs xs-is other b told t) (name-near m at stop n ready counted) r (other-behind m at stop n ready counted xs xs-is other b told t r e) near old new
+      (held-outside-left m (at + 2 + n) stop (at + 2) 0 xs (piece-is m at stop n ready counted xs xs-is) (sym other ∙ ap nameKind (sym xs-is)) old new refl (name-to m at stop n ready counted) (ready .0 .1) mid (rw size z) q)
 
 -- 28, and 6B around it
 

@@ -1,16 +1,16 @@
--- Whom the first fault in 6B belongs to: not in the number that is answered. Assumes nothing.
+-- Whom the first fault in 6B belongs to, and what is told of it. Assumes nothing.
 use Prim.Native.Nat.{ℕ, _+_, _≤_}
-use mathlib.Core.Path.{_≡_, refl, sym, _∙_}
+use mathlib.Core.Path.{_≡_, refl, sym}
 use mathlib.Core.Bool.{Bool, true, false, cond}
 use mathlib.Core.List.{List}
 use native.Mathlib.Omega.{arith}
-use lib.ListN.{length, getD, drop}
+use lib.ListN.{length, getD, drop, set}
 use Rattle.element.specs.declared.FaultKind.{FaultKind}
 use Rattle.element.specs.declared.EndRead.{EndRead}
 use Rattle.element.specs.declared.TagRead.{TagRead}
 use Rattle.element.specs.declared.LengthRead.{LengthRead}
 use Rattle.element.specs.Element.{constructorOf}
-use Rattle.element.specs.Fault.{Owner, portion, dialogue, Fault, fault, Text, at, inDialogue}
+use Rattle.element.specs.Fault.{Owner, portion, dialogue, fault, Text, at, inDialogue}
 use Rattle.element.specs.Head.{endOf, lengthOf}
 use Rattle.element.specs.Answers.{frontOf}
 use Rattle.element.specs.Ask.{Got, got, bad, next, check, blamed, definite, indefinite, head, Body, askLength, atEnd, askEnd, ask}
@@ -19,7 +19,10 @@ use Rattle.element.proofs.Reading.{definite-size}
 use Rattle.tcap.specs.Meaning.{Dialogue}
 use Rattle.tcap.specs.WellFormed.{deepestLevel}
 use Rattle.tcap.specs.Productions.{externalBody, inside6B, dialogueItem}
-use Rattle.read_place.specs.Places.{Far, Near, until, finite, part, front, Placed, Reads, Leads, endedOf, unfinishedOf, standsOf, entryPlace, lengthPlace, lengthSize, wrongPlace, base}
+use Rattle.read_place.specs.Places.{Far, Near, until, finite, part, front, nothing, Placed, Reads, Finishes, Leads, standsOf, entryPlace, lengthPlace, lengthSize, wrongPlace, Ready, base, endedOf, unfinishedOf}
+use Rattle.read_place.specs.Laying.{layDialogue}
+use Rattle.read_place.specs.Leaves.{Leaves, untold}
+use Rattle.read_place.specs.Blames.{Blames}
 use Rattle.read_place.proofs.Around.{around-ask}
 use Rattle.read_place.proofs.Views.{span-length, span-drop}
 use Rattle.read_place.proofs.Answers.{far-fault}
@@ -28,8 +31,10 @@ use Rattle.read_place.proofs.Walks.{unfinished-is}
 use Rattle.read_place.proofs.Onto.{ask-only}
 use Rattle.read_place.proofs.Bodies.{placed-where}
 use Rattle.read_place.proofs.Items.{Entered, ask-entered, stands-here, stands-other}
-use Rattle.read_dialogue.specs.Dialogues.{Belongs, ownerOf, Owns}
-use Rattle.read_dialogue.proofs.Names.{dialogue-keeps}
+use Rattle.read_dialogue.specs.Dialogues.{ownerMark}
+use Rattle.read_dialogue.proofs.Names.{dialogue-keeps, dialogue-entry, dialogue-far, dialogue-near}
+use Rattle.read_dialogue.proofs.NamesLeft.{stood, dialogue-left}
+use Rattle.read_dialogue.proofs.Told.{Belongs, Says, says-portion, says-dialogue, told-far, told-near}
 
 -- What is put around a fault does not change whom it belongs to
 
@@ -93,6 +98,12 @@ module _ {A : Type 0} (tag : ℕ) (leads : Leads tag) (kind : constructorOf tag 
           rw (ask-entered true m at stop tag inner g h entry (aroundItem tag b) leads kind (λ a. refl) i) (length-belongs (lengthOf (part m (at + 1) stop) true) refl g e (omega (arith, z .0)))
       go false t e = rw (ask-front (front (level 1) FaultKind.Another (aroundItem tag b)) (finite stop) at (part m at stop) refl refl) (other-belongs (aroundItem tag b) (finite stop) at (part m at stop) (endOf (finite stop) (part m at stop)) (frontOf 1 (part m at stop)) (λ a s z. stands-other m at stop tag h t a s z))
 
+-- the owner of the first fault in the contents of 6B, by what stands at its place
+ownerOf : EndRead → Owner
+ownerOf EndRead.Ended = portion
+ownerOf EndRead.Unfinished = portion
+ownerOf EndRead.More = dialogue
+
 -- An element inside 6B, and what must not come behind it
 
 module _ {A : Type 0} (d : Bool) (p : ℕ) (part : List ℕ) where
@@ -115,70 +126,97 @@ module _ {A : Type 0} (d : Bool) (p : ℕ) (part : List ℕ) where
   more-belongs : (x : Item A) → endOf d part ≡ EndRead.More → Belongs dialogue (ask (front (inside6B deepestLevel) FaultKind.Another x) d p part)
   more-belongs x e = rw (ask-front (front (inside6B deepestLevel) FaultKind.Another x) d p part refl refl, e) (owned-front x (frontOf 1 part))
 
-  done-by : (a : A) (e : EndRead) (t : TagRead) → (e ≡ EndRead.Unfinished → ⊥) → Belongs dialogue (byFront (done (inside6B deepestLevel) a) d p part e t)
-  unfolding byFront atEnd check
-  done-by a EndRead.Ended t h = unfold Belongs in tt
-  done-by a EndRead.Unfinished t h = absurd (h refl)
-  done-by a EndRead.More (TagRead.Fault k) h = unfold Belongs inDialogue in refl
-  done-by a EndRead.More (TagRead.Tag b s) h = unfold Belongs inDialogue in refl
+  done-by : (a : A) (e : EndRead) (t : TagRead) → Belongs (ownerOf e) (byFront (done (inside6B deepestLevel) a) d p part e t)
+  unfolding byFront atEnd check ownerOf
+  done-by a EndRead.Ended t = unfold Belongs in tt
+  done-by a EndRead.Unfinished t = unfold Belongs in refl
+  done-by a EndRead.More (TagRead.Fault k) = unfold Belongs inDialogue in refl
+  done-by a EndRead.More (TagRead.Tag b s) = unfold Belongs inDialogue in refl
 
-  done-belongs : (a : A) → (endOf d part ≡ EndRead.Unfinished → ⊥) → Belongs dialogue (ask (done (inside6B deepestLevel) a) d p part)
-  done-belongs a h = rw (ask-front (done (inside6B deepestLevel) a) d p part refl refl) (done-by a (endOf d part) (frontOf 1 part) h)
+  done-belongs : (a : A) → Belongs (ownerOf (endOf d part)) (ask (done (inside6B deepestLevel) a) d p part)
+  done-belongs a = rw (ask-front (done (inside6B deepestLevel) a) d p part refl refl) (done-by a (endOf d part) (frontOf 1 part))
 
-  cut-belongs : (b : Body A) → endOf d part ≡ EndRead.Unfinished → Belongs portion (ask b d p part)
-  unfolding ask askEnd Belongs
-  cut-belongs b e = rw e
-
-finished : (e : EndRead) (c : Bool) → c ≡ unfinishedOf e → c ≡ false → e ≡ EndRead.Unfinished → ⊥
-unfolding unfinishedOf
-finished EndRead.Ended c i t e = let z : _≡_ {A = ℕ} 0 1 = cc in omega arith
-finished EndRead.Unfinished c i t e = let z : _≡_ {A = Bool} true false = sym i ∙ t in let y : _≡_ {A = ℕ} 0 1 = cc in omega arith
-finished EndRead.More c i t e = let z : _≡_ {A = ℕ} 0 1 = cc in omega arith
+  only-belongs : (x : Item A) (end r : ℕ) → Placed p end (ask (front (inside6B deepestLevel) FaultKind.Another x) d p part) r → Near end → Far r → Belongs (ownerOf (endOf d part)) (ask (onlyBody (inside6B deepestLevel) x) d p part)
+  unfolding ask askEnd atEnd Belongs ownerOf
+  only-belongs x end r e b f = go (endOf d part) refl
+    where
+      go : (z : EndRead) → endOf d part ≡ z → Belongs (ownerOf z) (ask (onlyBody (inside6B deepestLevel) x) d p part)
+      go EndRead.Ended q = rw q
+      go EndRead.Unfinished q = rw q
+      go EndRead.More q = rw (ask-only (inside6B deepestLevel) x d p part) (belongs-far _ _ p end r e dialogue b f (more-belongs x q))
 
 -- 6B
+
+module _ (e : EndRead) (b : Bool) (is : b ≡ endedOf e) where
+  pub mark-ended : b ≡ true → 0 ≡ ownerMark e
+  unfolding ownerMark
+  mark-ended t = rw (ended-is e b is t)
+
+  module _ (c : Bool) (also : c ≡ unfinishedOf e) where
+    pub mark-unfinished : c ≡ true → 0 ≡ ownerMark e
+    unfolding ownerMark
+    mark-unfinished t = rw (unfinished-is e c also t)
+
+    pub mark-more : b ≡ false → c ≡ false → 1 ≡ ownerMark e
+    unfolding ownerMark
+    mark-more left whole = rw (more-here e b c is also left whole)
+
+says-mark : (l : List ℕ) (e : EndRead) → length l ≡ 428 → Says (ownerOf e) (set l 0 (ownerMark e))
+unfolding ownerMark ownerOf
+says-mark l EndRead.Ended long = says-portion l long
+says-mark l EndRead.Unfinished long = says-portion l long
+says-mark l EndRead.More long = says-dialogue l long
 
 abbrev external : Item (Dialogue Text)
 external = aroundItem 40 (externalBody deepestLevel)
 
-module _ (m : List ℕ) (at stop inner : ℕ) (g : at ≤ until stop) (h : until stop ≤ length m) (entry : inner ≡ entryPlace true m at stop 107) where
-  pub blames-entry : Far inner → Owns false m at stop
-  unfolding ownerOf constructorOf
-  blames-entry f = entry-belongs 107 (omega arith, omega arith, omega arith) refl (onlyBody (inside6B deepestLevel) external) m at stop inner g h entry f
+abbrev contents : Body (Dialogue Text)
+contents = onlyBody (inside6B deepestLevel) external
 
-  module _ (top : length m ≤ 65535) (near : Near inner) (st : ℕ) (start : st ≡ at + 1 + lengthSize (getD m (at + 1) 0)) (b : Bool) (is : b ≡ endedOf (endOf (finite inner) (part m st inner))) where
-    within : (w : Owner) → Belongs w (ask (onlyBody (inside6B deepestLevel) external) (finite inner) st (part m st inner)) → Belongs w (ask (front (level 1) FaultKind.Another (dialogueItem deepestLevel)) (finite stop) at (part m at stop))
+abbrev Told : List ℕ → ℕ → ℕ → List ℕ → List ℕ → Type 0
+Told m at stop old new = Leaves layDialogue Blames (dialogueItem deepestLevel) m at stop old new
+
+module _ (m : List ℕ) (at stop : ℕ) (ready : Ready m at stop) (there : standsOf m at stop 107 ≡ true) (inner : ℕ) (is : inner ≡ lengthPlace at (at + 1) (until stop) (lengthOf (part m (at + 1) stop) true)) (old : List ℕ) where
+  g : at ≤ until stop
+  g = ready .0 .0
+
+  h : until stop ≤ length m
+  h = ready .0 .1
+
+  top : length m ≤ 65535
+  top = ready .0 .2
+
+  entry : inner ≡ entryPlace true m at stop 107
+  entry = stood m at stop g h there inner is
+
+  pub entry-told : Far inner → length old ≡ 428 → Told m at stop old (set old 0 0)
+  unfolding constructorOf
+  entry-told f long =
+      told-far layDialogue portion _ old (set old 0 0) (entry-belongs 107 (omega arith, omega arith, omega arith) refl contents m at stop inner g h entry f) (says-portion old long) at (until stop) inner (dialogue-entry m at stop inner g h entry f) (omega arith) f
+
+  module _ (near : Near inner) (st : ℕ) (start : st ≡ at + 1 + lengthSize (getD m (at + 1) 0)) (r : ℕ) (e : Reads external m st inner r) (mid : List ℕ) where
+    within : (w : Owner) → Belongs w (ask contents (finite inner) st (part m st inner)) → Belongs w (ask (front (level 1) FaultKind.Another (dialogueItem deepestLevel)) (finite stop) at (part m at stop))
     unfolding constructorOf
-    within w e = let (size, is) = around-ask (onlyBody (inside6B deepestLevel) external) m at stop 107 inner st g h top (omega arith, omega arith, omega arith) refl entry near start in rw is (rest-belongs w (λ v. v) size _ e)
+    within w e = let (size, is) = around-ask contents m at stop 107 inner st g h top (omega arith, omega arith, omega arith) refl entry near start in rw is (rest-belongs w (λ v. v) size _ e)
 
-    pub blames-missing : b ≡ true → Owns false m at stop
-    unfolding ownerOf ask askEnd atEnd Belongs
-    blames-missing t = within portion (rw (ended-is (endOf (finite inner) (part m st inner)) b is t))
+    here : Placed st (until inner) (ask (front (inside6B deepestLevel) FaultKind.Another external) (finite inner) st (part m st inner)) r
+    here = placed-where external FaultKind.Another (inside6B deepestLevel) dialogue-keeps (finite inner) st (part m st inner) (until inner) r refl e
 
-    module _ (left : b ≡ false) (c : Bool) (also : c ≡ unfinishedOf (endOf (finite inner) (part m st inner))) where
-      pub blames-cut : c ≡ true → Owns false m at stop
-      unfolding ownerOf
-      blames-cut t = within portion (cut-belongs (finite inner) st (part m st inner) (onlyBody (inside6B deepestLevel) external) (unfinished-is (endOf (finite inner) (part m st inner)) c also t))
+    marked : (z : EndRead) (s b : ℕ) → Reads (dialogueItem deepestLevel) m at stop s → Far s → b ≡ ownerMark z → length mid ≡ 428 → Belongs (ownerOf z) (ask (front (level 1) FaultKind.Another (dialogueItem deepestLevel)) (finite stop) at (part m at stop)) → Told m at stop old (set mid 0 b)
+    marked z s b q f is long mine = rw is (told-far layDialogue (ownerOf z) _ old (set mid 0 (ownerMark z)) mine (says-mark mid z long) at (until stop) s q (omega arith) f)
 
-      module _ (whole : c ≡ false) (r : ℕ) (e : Reads external m st inner r) where
-        here : Placed st (until inner) (ask (front (inside6B deepestLevel) FaultKind.Another external) (finite inner) st (part m st inner)) r
-        here = placed-where external FaultKind.Another (inside6B deepestLevel) dialogue-keeps (finite inner) st (part m st inner) (until inner) r refl e
+    pub inside-told : Far r → (b : ℕ) → b ≡ ownerMark (endOf (finite inner) (part m st inner)) → length mid ≡ 428 → Told m at stop old (set mid 0 b)
+    inside-told f b is long =
+        marked (endOf (finite inner) (part m st inner)) r b (dialogue-far m at stop inner g h entry top near st start r e f) f is long (within _ (only-belongs (finite inner) st (part m st inner) external (until inner) r here (omega arith) f))
 
-        pub blames-inside : Far r → Owns true m at stop
-        unfolding ownerOf
-        blames-inside f =
-            within dialogue (rw (ask-only (inside6B deepestLevel) external (finite inner) st (part m st inner)) (belongs-far _ _ st (until inner) r here dialogue (omega arith) f
-            (more-belongs (finite inner) st (part m st inner) external (more-here (endOf (finite inner) (part m st inner)) b c is also left whole))))
+    module _ (found : Near r) (s : ℕ) (y : Finishes nothing m r inner s) where
+      behind-belongs : (w : Owner) → ((a : Dialogue Text) → Belongs w (ask (done (inside6B deepestLevel) a) (finite inner) r (part m r inner))) → Belongs w (ask contents (finite inner) st (part m st inner))
+      behind-belongs w q =
+          rw (ask-only (inside6B deepestLevel) external (finite inner) st (part m st inner)) (belongs-near _ _ st (until inner) r here w found (λ a n z.
+          rw (span-drop m st (until inner) n) (rest-belongs w (λ b. a) (λ k. n + k) (ask (done (inside6B deepestLevel) a) (finite inner) (st + n) (part m (st + n) inner)) (rw z at (q a)))))
 
-        module _ (found : Near r) (d : Bool) (last : d ≡ unfinishedOf (endOf (finite inner) (part m r inner))) where
-          behind-it : (w : Owner) → ((a : Dialogue Text) → Belongs w (ask (done (inside6B deepestLevel) a) (finite inner) r (part m r inner))) → Belongs w (ask (front (level 1) FaultKind.Another (dialogueItem deepestLevel)) (finite stop) at (part m at stop))
-          behind-it w q =
-              within w (rw (ask-only (inside6B deepestLevel) external (finite inner) st (part m st inner)) (belongs-near _ _ st (until inner) r here w found (λ a n z.
-              rw (span-drop m st (until inner) n) (rest-belongs w (λ b. a) (λ k. n + k) (ask (done (inside6B deepestLevel) a) (finite inner) (st + n) (part m (st + n) inner)) (rw z at (q a))))))
+      pub behind-told : Far s → (b : ℕ) → b ≡ ownerMark (endOf (finite inner) (part m r inner)) → length mid ≡ 428 → Told m at stop old (set mid 0 b)
+      behind-told f b is long = marked (endOf (finite inner) (part m r inner)) s b (dialogue-near m at stop inner g h entry top near st start r e found s y) f is long (within _ (behind-belongs _ (done-belongs (finite inner) r (part m r inner))))
 
-          pub blames-end : d ≡ true → Owns false m at stop
-          unfolding ownerOf
-          blames-end t = behind-it portion (λ a. cut-belongs (finite inner) r (part m r inner) (done (inside6B deepestLevel) a) (unfinished-is (endOf (finite inner) (part m r inner)) d last t))
-
-          pub blames-behind : d ≡ false → Owns true m at stop
-          unfolding ownerOf
-          blames-behind t = behind-it dialogue (λ a. done-belongs (finite inner) r (part m r inner) a (finished (endOf (finite inner) (part m r inner)) d last t))
+      pub dialogue-told : Near s → Leaves layDialogue untold external m st inner old mid → Told m at stop old mid
+      dialogue-told f q = told-near layDialogue _ old mid at (until stop) s (dialogue-near m at stop inner g h entry top near st start r e found s y) f (dialogue-left m at stop inner g h top near st start old mid entry r e found q)

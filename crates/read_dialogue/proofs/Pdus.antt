@@ -1,16 +1,17 @@
 -- What the dialogue PDUs hold, and the PDUs: version, name, numbers, request, response, abort. Assumes nothing.
-use Prim.Native.Nat.{ℕ, _+_, _-_, _/_, _%_, _≤_}
+use Prim.Native.Nat.{ℕ, zero, suc, _+_, _-_, _/_, _%_, _≤_, _<_}
 use mathlib.Core.Path.{_≡_, refl, sym, ap, _∙_}
-use mathlib.Core.Bool.{Bool, true, false, _&&_, false≢true}
+use mathlib.Core.Bool.{Bool, true, false, _&&_}
 use mathlib.Core.List.{List, [], _∷_}
 use mathlib.Core.Option.{Option}
 use native.Mathlib.Omega.{arith}
-use lib.ListN.{length, getD, drop, take}
+use lib.ListN.{length, getD, drop, take, length-drop}
+use lib.Seq.{length-take-le, getD-take, getD-drop}
 use lib.Dec.{eqb, ltb}
-use borrow.Author.Tests.{eqb-true, eq-eqb, ne-eqb}
+use borrow.Author.Tests.{eq-eqb, ne-eqb}
 use Rattle.base.specs.Value.{same}
 use Rattle.base.proofs.Values.{same-equal}
-use Rattle.tcap.proofs.Names.{eqb-turned}
+use Rattle.tcap.proofs.Names.{eqb-turned, other-length}
 use Rattle.element.specs.declared.FaultKind.{FaultKind}
 use Rattle.element.specs.Element.{constructorOf}
 use Rattle.element.specs.Fault.{Text}
@@ -25,13 +26,14 @@ use Rattle.read_place.proofs.Answers.{Keeps}
 use Rattle.read_place.proofs.Bodies.{placed-where, then-far, then-near, map-closed}
 use Rattle.read_place.proofs.Items.{stands-only, stands-other, leaf-good, leaf-bad, leaf-none}
 use Rattle.read_place.proofs.Optional.{around-entry, around-read, opt-far, opt-near, opt-none, reads-within}
+use Rattle.read_field.proofs.Fields.{count-room}
 use Rattle.read_field.proofs.Choices.{first-of, second-of, reads-map}
 use Rattle.read_dialogue.specs.Dialogues.{versionItem, Passed, Passes, numberIn, diagnosticItem, askedBody, acceptedBody, answeredBody, abortedBody, pduItem}
 use Rattle.read_dialogue.proofs.Around.{one-entry, one-far, one-near, at-level, around-named}
 
 -- The version
 
-pub two : (c : List ℕ) → length c ≡ 2 → same version c ≡ (eqb (getD c 0 0) 0x07 && eqb (getD c 1 0) 0x80)
+two : (c : List ℕ) → length c ≡ 2 → same version c ≡ (eqb (getD c 0 0) 0x07 && eqb (getD c 1 0) 0x80)
 unfolding same
 two [] h = let z : _≡_ {A = ℕ} 0 2 = h in absurd (omega arith)
 two (x ∷ []) h = let z : _≡_ {A = ℕ} 1 2 = h in absurd (omega arith)
@@ -51,14 +53,54 @@ module _ (m : List ℕ) (at stop n : ℕ) (g : at ≤ until stop) (h : until sto
   unfolding constructorOf
   version-none z r e = leaf-none m at stop 128 2 n (same version) g h (omega arith, omega arith, omega arith) refl (omega arith) is z version-sized r e
 
-  module _ (there : n ≡ 0 → ⊥) (xs : List ℕ) (b : Bool) (xs-is : xs ≡ take n (drop (at + 2) m)) (told : b ≡ same version xs) where
-    pub version-good : b ≡ true → Reads versionItem m at stop (at + 2 + n)
-    unfolding constructorOf
-    version-good t = leaf-good m at stop 128 2 n (same version) g h (omega arith, omega arith, omega arith) refl (omega arith) is there (rw xs-is at (sym told ∙ t))
+  module _ (there : n ≡ 0 → ⊥) where
+    abbrev its : List ℕ
+    its = take n (drop (at + 2) m)
 
-    pub version-bad : b ≡ false → Reads versionItem m at stop (badContents + at)
+    its-length : length its ≡ n
+    its-length = length-take-le n (drop (at + 2) m) (omega (arith, length-drop (at + 2) m, count-room m at (until stop) 128 2 n is there, h))
+
+    unlike : same version its ≡ false → Reads versionItem m at stop (badContents + at)
     unfolding constructorOf
-    version-bad t = leaf-bad m at stop 128 2 n (same version) g h (omega arith, omega arith, omega arith) refl (omega arith) is there (rw xs-is at (sym told ∙ t))
+    unlike t = leaf-bad m at stop 128 2 n (same version) g h (omega arith, omega arith, omega arith) refl (omega arith) is there t
+
+    pub version-short : n ≡ 1 → Reads versionItem m at stop (badContents + at)
+    version-short z = unlike (other-length version its (λ q. let y : length its ≡ 2 = q in omega (arith, y, its-length, z)))
+
+    module _ (more : n ≡ 1 → ⊥) where
+      both : n ≡ 2
+      both = go n there more (count-room m at (until stop) 128 2 n is there .1)
+        where
+          go : (k : ℕ) → (k ≡ 0 → ⊥) → (k ≡ 1 → ⊥) → k ≤ 2 → k ≡ 2
+          go zero f e l = absurd (f refl)
+          go (suc zero) f e l = absurd (e refl)
+          go (suc (suc k)) f e l = omega (arith, l)
+
+      pub version-room : at + 3 < length m
+      version-room = omega (arith, both, count-room m at (until stop) 128 2 n is there, h)
+
+      octet-is : (i : ℕ) → i < 2 → getD its i 0 ≡ getD m (at + 2 + i) 0
+      octet-is i l = getD-take n (drop (at + 2) m) i 0 (omega (arith, both, l)) ∙ getD-drop (at + 2) m i 0
+
+      by-octets : same version its ≡ (eqb (getD m (at + 2) 0) 7 && eqb (getD m (at + 3) 0) 128)
+      by-octets =
+          let first : getD its 0 0 ≡ getD m (at + 2) 0 = octet-is 0 (omega arith) ∙ ap (λ (k : ℕ). getD m k 0) (omega arith) in
+          let second : getD its 1 0 ≡ getD m (at + 3) 0 = octet-is 1 (omega arith) ∙ ap (λ (k : ℕ). getD m k 0) (omega arith) in
+          two its (its-length ∙ both) ∙ rw (first, second)
+
+      pub version-first : (getD m (at + 2) 0 ≡ 7 → ⊥) → Reads versionItem m at stop (badContents + at)
+      version-first f = unlike (by-octets ∙ rw (ne-eqb (getD m (at + 2) 0) 7 f))
+
+      module _ (seven : getD m (at + 2) 0 ≡ 7) where
+        pub version-second : (getD m (at + 3) 0 ≡ 128 → ⊥) → Reads versionItem m at stop (badContents + at)
+        version-second f = unlike (by-octets ∙ rw (eq-eqb (getD m (at + 2) 0) 7 seven, ne-eqb (getD m (at + 3) 0) 128 f))
+
+        pub version-good : getD m (at + 3) 0 ≡ 128 → Reads versionItem m at stop (at + 4)
+        unfolding constructorOf
+        version-good e =
+            let z : at + 2 + n ≡ at + 4 = omega (arith, both) in
+            let like : same version its ≡ true = by-octets ∙ rw (eq-eqb (getD m (at + 2) 0) 7 seven, eq-eqb (getD m (at + 3) 0) 128 e) in
+            rw z at (leaf-good m at stop 128 2 n (same version) g h (omega arith, omega arith, omega arith) refl (omega arith) is there like)
 
 -- An element that may be left out
 

@@ -29,7 +29,7 @@ use Rattle.read_place.proofs.Optional.{entry-from, entry-to, reads-within}
 use Rattle.read_place.proofs.Leaves.{left-where, then-left, around-left}
 use Rattle.read_place.proofs.Values.{placed-got, value-leaf}
 use Rattle.read_field.proofs.Fields.{single-sized}
-use Rattle.read_dialogue.specs.Dialogues.{externalsBody, versionItem, Passes, numberIn, diagnosticItem, askedBody, acceptedBody, answeredBody, abortedBody, pduItem, textAt, contentsEnd, layNumber, layAsked, layResult, layAnswered, layAborted, askedNumber}
+use Rattle.read_dialogue.specs.Dialogues.{externalsBody, versionItem, Passes, numberIn, diagnosticItem, askedBody, acceptedBody, answeredBody, abortedBody, pduItem, textAt, contentsEnd, layNumber, layAsked, layResult, layAnswered, layAborted}
 use Rattle.read_dialogue.proofs.Around.{level-ask, named-ask}
 use Rattle.read_dialogue.proofs.Gives.{then-front}
 use Rattle.read_dialogue.proofs.Values.{octet-gives, info-has-none, info-has-some, context-gives, number-gives}
@@ -196,9 +196,9 @@ module _ (m : List ℕ) (at stop : ℕ) (old new : List ℕ) where
   kind-left : {A : Type 0} (tag k : ℕ) (f : A → Dialogue Text) (b : Body A) (lay : A → List ℕ → List ℕ) → ((a : A) → lay a (set old 3 k) ≡ layDialogue (f a) old) → Leaves lay untold (aroundItem tag b) m at stop (set old 3 k) new → Leaves layDialogue untold (aroundItem tag (mapBody f b)) m at stop old new
   kind-left tag k f b lay same e = rw (← (named-ask f b tag m at stop)) (leaves-map m at stop f (aroundItem tag b) lay layDialogue old (set old 3 k) new same e)
 
-  pub alone-left : (s : Bool) → s ≡ false → (k : ℕ) → k ≡ askedNumber s → Leaves layAsked untold (aroundItem 96 askedBody) m at stop (set old 3 k) new → Leaves layDialogue untold (pduItem s) m at stop old new
-  unfolding pduItem askedNumber layDialogue
-  alone-left s t k i e = let five : k ≡ 5 = i ∙ ap askedNumber t in rw t (kind-left 96 5 (λ v. unidialogue (v .0) (v .1)) askedBody layAsked (λ v. refl) (rw five at e))
+  pub alone-left : (s : Bool) → s ≡ false → (mid : List ℕ) → mid ≡ set old 3 5 → Leaves layAsked untold (aroundItem 96 askedBody) m at stop mid new → Leaves layDialogue untold (pduItem s) m at stop old new
+  unfolding pduItem layDialogue
+  alone-left s t mid i e = rw t (kind-left 96 5 (λ v. unidialogue (v .0) (v .1)) askedBody layAsked (λ v. refl) (rw i at e))
 
   module _ (s : Bool) (t : s ≡ true) (h : until stop ≤ length m) (b : Bool) (is : b ≡ standsOf m at stop 97) where
     pub pdu-response-left : b ≡ true → Leaves layAnswered untold (aroundItem 97 answeredBody) m at stop (set old 3 3) new → Leaves layDialogue untold (pduItem s) m at stop old new
@@ -216,12 +216,11 @@ module _ (m : List ℕ) (at stop : ℕ) (old new : List ℕ) where
           (leaves-second m at stop (answeredItem deepestLevel) (abortedItem deepestLevel) layDialogue old new (λ a n z. ap (λ (q : ℕ). eqb q 97) (stands-only m at stop 100 h (sym also ∙ u) a n z))
           (kind-left 100 4 (λ v. aborted (v .0) (v .1)) abortedBody layAborted (λ v. refl) e)))
 
-      pub pdu-request-left : c ≡ false → (k : ℕ) → k ≡ askedNumber s → Leaves layAsked untold (aroundItem 96 askedBody) m at stop (set old 3 k) new → Leaves layDialogue untold (pduItem s) m at stop old new
-      unfolding pduItem layDialogue askedNumber
-      pdu-request-left u k i e =
-          let two : k ≡ 2 = i ∙ ap askedNumber t in
+      pub pdu-request-left : c ≡ false → (mid : List ℕ) → mid ≡ set old 3 2 → Leaves layAsked untold (aroundItem 96 askedBody) m at stop mid new → Leaves layDialogue untold (pduItem s) m at stop old new
+      unfolding pduItem layDialogue
+      pdu-request-left u mid i e =
           rw t (leaves-first m at stop (askedItem deepestLevel request) _ layDialogue old new (λ a n z. rw (stands-other m at stop 97 h (sym is ∙ no) a n z, stands-other m at stop 100 h (sym also ∙ u) a n z))
-          (kind-left 96 2 (λ v. request (v .0) (v .1)) askedBody layAsked (λ v. refl) (rw two at e)))
+          (kind-left 96 2 (λ v. request (v .0) (v .1)) askedBody layAsked (λ v. refl) (rw i at e)))
 
 -- A0 around a PDU
 

@@ -1,45 +1,39 @@
 -- A dialogue's values from the places that its readers told. Assumes nothing.
 use Prim.Native.Nat.{ℕ, _+_, _-_, _≤_, _<_}
 use mathlib.Core.Path.{_≡_, refl, sym, ap, ap₂, _∙_}
-use mathlib.Core.Bool.{Bool, true, false, _||_, false≢true}
-use mathlib.Core.List.{List, [], _∷_}
-use mathlib.Core.Option.{Option, none, some}
+use mathlib.Core.Bool.{Bool, true, false, false≢true}
+use mathlib.Core.List.{List}
+use mathlib.Core.Option.{none, some}
 use native.Mathlib.Omega.{arith}
-use lib.ListN.{length, getD, drop, take, length-drop}
+use lib.ListN.{length, getD, drop, take}
 use lib.Dec.{eqb, ltb}
-use lib.Seq.{take-all, take-take, getD-take, getD-drop}
+use lib.Seq.{getD-take, getD-drop}
 use borrow.Author.Tests.{lt-ltb, le-ltb}
 use Rattle.base.specs.Value.{same}
 use Rattle.element.specs.declared.FaultKind.{FaultKind}
-use Rattle.element.specs.declared.EndRead.{EndRead}
-use Rattle.element.specs.declared.TagRead.{TagRead}
 use Rattle.element.specs.declared.LengthRead.{LengthRead}
 use Rattle.element.specs.Element.{constructorOf}
 use Rattle.element.specs.Fault.{Text, at}
 use Rattle.element.specs.Head.{endOf, lengthOf}
-use Rattle.element.specs.Answers.{frontOf}
-use Rattle.element.specs.Ask.{Got, got, bad, next, check, Body, askLength, ask}
-use Rattle.element.specs.Parts.{Item, Where, level, done, leafContents, leafItem, inside, aroundItem, keptItem, mapItem, orItem, bindBody, silently, thenBody, onlyBody, mapBody}
+use Rattle.element.specs.Ask.{Got, got, bad, next, check, Body, askLength}
+use Rattle.element.specs.Parts.{Item, Where, level, leafContents, leafItem, inside, aroundItem, keptItem, mapItem, onlyBody}
 use Rattle.element.specs.Walk.{walkItem}
-use Rattle.element.proofs.Asking.{Then, fact, void, then-next, then-blamed, ask-sound}
+use Rattle.element.proofs.Asking.{Then, fact, void, then-next, then-blamed}
 use Rattle.element.proofs.Reading.{definite-size, indefinite-size}
 use Rattle.primitive.specs.Primitive.{identifierOk}
-use Rattle.tcap.specs.declared.Diagnostic.{Diagnostic}
-use Rattle.tcap.specs.Meaning.{Dialogue, request, unidialogue, response, aborted, single, octets, structured, unstructured}
+use Rattle.tcap.specs.Meaning.{single, octets}
 use Rattle.tcap.specs.WellFormed.{deepestLevel}
-use Rattle.tcap.specs.Productions.{single?, octetItem, nameItem, versionBody, contextItem, infoBody, numberItem, sourceItem, askedItem, answeredItem, abortedItem, heldItem, externalBody, inside6B, dialogueItem}
+use Rattle.tcap.specs.Productions.{single?, octetItem, nameItem, contextItem, infoBody, heldItem}
 use Rattle.read_place.specs.Places.{Near, until, finite, part, Placed, Closing, Shut, Reads, Finishes, Leads, endedOf, entryPlace, lengthPlace, lengthSize, opening}
 use Rattle.read_place.proofs.Views.{span-length, span-drop, span-get, span-take, span-cut}
 use Rattle.read_place.proofs.Answers.{Keeps, far, placed-near}
 use Rattle.read_place.proofs.Fronts.{ended-is, not-ended}
-use Rattle.read_place.proofs.Onto.{ask-only}
 use Rattle.read_place.proofs.Items.{SizeIs, Entered, entered, ask-entered, front-octet}
-use Rattle.read_place.proofs.Values.{placed-got, value-leaf, value-walk}
+use Rattle.read_place.proofs.Values.{placed-got, value-leaf}
 use Rattle.read_field.proofs.Fields.{name-sized, single-sized}
-use Rattle.read_dialogue.specs.Dialogues.{externalsBody, versionItem, Passes, diagnosticItem, askedBody, acceptedBody, answeredBody, abortedBody, pduItem, textAt, contentsEnd}
+use Rattle.read_dialogue.specs.Dialogues.{externalsBody, textAt, contentsEnd}
 use Rattle.read_dialogue.proofs.Around.{size-is, kept-near}
-use Rattle.read_dialogue.proofs.Names.{dialogue-keeps}
-use Rattle.read_dialogue.proofs.Gives.{Gives, Has, then-front, gives-map, gives-first, gives-second, bind-has, then-has, only-has, last-has, none-has, map-has, pass-has, around-gives}
+use Rattle.read_dialogue.proofs.Gives.{Gives, Has, then-front, gives-map, gives-second, only-has, last-has, none-has, around-gives}
 
 -- What was got stands up to the place that was told
 
@@ -139,118 +133,7 @@ module _ (m : List ℕ) (at stop inner : ℕ) (g : at ≤ until stop) (h : until
   number-gives tag l most leads kind deep entry e =
       one-gives tag (level l) leads kind deep (octetItem 2 most) m at stop inner g h entry top near st start r e found (getD m (st + 2) 0) (octet-gives m st inner r inside-it found 2 most (omega arith, omega arith, omega arith) e) (λ f. refl)
 
-  pub source-gives : inner ≡ entryPlace true m at stop 163 → Reads diagnosticItem m st inner r → (d : Diagnostic) → Gives diagnosticItem m st inner d → Gives (sourceItem deepestLevel) m at stop d
-  unfolding constructorOf
-  source-gives entry e d given = one-gives 163 (level 10) (omega arith, omega arith, omega arith) refl refl diagnosticItem m at stop inner g h entry top near st start r e found d given (λ f. refl)
-
--- The tag that was entered is the only one that stands here
-
-pub only-here : (m : List ℕ) (at stop tag inner : ℕ) → at ≤ until stop → until stop ≤ length m → inner ≡ entryPlace true m at stop tag → Near inner → (f : ℕ → Bool) → f tag ≡ false → (a s : ℕ) → frontOf 1 (part m at stop) ≡ TagRead.Tag a s → f a ≡ false
-only-here m at stop tag inner g h entry near f other a s z = let i = entered true m at stop tag inner g h entry near in ap f (sym (front-octet m at (until stop) a s h z .1) ∙ i .first) ∙ other
-
-module _ (m : List ℕ) (at stop inner : ℕ) (g : at ≤ until stop) (h : until stop ≤ length m) (near : Near inner) (n : ℕ) where
-  pub diagnostic-by-user : inner ≡ entryPlace true m at stop 161 → Gives (numberItem deepestLevel 161 8 2) m at stop n → Gives diagnosticItem m at stop (Diagnostic.ByUser n)
-  diagnostic-by-user entry e = gives-first (mapItem Diagnostic.ByUser (numberItem deepestLevel 161 8 2)) m at stop (Diagnostic.ByUser n) (gives-map (numberItem deepestLevel 161 8 2) m at stop n e Diagnostic.ByUser) (mapItem Diagnostic.ByProvider (numberItem deepestLevel 162 8 2)) (only-here m at stop 161 inner g h entry near (λ a. eqb a 162) refl)
-
-  pub diagnostic-by-provider : inner ≡ entryPlace true m at stop 162 → Gives (numberItem deepestLevel 162 8 2) m at stop n → Gives diagnosticItem m at stop (Diagnostic.ByProvider n)
-  diagnostic-by-provider entry e = gives-second (mapItem Diagnostic.ByProvider (numberItem deepestLevel 162 8 2)) m at stop (Diagnostic.ByProvider n) (gives-map (numberItem deepestLevel 162 8 2) m at stop n e Diagnostic.ByProvider) (mapItem Diagnostic.ByUser (numberItem deepestLevel 161 8 2)) (only-here m at stop 162 inner g h entry near (λ a. eqb a 161) refl)
-
--- The contents of the PDUs
-
-module _ {B : Type 0} (y : Body B) (m : List ℕ) (at stop r s : ℕ) (g : at ≤ until stop) (h : until stop ≤ length m) (e : Passes 128 versionItem m at stop r) (near : Near r) (c : Reads (contextItem deepestLevel) m r stop s) (found : Near s) (n : Text) (given : Gives (contextItem deepestLevel) m r stop n) (v : B) where
-  pub named-has : Has y m s stop v → Has (versionBody (thenBody (level 11) (contextItem deepestLevel) y)) m at stop (n, v)
-  named-has q = pass-has 128 versionItem (λ a. refl) (thenBody (level 11) (contextItem deepestLevel) y) refl refl refl (λ f. refl) (omega arith, omega arith, omega arith) m at stop g h r e near (n, v) (then-has (contextItem deepestLevel) m r stop n given s c found (level 11) (λ f. refl) refl y v q)
-
-module _ (m : List ℕ) (at stop r s : ℕ) (e : Reads (numberItem deepestLevel 162 7 1) m at stop r) (near : Near r) (n : ℕ) (first : Gives (numberItem deepestLevel 162 7 1) m at stop n) (d : Reads (sourceItem deepestLevel) m r stop s) (found : Near s) (v : Diagnostic) (second : Gives (sourceItem deepestLevel) m r stop v) where
-  pub accepted-has : (i : Option Text) → Has (infoBody deepestLevel) m s stop i → Has acceptedBody m at stop (n, (v, i))
-  accepted-has i q =
-      then-has (numberItem deepestLevel 162 7 1) m at stop n first r e near (level 11) (λ f. refl) refl (thenBody (level 11) (sourceItem deepestLevel) (infoBody deepestLevel)) (v, i)
-      (then-has (sourceItem deepestLevel) m r stop v second s d found (level 11) (λ f. refl) refl (infoBody deepestLevel) i q)
-
-pub aborted-has : (m : List ℕ) (at stop r : ℕ) → until stop ≤ length m → Reads (octetItem 128 1) m at stop r → Near r → (i : Option Text) → Has (infoBody deepestLevel) m r stop i → Has abortedBody m at stop (getD m (at + 2) 0, i)
-aborted-has m at stop r h e near i q = then-has (octetItem 128 1) m at stop (getD m (at + 2) 0) (octet-gives m at stop r h near 128 1 (omega arith, omega arith, omega arith) e) r e near (level 11) (λ f. refl) refl (infoBody deepestLevel) i q
-
--- The PDUs
-
-module _ (m : List ℕ) (at stop inner : ℕ) (g : at ≤ until stop) (h : until stop ≤ length m) (top : length m ≤ 65535) (near : Near inner) (st : ℕ) (start : st ≡ at + 1 + lengthSize (getD m (at + 1) 0)) where
-  module _ (entry : inner ≡ entryPlace true m at stop 96) (n : Text) (i : Option Text) (has : Has askedBody m st inner (n, i)) where
-    asked-gives : (f : Text → Option Text → Dialogue Text) → Gives (askedItem deepestLevel f) m at stop (f n i)
-    unfolding constructorOf
-    asked-gives f = around-gives 96 (omega arith, omega arith, omega arith) refl (mapBody (λ v. f (v .0) (v .1)) askedBody) m at stop inner g h entry top near st start (f n i) (map-has (λ v. f (v .0) (v .1)) askedBody m st inner (n, i) has)
-
-    pub request-gives : Gives (pduItem true) m at stop (request n i)
-    unfolding pduItem
-    request-gives = gives-first (askedItem deepestLevel request) m at stop (request n i) (asked-gives request) (orItem (answeredItem deepestLevel) (abortedItem deepestLevel)) (only-here m at stop 96 inner g h entry near (λ a. eqb a 97 || eqb a 100) refl)
-
-    pub unidialogue-gives : Gives (pduItem false) m at stop (unidialogue n i)
-    unfolding pduItem
-    unidialogue-gives = asked-gives unidialogue
-
-  pub response-gives : inner ≡ entryPlace true m at stop 97 → (n : Text) (c : ℕ) (d : Diagnostic) (i : Option Text) → Has answeredBody m st inner (n, (c, (d, i))) → Gives (pduItem true) m at stop (response n c d i)
-  unfolding pduItem constructorOf
-  response-gives entry n c d i has =
-      gives-second (orItem (answeredItem deepestLevel) (abortedItem deepestLevel)) m at stop (response n c d i)
-      (gives-first (answeredItem deepestLevel) m at stop (response n c d i)
-      (around-gives 97 (omega arith, omega arith, omega arith) refl (mapBody (λ v. response (v .0) (v .1 .0) (v .1 .1 .0) (v .1 .1 .1)) answeredBody) m at stop inner g h entry top near st start (response n c d i) (map-has (λ v. response (v .0) (v .1 .0) (v .1 .1 .0) (v .1 .1 .1)) answeredBody m st inner (n, (c, (d, i))) has))
-      (abortedItem deepestLevel) (only-here m at stop 97 inner g h entry near (λ a. eqb a 100) refl)) (askedItem deepestLevel request) (only-here m at stop 97 inner g h entry near (λ a. eqb a 96) refl)
-
-  pub abort-gives : inner ≡ entryPlace true m at stop 100 → (c : ℕ) (i : Option Text) → Has abortedBody m st inner (c, i) → Gives (pduItem true) m at stop (aborted c i)
-  unfolding pduItem constructorOf
-  abort-gives entry c i has =
-      gives-second (orItem (answeredItem deepestLevel) (abortedItem deepestLevel)) m at stop (aborted c i)
-      (gives-second (abortedItem deepestLevel) m at stop (aborted c i)
-      (around-gives 100 (omega arith, omega arith, omega arith) refl (mapBody (λ v. aborted (v .0) (v .1)) abortedBody) m at stop inner g h entry top near st start (aborted c i) (map-has (λ v. aborted (v .0) (v .1)) abortedBody m st inner (c, i) has))
-      (answeredItem deepestLevel) (only-here m at stop 100 inner g h entry near (λ a. eqb a 97) refl)) (askedItem deepestLevel request) (only-here m at stop 100 inner g h entry near (λ a. eqb a 96) refl)
-
--- One element that fills its contents
-
-done-ended : {A : Type 0} (w : Where) (a : A) (d : Bool) (p : ℕ) (l : List ℕ) → Then (λ b k. (k ≡ 0) × (endOf d l ≡ EndRead.Ended)) (ask (done w a) d p l)
-done-ended w a d p l = ask-sound (λ b k. (k ≡ 0) × (endOf d l ≡ EndRead.Ended)) (done w a) d p l (λ v e f. (refl, f)) (λ h i m. absurd (false≢true m))
-
-sole-value : (l : ℕ) (d : Bool) (p : ℕ) (part : List ℕ) → Then (λ v n. (v ≡ (p, take n part)) × (endOf d (drop n part) ≡ EndRead.Ended)) (ask (onlyBody (level l) (walkItem l)) d p part)
-sole-value l d p part =
-    rw (ask-only (level l) (walkItem l) d p part) (then-next (value-walk l (level l) d p part) (λ a n q. then-next (done-ended (level l) a d (p + n) (drop n part)) (λ b k z.
-    let whole : n + k ≡ n = omega (arith, z .0) in fact (rw whole (q, z .1)))))
-
-nothing-left : (l : List ℕ) → endOf true l ≡ EndRead.Ended → length l ≡ 0
-unfolding endOf
-nothing-left [] e = refl
-nothing-left (x ∷ r) e = let z : _≡_ {A = ℕ} 0 1 = cc in absurd (omega arith)
-
-module _ (m : List ℕ) (st inner s : ℕ) (from : st ≤ until inner) (to : until inner ≤ length m) (near : Near s) where
-  filled : (d : Bool) → finite inner ≡ d → (x : Got Text) → Closing d st (until inner) x s → Then (λ v n. (v ≡ (st, take n (part m st inner))) × (endOf d (drop n (part m st inner)) ≡ EndRead.Ended)) x → Then (λ v n. v ≡ textAt m st (contentsEnd inner s)) x
-  unfolding Closing Shut contentsEnd
-  filled true f (got a n) e (fact q) =
-      let all : length (part m st inner) ≤ n = omega (arith, nothing-left (drop n (part m st inner)) (q .1), length-drop n (part m st inner)) in
-      let long : until inner - st ≡ s - st = omega (arith, e) in
-      fact (q .0 ∙ rw (take-all n (part m st inner) all, span-cut m st (until inner) from to, f, long))
-  filled false f (got a n) e (fact q) =
-      let long : n ≡ s - 2 - st = omega (arith, e) in
-      fact (q .0 ∙ rw (span-cut m st (until inner) from to, take-take n (until inner - st) (drop st m) (omega (arith, e)), f, long))
-  filled d f (bad g) e q = void
-
-  pub sole-has : (l : ℕ) → Finishes (onlyBody (level l) (walkItem l)) m st inner s → Has (onlyBody (level l) (walkItem l)) m st inner (textAt m st (contentsEnd inner s))
-  sole-has l e = filled (finite inner) refl _ e (sole-value l (finite inner) st (part m st inner))
-
--- What stands behind a name
-
-module _ (m : List ℕ) (at stop inner : ℕ) (g : at ≤ until stop) (h : until stop ≤ length m) (top : length m ≤ 65535) (near : Near inner) (st : ℕ) (start : st ≡ at + 1 + lengthSize (getD m (at + 1) 0)) (entry : inner ≡ entryPlace true m at stop 160) where
-  pub structured-gives : (r : ℕ) → Reads (pduItem true) m st inner r → Near r → (v : Dialogue Text) → Gives (pduItem true) m st inner v → (n : Text) (u : Bool) → Gives (heldItem deepestLevel n true u) m at stop v
-  unfolding pduItem constructorOf
-  structured-gives r e found v given n u = one-gives 160 (level 12) (omega arith, omega arith, omega arith) refl refl (pduItem true) m at stop inner g h entry top near st start r e found v given (λ f. refl)
-
-  pub unstructured-gives : (r : ℕ) → Reads (pduItem false) m st inner r → Near r → (v : Dialogue Text) → Gives (pduItem false) m st inner v → (n : Text) → Gives (heldItem deepestLevel n false true) m at stop v
-  unfolding pduItem constructorOf
-  unstructured-gives r e found v given n = one-gives 160 (level 12) (omega arith, omega arith, omega arith) refl refl (pduItem false) m at stop inner g h entry top near st start r e found v given (λ f. refl)
-
-  pub single-gives : st ≤ until inner → until inner ≤ length m → (s : ℕ) → Near s → Finishes (onlyBody (level 12) (walkItem 12)) m st inner s → (n : Text) → Gives (heldItem deepestLevel n false false) m at stop (single n (textAt m st (contentsEnd inner s)))
-  unfolding constructorOf
-  single-gives from to s found e n =
-      gives-first (mapItem (single n) (aroundItem 160 (onlyBody (level 12) (walkItem 12)))) m at stop (single n (textAt m st (contentsEnd inner s)))
-      (gives-map (aroundItem 160 (onlyBody (level 12) (walkItem 12))) m at stop (textAt m st (contentsEnd inner s)) (around-gives 160 (omega arith, omega arith, omega arith) refl (onlyBody (level 12) (walkItem 12)) m at stop inner g h entry top near st start (textAt m st (contentsEnd inner s)) (sole-has m st inner s from to found 12 e)) (single n))
-      (mapItem (octets n) (leafItem 129 (λ c. true))) (only-here m at stop 160 inner g h entry near (λ a. eqb a 129) refl)
-
--- octets of which nothing is asked
+-- Octets of which nothing is asked
 module _ (m : List ℕ) (at stop r : ℕ) (g : at ≤ until stop) (h : until stop ≤ length m) (entry : r ≡ entryPlace false m at stop 129) (near : Near r) (st : ℕ) (start : st ≡ at + 1 + lengthSize (getD m (at + 1) 0)) where
   any-by : (i : Entered false m at stop 129 r) (n : LengthRead) → i .len ≡ n → Gives (leafItem 129 (λ c. true)) m at stop (textAt m st r)
   unfolding lengthPlace askLength leafContents check SizeIs constructorOf
@@ -272,26 +155,3 @@ module _ (m : List ℕ) (at stop r : ℕ) (g : at ≤ until stop) (h : until sto
       let i = entered false m at stop 129 r g h entry near in
       gives-second (mapItem (octets n) (leafItem 129 (λ c. true))) m at stop (octets n (textAt m st r)) (gives-map (leafItem 129 (λ c. true)) m at stop (textAt m st r) (any-by i (i .len) refl) (octets n))
       (mapItem (single n) (aroundItem 160 (onlyBody (level 12) (walkItem 12)))) (λ a s z. ap (λ (q : ℕ). eqb q 160) (sym (front-octet m at (until stop) a s h z .1) ∙ i .first))
-
--- The contents of 28, 28 and 6B
-
-module _ (m : List ℕ) (at stop r : ℕ) (h : until stop ≤ length m) (e : Reads nameItem m at stop r) (near : Near r) where
-  abbrev named : Text
-  named = textAt m (at + 2) r
-
-  abbrev behind-it : Item (Dialogue Text)
-  behind-it = heldItem deepestLevel named (same structured (named .1)) (same unstructured (named .1))
-
-  pub external-has : (s : ℕ) → Reads behind-it m r stop s → Near s → (v : Dialogue Text) → Gives behind-it m r stop v → Has (externalBody deepestLevel) m at stop v
-  external-has s q found v given =
-      map-has (λ v. v .1) (bindBody (level 13) silently nameItem (λ n. onlyBody (level 13) (heldItem deepestLevel n (same structured (n .1)) (same unstructured (n .1))))) m at stop (named, v)
-      (bind-has nameItem m at stop named (name-gives m at stop r h near e) r e near (level 13) (λ f. refl) refl silently (λ n. onlyBody (level 13) (heldItem deepestLevel n (same structured (n .1)) (same unstructured (n .1)))) v (only-has behind-it m r stop v given s q found (level 13) (λ f. refl) refl))
-
-module _ (m : List ℕ) (at stop inner : ℕ) (g : at ≤ until stop) (h : until stop ≤ length m) (top : length m ≤ 65535) (near : Near inner) (st : ℕ) (start : st ≡ at + 1 + lengthSize (getD m (at + 1) 0)) (v : Dialogue Text) where
-  pub wrapped-gives : inner ≡ entryPlace true m at stop 40 → Has (externalBody deepestLevel) m st inner v → Gives (aroundItem 40 (externalBody deepestLevel)) m at stop v
-  unfolding constructorOf
-  wrapped-gives entry has = around-gives 40 (omega arith, omega arith, omega arith) refl (externalBody deepestLevel) m at stop inner g h entry top near st start v has
-
-  pub dialogue-gives : inner ≡ entryPlace true m at stop 107 → (r : ℕ) → Reads (aroundItem 40 (externalBody deepestLevel)) m st inner r → Near r → Gives (aroundItem 40 (externalBody deepestLevel)) m st inner v → Gives (dialogueItem deepestLevel) m at stop v
-  unfolding constructorOf
-  dialogue-gives entry r e found given = one-gives 107 (inside6B deepestLevel) (omega arith, omega arith, omega arith) refl refl (aroundItem 40 (externalBody deepestLevel)) m at stop inner g h entry top near st start r e found v given dialogue-keeps

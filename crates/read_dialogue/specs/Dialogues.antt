@@ -1,12 +1,12 @@
 -- What the readers of the dialogue portion answer, as their contracts cite it; the definition of reading rests on none of it.
 -- Assumes nothing: these are definitions.
-use Prim.Native.Nat.{ℕ, _-_}
-use mathlib.Core.{Path._≡_, Bool.Bool, Bool.true, Bool.false, Bool.cond, Bool._&&_, List.List, List.[], Option.Option, Option.some}
-use lib.{ListN.getD, ListN.take, ListN.drop, ListN.set, Dec.eqb}
+use Prim.Native.Nat.{ℕ, _+_, _-_, _≤_}
+use mathlib.Core.{Path._≡_, Bool.Bool, Bool.true, Bool.false, Bool.cond, List.List, List.[], Option.Option, Option.some}
+use lib.{ListN.getD, ListN.take, ListN.drop, ListN.set}
 use Rattle.base.specs.Value.{same}
-use Rattle.element.specs.{declared.FaultKind.FaultKind, Fault.Text, Fault.Owner, Fault.portion, Fault.dialogue, Fault.fault, Ask.Got, Ask.got, Ask.bad, Ask.Body, Ask.ask, Parts.Item, Parts.level, Parts.leafItem, Parts.aroundItem, Parts.mapItem, Parts.orItem, Parts.thenBody, Parts.onlyBody, Parts.seriesBody, Walk.walkTagItem}
-use Rattle.tcap.specs.{declared.Diagnostic.Diagnostic, Meaning.Dialogue, Meaning.request, Meaning.unidialogue, Meaning.response, Meaning.aborted, Meaning.single, Meaning.octets, Meaning.structured, Meaning.unstructured, Meaning.version, WellFormed.deepestLevel, Productions.octetItem, Productions.levelAt, Productions.versionBody, Productions.contextItem, Productions.infoBody, Productions.numberItem, Productions.sourceItem, Productions.askedItem, Productions.answeredItem, Productions.abortedItem, Productions.heldItem, Productions.dialogueItem}
-use Rattle.read_place.specs.Places.{finite, part, front, standsOf, Reads}
+use Rattle.element.specs.{declared.FaultKind.FaultKind, declared.EndRead.EndRead, Fault.Text, Ask.Body, Parts.Item, Parts.level, Parts.leafItem, Parts.aroundItem, Parts.mapItem, Parts.orItem, Parts.thenBody, Parts.onlyBody, Parts.seriesBody, Walk.walkTagItem}
+use Rattle.tcap.specs.{declared.Diagnostic.Diagnostic, Meaning.Dialogue, Meaning.request, Meaning.unidialogue, Meaning.response, Meaning.aborted, Meaning.single, Meaning.octets, Meaning.version, WellFormed.deepestLevel, Productions.octetItem, Productions.levelAt, Productions.versionBody, Productions.contextItem, Productions.infoBody, Productions.numberItem, Productions.sourceItem, Productions.askedItem, Productions.answeredItem, Productions.abortedItem, Productions.heldItem}
+use Rattle.read_place.specs.Places.{until, finite, countOf, standsOf, Reads}
 use Rattle.read_place.specs.Laying.{laySpan, layName, layInfo, layDiagnostic}
 use Rattle.read_place.specs.Leaves.{Leaves, untold}
 
@@ -50,21 +50,19 @@ unfoldable pub pduItem : Bool → Item (Dialogue Text)
 pduItem true = orItem (askedItem deepestLevel request) (orItem (answeredItem deepestLevel) (abortedItem deepestLevel))
 pduItem false = askedItem deepestLevel unidialogue
 
+-- how many octets a name here would have: 1 to 16
+abbrev pub NameCounted : List ℕ → ℕ → ℕ → ℕ → Type 0
+NameCounted m at stop n = (n ≡ countOf (until stop - at) (getD m at 0) (getD m (at + 1) 0) 0x06 16) × (1 ≤ n)
+
 -- what stands behind a name, whatever its octets were: the structured dialogue, the unstructured, another
 unfoldable pub Holds : Bool → Bool → List ℕ → ℕ → ℕ → ℕ → Type 0
 Holds s u m at stop r = (n : Text) → Reads (heldItem deepestLevel n s u) m at stop r
 
--- whom the first fault in 6B belongs to: what stands inside its contents, or the transaction portion
-unfoldable pub Belongs : {A : Type 0} → Owner → Got A → Type 0
-Belongs w (got a n) = Unit {0}
-Belongs w (bad (fault k q o i t)) = o ≡ w
-
-unfoldable pub ownerOf : Bool → Owner
-ownerOf true = dialogue
-ownerOf false = portion
-
-abbrev pub Owns : Bool → List ℕ → ℕ → ℕ → Type 0
-Owns b m at stop = Belongs (ownerOf b) (ask (front (level 1) FaultKind.Another (dialogueItem deepestLevel)) (finite stop) at (part m at stop))
+-- what is told of whom a fault at a place in the contents of 6B belongs to: the portion (0), where they end or lack their end pair, or the dialogue (1)
+unfoldable pub ownerMark : EndRead → ℕ
+ownerMark EndRead.Ended = 0
+ownerMark EndRead.Unfinished = 0
+ownerMark EndRead.More = 1
 
 -- the octets from a place to another
 abbrev pub textAt : List ℕ → ℕ → ℕ → Text
@@ -90,11 +88,6 @@ layAnswered v l = layResult (v .1) (layName (v .0) l)
 
 abbrev pub layAborted : ℕ × Option Text → List ℕ → List ℕ
 layAborted v l = layInfo (v .1) (set l 41 (v .0))
-
--- the kind of dialogue that 60 begins
-unfoldable pub askedNumber : Bool → ℕ
-askedNumber true = 2
-askedNumber false = 5
 
 -- what stands behind another name, which stands there before
 unfoldable pub layElse : Dialogue Text → List ℕ → List ℕ

@@ -5,13 +5,16 @@ ghost use Prim.Native.Nat.{_+_, _-_, _/_, _%_, _≤_, _<_};
 ghost use lib.ListN.{length, take, drop};
 ghost use Rattle.base.specs.Value.{same};
 ghost use Rattle.element.specs.Parts.{aroundItem, onlyBody};
-ghost use Rattle.read_place.specs.Places.{Leads, Reads, Finishes, Ready, part, standsOf};
+ghost use Rattle.element.specs.Head.{endOf};
+ghost use Rattle.read_place.specs.Places.{Leads, Reads, Finishes, Ready, finite, part, standsOf};
 ghost use Rattle.read_place.specs.Laying.{laySpan, layName, layInfo, layDiagnostic, layDialogue};
 ghost use Rattle.read_place.specs.Leaves.{Leaves, LeavesAll, untold};
-ghost use Rattle.tcap.specs.Meaning.{version, structured, unstructured};
+ghost use Rattle.read_place.specs.Blames.{Blames};
+ghost use Rattle.tcap.specs.Meaning.{version};
+ghost use Rattle.tcap.specs.Names.{nameKind};
 ghost use Rattle.tcap.specs.WellFormed.{deepestLevel};
-ghost use Rattle.tcap.specs.Productions.{levelAt, contextItem, sourceItem, infoBody, parameterItem, heldItem, externalBody, dialogueItem};
-ghost use Rattle.read_dialogue.specs.Dialogues.{externalsBody, versionItem, Passes, numberIn, diagnosticItem, askedBody, acceptedBody, answeredBody, abortedBody, pduItem, Holds, Owns, contentsEnd, textAt, layNumber, layAsked, layResult, layAnswered, layAborted, askedNumber, layElse, Lays};
+ghost use Rattle.tcap.specs.Productions.{levelAt, contextItem, sourceItem, infoBody, parameterItem, externalBody, dialogueItem};
+ghost use Rattle.read_dialogue.specs.Dialogues.{externalsBody, versionItem, Passes, numberIn, diagnosticItem, askedBody, acceptedBody, answeredBody, abortedBody, pduItem, Holds, NameCounted, ownerMark, contentsEnd, layNumber, layAsked, layResult, layAnswered, layAborted, layElse, Lays};
 use base::piece;
 use read_field::name_at;
 use read_field::small_at;
@@ -37,8 +40,13 @@ use read_place::walk_any;
 use read_place::wrong_at;
 use tcap::name_kind;
 
+// What octet 0 tells of a fault.
+pub const OF_PORTION: u8 = 0;
+
+const OF_DIALOGUE: u8 = 1;
+
 // The elements in BE, each 28, to the end of its contents.
-pub fn externals_at(m: &[u8], from: usize, stop: usize) -> usize
+fn externals_at(m: &[u8], from: usize, stop: usize) -> usize
     requires { ⌜ Ready (now m) from stop ⌝ }
     ensures { λ r. ⌜ Finishes (externalsBody (length (part (now (m .entry)) from stop))) (now (m .entry)) from stop r ⌝ }
 {
@@ -71,7 +79,7 @@ fn end_before(inner: usize, r: usize) -> usize
 }
 
 // User information, if any, and nothing more: the place behind the contents.
-pub fn info_at(m: &[u8], at: usize, stop: usize, out: &mut [u8]) -> usize
+fn info_at(m: &[u8], at: usize, stop: usize, out: &mut [u8]) -> usize
     requires { ⌜ Ready (now m) at stop × (length (now out) ≡ 428) ⌝ }
     ensures { λ r. ⌜ Finishes (infoBody deepestLevel) (now (m .entry)) at stop r ⌝ }
     ensures { λ r. ⌜ LeavesAll layInfo untold (infoBody deepestLevel) (now (m .entry)) at stop (now (out .entry)) (now (out .exit)) ⌝ }
@@ -93,20 +101,7 @@ pub fn info_at(m: &[u8], at: usize, stop: usize, out: &mut [u8]) -> usize
     leave(m, r, stop)
 }
 
-// Whether contents are version 1.
-fn is_version(contents: &[u8]) -> bool
-    ensures { λ r. ⌜ r ≡ same version (now (contents .entry)) ⌝ }
-{
-    if contents.len() != 2 {
-        return false;
-    }
-    if contents[0] != 0x07 {
-        return false;
-    }
-    contents[1] == 0x80
-}
-
-// The version.
+// The version, which is 1.
 fn version_at(m: &[u8], at: usize, stop: usize) -> usize
     requires { ⌜ Ready (now m) at stop ⌝ }
     ensures { λ r. ⌜ Reads versionItem (now (m .entry)) at stop r ⌝ }
@@ -115,10 +110,16 @@ fn version_at(m: &[u8], at: usize, stop: usize) -> usize
     if n == 0 {
         return bad_field(m, at, stop, 0x80);
     }
-    if is_version(piece(m, at + 2, n)) {
-        return at + 2 + n;
+    if n == 1 {
+        return BAD_CONTENTS + at;
     }
-    BAD_CONTENTS + at
+    if m[at + 2] != 0x07 {
+        return BAD_CONTENTS + at;
+    }
+    if m[at + 3] != 0x80 {
+        return BAD_CONTENTS + at;
+    }
+    at + 4
 }
 
 // The place behind the version, if it stands here.
@@ -304,16 +305,6 @@ fn abort_at(m: &[u8], at: usize, stop: usize, out: &mut [u8]) -> usize
     aborted_at(m, start_of(m, at + 1), inner, out)
 }
 
-// The kind of dialogue that 60 begins: 2 for the structured, 5 for the unstructured.
-fn asked_number(in_structured: bool) -> u8
-    ensures { λ r. ⌜ r ≡ askedNumber in_structured ⌝ }
-{
-    if in_structured {
-        return 2;
-    }
-    5
-}
-
 // The PDU of the structured dialogue, or of the unstructured.
 fn pdu_at(m: &[u8], at: usize, stop: usize, in_structured: bool, out: &mut [u8]) -> usize
     requires { ⌜ Ready (now m) at stop × (length (now out) ≡ 428) ⌝ }
@@ -329,8 +320,10 @@ fn pdu_at(m: &[u8], at: usize, stop: usize, in_structured: bool, out: &mut [u8])
             out[3] = 4;
             return abort_at(m, at, stop, out);
         }
+        out[3] = 2;
+    } else {
+        out[3] = 5;
     }
-    out[3] = asked_number(in_structured);
     request_at(m, at, stop, out)
 }
 
@@ -377,7 +370,7 @@ fn single_at(m: &[u8], at: usize, stop: usize, out: &mut [u8]) -> usize
 }
 
 // What stands behind another name: A0 around one element, or octets in 81.
-fn outside_at(m: &[u8], at: usize, stop: usize, out: &mut [u8]) -> usize
+fn encoding_at(m: &[u8], at: usize, stop: usize, out: &mut [u8]) -> usize
     requires { ⌜ Ready (now m) at stop × (length (now out) ≡ 428) ⌝ }
     ensures { λ r. ⌜ Holds false false (now (m .entry)) at stop r ⌝ }
     ensures { λ r. ⌜ Lays layElse false false (now (m .entry)) at stop (now (out .entry)) (now (out .exit)) ⌝ }
@@ -396,18 +389,21 @@ fn outside_at(m: &[u8], at: usize, stop: usize, out: &mut [u8]) -> usize
     r
 }
 
-// What stands behind the name whose contents stand from `name` to here.
-fn held_at(m: &[u8], at: usize, stop: usize, name: usize, out: &mut [u8]) -> usize
-    requires { ⌜ Ready (now m) at stop × (name ≤ at) × (length (now out) ≡ 428) ⌝ }
-    ensures { λ r. ⌜ Holds (same structured (take (at - name) (drop name (now (m .entry))))) (same unstructured (take (at - name) (drop name (now (m .entry))))) (now (m .entry)) at stop r ⌝ }
-    ensures { λ r. ⌜ Leaves layDialogue untold (heldItem deepestLevel (textAt (now (m .entry)) name at) (same structured (take (at - name) (drop name (now (m .entry))))) (same unstructured (take (at - name) (drop name (now (m .entry)))))) (now (m .entry)) at stop (now (out .entry)) (now (out .exit)) ⌝ }
+// The contents of 28 where `n` octets are counted of another name, which may yet be none.
+fn outside_at(m: &[u8], at: usize, stop: usize, n: usize, out: &mut [u8]) -> usize
+    requires { ⌜ Ready (now m) at stop × NameCounted (now m) at stop n × (nameKind (take n (drop (at + 2) (now m))) ≡ 0) × (length (now out) ≡ 428) ⌝ }
+    ensures { λ r. ⌜ Finishes (externalBody deepestLevel) (now (m .entry)) at stop r ⌝ }
+    ensures { λ r. ⌜ LeavesAll layDialogue untold (externalBody deepestLevel) (now (m .entry)) at stop (now (out .entry)) (now (out .exit)) ⌝ }
 {
-    let kind = name_kind(piece(m, name, at - name));
-    if kind == 0 {
-        put_text(out, 24, name, at - name);
-        return outside_at(m, at, stop, out);
+    if primitive::identifier_ok(piece(m, at + 2, n)) {
+        put_text(out, 24, at + 2, n);
+        let r = encoding_at(m, at + 2 + n, stop, out);
+        if r >= FAULT {
+            return r;
+        }
+        return leave(m, r, stop);
     }
-    known_at(m, at, stop, kind == 1, out)
+    BAD_CONTENTS + at
 }
 
 // The contents of 28: a name, and what stands behind it.
@@ -416,19 +412,23 @@ fn external_at(m: &[u8], at: usize, stop: usize, out: &mut [u8]) -> usize
     ensures { λ r. ⌜ Finishes (externalBody deepestLevel) (now (m .entry)) at stop r ⌝ }
     ensures { λ r. ⌜ LeavesAll layDialogue untold (externalBody deepestLevel) (now (m .entry)) at stop (now (out .entry)) (now (out .exit)) ⌝ }
 {
-    let r = name_at(m, at, stop);
+    let n = count_at(m, at, stop, 0x06, 16);
+    if n == 0 {
+        return bad_field(m, at, stop, 0x06);
+    }
+    let kind = name_kind(piece(m, at + 2, n));
+    if kind == 0 {
+        return outside_at(m, at, stop, n, out);
+    }
+    let r = known_at(m, at + 2 + n, stop, kind == 1, out);
     if r >= FAULT {
         return r;
     }
-    let s = held_at(m, r, stop, at + 2, out);
-    if s >= FAULT {
-        return s;
-    }
-    leave(m, s, stop)
+    leave(m, r, stop)
 }
 
 // 28.
-pub fn wrapped_at(m: &[u8], at: usize, stop: usize, out: &mut [u8]) -> usize
+fn wrapped_at(m: &[u8], at: usize, stop: usize, out: &mut [u8]) -> usize
     requires { ⌜ Ready (now m) at stop × (length (now out) ≡ 428) ⌝ }
     ensures { λ r. ⌜ Reads (aroundItem 0x28 (externalBody deepestLevel)) (now (m .entry)) at stop r ⌝ }
     ensures { λ r. ⌜ Leaves layDialogue untold (aroundItem 0x28 (externalBody deepestLevel)) (now (m .entry)) at stop (now (out .entry)) (now (out .exit)) ⌝ }
@@ -440,46 +440,41 @@ pub fn wrapped_at(m: &[u8], at: usize, stop: usize, out: &mut [u8]) -> usize
     external_at(m, start_of(m, at + 1), inner, out)
 }
 
-// 6B around 28: the dialogue portion.
+// Whom a fault at this place in the contents of 6B belongs to: the portion, where they end or lack their end pair.
+fn owner_at(m: &[u8], at: usize, stop: usize) -> u8
+    requires { ⌜ Ready (now m) at stop ⌝ }
+    ensures { λ r. ⌜ r ≡ ownerMark (endOf (finite stop) (part (now (m .entry)) at stop)) ⌝ }
+{
+    if ended(m, at, stop) {
+        return OF_PORTION;
+    }
+    if unfinished(m, at, stop) {
+        return OF_PORTION;
+    }
+    OF_DIALOGUE
+}
+
+// 6B around 28: the dialogue portion, or whom its fault belongs to.
 pub fn dialogue_at(m: &[u8], at: usize, stop: usize, out: &mut [u8]) -> usize
     requires { ⌜ Ready (now m) at stop × (standsOf (now m) at stop 0x6B ≡ true) × (length (now out) ≡ 428) ⌝ }
     ensures { λ r. ⌜ Reads (dialogueItem deepestLevel) (now (m .entry)) at stop r ⌝ }
-    ensures { λ r. ⌜ Leaves layDialogue untold (dialogueItem deepestLevel) (now (m .entry)) at stop (now (out .entry)) (now (out .exit)) ⌝ }
+    ensures { λ r. ⌜ Leaves layDialogue Blames (dialogueItem deepestLevel) (now (m .entry)) at stop (now (out .entry)) (now (out .exit)) ⌝ }
 {
     let inner = length_at(m, at, at + 1, stop % OPEN, true);
     if inner >= FAULT {
+        out[0] = OF_PORTION;
         return inner;
     }
-    let r = wrapped_at(m, start_of(m, at + 1), inner, out);
-    if r >= FAULT {
-        return r;
-    }
-    leave(m, r, inner)
-}
-
-// Whether the first fault in 6B belongs to what stands inside its contents: all but its tag, its length and its own end.
-// What is left in `out`, lent for this second look, means nothing.
-pub fn blames_dialogue(m: &[u8], at: usize, stop: usize, out: &mut [u8]) -> bool
-    requires { ⌜ Ready (now m) at stop × (length (now out) ≡ 428) ⌝ }
-    ensures { λ r. ⌜ Owns r (now (m .entry)) at stop ⌝ }
-{
-    let inner = entry_at(m, at, stop, 0x6B);
-    if inner >= FAULT {
-        return false;
-    }
     let from = start_of(m, at + 1);
-    if ended(m, from, inner) {
-        return false;
-    }
-    if unfinished(m, from, inner) {
-        return false;
-    }
     let r = wrapped_at(m, from, inner, out);
     if r >= FAULT {
-        return true;
+        out[0] = owner_at(m, from, inner);
+        return r;
     }
-    if unfinished(m, r, inner) {
-        return false;
+    let last = leave(m, r, inner);
+    if last >= FAULT {
+        out[0] = owner_at(m, r, inner);
+        return last;
     }
-    true
+    last
 }

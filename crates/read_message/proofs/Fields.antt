@@ -9,28 +9,28 @@ use lib.ListN.{length, getD, take, drop, set, length-drop}
 use lib.Dec.{eqb}
 use lib.Seq.{length-take-le, getD-take, getD-drop}
 use Rattle.element.specs.declared.FaultKind.{FaultKind}
-use Rattle.element.specs.Fault.{Fault, Text, portion, dialogue}
+use Rattle.element.specs.Fault.{Fault, Text, portion}
 use Rattle.element.specs.Ask.{Got, got, bad, next, blamed, Head, Body, ask}
 use Rattle.element.specs.Parts.{Item, level, leafItem, mapItem, place}
 use Rattle.element.proofs.Asking.{Then, fact, then-next, then-blamed, ask-sound}
-use Rattle.tcap.specs.Meaning.{Dialogue, orig, dest, cause, says}
+use Rattle.tcap.specs.Meaning.{orig, dest, cause, says}
 use Rattle.tcap.specs.WellFormed.{deepestLevel, idOk}
 use Rattle.tcap.specs.Productions.{single?, octetItem, origItem, destItem, dialogueItem}
-use Rattle.read_place.specs.Places.{Far, Near, until, finite, part, front, Placed, Reads, Finishes, Leads, standsOf}
-use Rattle.read_place.specs.Leaves.{Left, Leaves, untold}
+use Rattle.read_place.specs.Places.{Far, Near, until, finite, part, front, Reads, Finishes, Leads, standsOf}
+use Rattle.read_place.specs.Leaves.{Left, Leaves}
 use Rattle.read_place.specs.Laying.{layText, layOrig, layDest, layDialogue, layEnding}
 use Rattle.read_place.specs.Blames.{Blames}
 use Rattle.read_place.proofs.Views.{span-length, span-get}
-use Rattle.read_place.proofs.Answers.{placed-near, far-fault}
+use Rattle.read_place.proofs.Answers.{placed-near}
 use Rattle.read_place.proofs.Onto.{ask-onto, missing-both}
 use Rattle.read_place.proofs.Items.{stands-only, stands-other, or-left, or-right}
 use Rattle.read_place.proofs.Leaves.{left-next}
 use Rattle.read_place.proofs.Values.{leaf-stood, placed-got}
 use Rattle.read_field.proofs.Fields.{single-sized}
 use Rattle.read_field.proofs.Choices.{reads-map, transaction-sized}
-use Rattle.read_dialogue.specs.Dialogues.{ownerOf, Owns}
+use Rattle.read_dialogue.proofs.Told.{says-portion, told-far}
 use Rattle.read_message.specs.Messages.{endingItem}
-use Rattle.read_message.proofs.Told.{says-portion, says-dialogue, told-far, plain-leaf}
+use Rattle.read_message.proofs.Told.{plain-leaf}
 
 -- Under another name
 
@@ -164,32 +164,3 @@ pub cause-room : (m : List ℕ) (at stop r : ℕ) → Reads (octetItem 74 4) m a
 cause-room m at stop r e near h =
     let i = placed-near _ at (until stop) r e near in
     omega (arith, h, i, leaf-room (λ v. getD (v .1) 0 0) 74 1 (single? 4) (omega arith, omega arith, omega arith) (omega arith) (single-sized 4) m at stop r e near)
-
--- 6B: what its reader left, if it answered a place; by whom it is blamed, if it answered a fault
-
-module _ (m : List ℕ) (at stop r : ℕ) (e : Reads (dialogueItem deepestLevel) m at stop r) (old : List ℕ) where
-  pub dialogue-near : Near r → (new : List ℕ) → Leaves layDialogue untold (dialogueItem deepestLevel) m at stop old new → Leaves layDialogue Blames (dialogueItem deepestLevel) m at stop old new
-  unfolding Placed Left
-  dialogue-near near new q = go (ask (front (level 1) FaultKind.Another (dialogueItem deepestLevel)) (finite stop) at (part m at stop)) e q
-    where
-      go : (x : Got (Dialogue Text)) → Placed at (until stop) x r → Left layDialogue untold x old new → Left layDialogue Blames x old new
-      go (got a n) e q = q
-      go (bad g) e q = absurd (omega (arith, e, near, far-fault g))
-
-  -- what was there before a fault does not matter
-  pub blamed-again : Far r → (mid new : List ℕ) → Leaves layDialogue Blames (dialogueItem deepestLevel) m at stop mid new → Leaves layDialogue Blames (dialogueItem deepestLevel) m at stop old new
-  unfolding Placed Left
-  blamed-again far mid new q = go (ask (front (level 1) FaultKind.Another (dialogueItem deepestLevel)) (finite stop) at (part m at stop)) e q
-    where
-      go : (x : Got (Dialogue Text)) → Placed at (until stop) x r → Left layDialogue Blames x mid new → Left layDialogue Blames x old new
-      go (got a n) e q = absurd (omega (arith, e, far))
-      go (bad g) e q = q
-
-  module _ (far : Far r) (mid : List ℕ) (long : length mid ≡ 428) (b : Bool) (owns : Owns b m at stop) where
-    pub blamed-dialogue : b ≡ true → Leaves layDialogue Blames (dialogueItem deepestLevel) m at stop old (set mid 0 1)
-    unfolding ownerOf
-    blamed-dialogue t = told-far layDialogue dialogue _ old (set mid 0 1) (rw t at owns) (says-dialogue mid long) at (until stop) r e (omega arith) far
-
-    pub blamed-portion : b ≡ false → Leaves layDialogue Blames (dialogueItem deepestLevel) m at stop old (set mid 0 0)
-    unfolding ownerOf
-    blamed-portion t = told-far layDialogue portion _ old (set mid 0 0) (rw t at owns) (says-portion mid long) at (until stop) r e (omega arith) far

@@ -28,7 +28,8 @@ use Rattle.read_component.specs.Components.{endsAt, rowsBody}
 use Rattle.read_dialogue.specs.Dialogues.{Passed, Passes}
 use Rattle.read_dialogue.proofs.Owners.{entry-belongs}
 use Rattle.read_message.specs.Messages.{componentsBody, endingItem, layListed, layTail, layLast, Lays, LaysPast}
-use Rattle.read_message.proofs.Told.{says-portion, told-far, Fixed, fixed-here, fixed-told, fixed-closed, plain-nothing, carried-stays}
+use Rattle.read_dialogue.proofs.Told.{says-portion, told-far}
+use Rattle.read_message.proofs.Told.{Fixed, fixed-here, fixed-told, fixed-closed, plain-nothing, carried-stays}
 use Rattle.read_message.proofs.Portions.{end-near, components-entry, orig-lifted, dest-lifted}
 
 -- contents that end leave the octets as they are

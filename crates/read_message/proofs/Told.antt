@@ -1,79 +1,32 @@
--- What octet 0 tells of a fault, and faults that belong to the transaction portion. Assumes nothing.
+-- Faults that belong to the transaction portion. Assumes nothing.
 use Prim.Native.Nat.{ℕ, _+_}
-use mathlib.Core.Path.{_≡_, refl}
+use mathlib.Core.Path.{refl}
 use mathlib.Core.Bool.{Bool, true, false}
 use mathlib.Core.List.{List}
-use mathlib.Core.Option.{Option}
 use native.Mathlib.Omega.{arith}
-use lib.ListN.{length, take, drop, set}
-use lib.Seq.{getD-set-same}
-use lib.IntN.{ℤ}
+use lib.ListN.{take, drop}
 use Rattle.element.specs.declared.FaultKind.{FaultKind}
 use Rattle.element.specs.declared.EndRead.{EndRead}
 use Rattle.element.specs.declared.TagRead.{TagRead}
 use Rattle.element.specs.declared.LengthRead.{LengthRead}
 use Rattle.element.specs.Element.{constructorOf}
-use Rattle.element.specs.Fault.{Owner, portion, dialogue, Fault, fault, Text, at, withOrigId}
+use Rattle.element.specs.Fault.{Owner, portion, Fault, fault, Text, at, withOrigId}
 use Rattle.element.specs.Head.{endOf, lengthOf}
 use Rattle.element.specs.Answers.{frontOf}
 use Rattle.element.specs.Ask.{Got, got, bad, next, check, blamed, Head, head, definite, indefinite, askLength, atEnd, ask}
 use Rattle.element.specs.Parts.{Item, level, leafContents, leafItem, mapItem}
-use Rattle.tcap.specs.declared.Ground.{Ground}
 use Rattle.tcap.specs.Meaning.{Originating, orig}
 use Rattle.tcap.specs.Productions.{carried}
-use Rattle.tcap.specs.Reading.{byOwner, answerFor}
 use Rattle.read_place.specs.Places.{Far, Near, front, nothing, Placed, Closing, Shut}
 use Rattle.read_place.specs.Leaves.{Left, unlaid}
-use Rattle.read_place.specs.Blames.{ownerIn, idIn, Blames}
+use Rattle.read_place.specs.Blames.{Blames}
 use Rattle.read_place.proofs.Answers.{far-fault}
 use Rattle.read_place.proofs.Fronts.{byFront, ask-front}
 use Rattle.read_place.proofs.Onto.{blamed-same}
 use Rattle.read_place.proofs.Leaves.{Stays}
-use Rattle.read_dialogue.specs.Dialogues.{Belongs}
+use Rattle.read_dialogue.proofs.Told.{Belongs, Says}
 
--- The answers to a fault of the transaction portion or of the dialogue do not ask for an invoke ID
-
-portion-any : (g : Ground) (i j : Option ℤ) → answerFor g portion i ≡ answerFor g portion j
-unfolding answerFor byOwner
-portion-any Ground.UnknownMessage i j = refl
-portion-any Ground.TooManyComponents i j = refl
-portion-any Ground.UnknownComponent i j = refl
-portion-any Ground.WrongPart i j = refl
-portion-any Ground.BadForm i j = refl
-
-dialogue-any : (g : Ground) (i j : Option ℤ) → answerFor g dialogue i ≡ answerFor g dialogue j
-unfolding answerFor byOwner
-dialogue-any Ground.UnknownMessage i j = refl
-dialogue-any Ground.TooManyComponents i j = refl
-dialogue-any Ground.UnknownComponent i j = refl
-dialogue-any Ground.WrongPart i j = refl
-dialogue-any Ground.BadForm i j = refl
-
--- every fault of an owner is told rightly
-abbrev pub Says : Owner → List ℕ → Type 0
-Says w l = (k : FaultKind) (q : ℕ) (i : Option ℤ) (t : Option Text) → Blames (fault k q w i t) l
-
-module _ (l : List ℕ) (long : length l ≡ 428) where
-  pub says-portion : Says portion (set l 0 0)
-  unfolding Blames ownerIn
-  says-portion k q i t g = rw (getD-set-same l 0 0 0 (omega (arith, long))) (portion-any g i (idIn (set l 0 0)))
-
-  pub says-dialogue : Says dialogue (set l 0 1)
-  unfolding Blames ownerIn
-  says-dialogue k q i t g = rw (getD-set-same l 0 1 0 (omega (arith, long))) (dialogue-any g i (idIn (set l 0 1)))
-
--- Of a reader that answered a fault
-
-module _ {A : Type 0} (lay : A → List ℕ → List ℕ) (w : Owner) (x : Got A) (old new : List ℕ) (mine : Belongs w x) (says : Says w new) where
-  pub told-far : (p end r : ℕ) → Placed p end x r → Near end → Far r → Left lay Blames x old new
-  unfolding Placed Left Belongs
-  told-far p end r e b f = go x mine e
-    where
-      go : (x : Got A) → Belongs w x → Placed p end x r → Left lay Blames x old new
-      go (got a n) t e = absurd (omega (arith, e, b, f))
-      go (bad (fault k q o i s)) t e = rw t (says k q i s)
-
--- The same of contents put together, where what is told of each fault does not depend on the octets any more
+-- What is told of contents put together, where what is told of each fault does not depend on the octets any more
 
 abbrev pub Fixed : List ℕ → Fault → List ℕ → Type 0
 Fixed new f l = Blames f new

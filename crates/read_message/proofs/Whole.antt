@@ -12,7 +12,8 @@ use borrow.Author.Tests.{eqb-true, eq-eqb, ne-eqb, le-leb, lt-leb, lt-ltb}
 use Rattle.element.specs.declared.FaultKind.{FaultKind}
 use Rattle.element.specs.declared.TagRead.{TagRead}
 use Rattle.element.specs.Element.{constructorOf}
-use Rattle.element.specs.Fault.{fault, Text, at}
+use Rattle.element.specs.Fault.{Text, at}
+use Rattle.element.specs.Head.{lengthOf}
 use Rattle.element.specs.Answers.{frontOf}
 use Rattle.element.specs.Ask.{Got, got, next, check, blamed, Head, Body, ask}
 use Rattle.element.specs.Parts.{Item, level, place, aroundItem, orItem}
@@ -20,7 +21,7 @@ use Rattle.tcap.specs.Meaning.{Message, unidirectional, begin, finish, continue
 use Rattle.tcap.specs.WellFormed.{deepestLevel}
 use Rattle.tcap.specs.Productions.{uniBody, beginBody, endBody, continueBody, abortBody, messageItem}
 use Rattle.tcap.specs.Reading.{learnt, aloneBody, readFirst, locatedUpTo}
-use Rattle.read_place.specs.Places.{Far, Near, until, finite, part, base, faultPlace, front, Placed, Reads, Finishes, Leads, standsOf, entryPlace, lengthSize, octetsAfter, noMessage, overlong, cutOff, opening}
+use Rattle.read_place.specs.Places.{Far, Near, until, finite, span, part, base, faultPlace, front, Placed, Reads, Finishes, Leads, standsOf, entryPlace, lengthPlace, lengthSize, octetsAfter, noMessage, overlong, cutOff, opening}
 use Rattle.read_place.specs.Leaves.{LeavesAll}
 use Rattle.read_place.specs.Laying.{layMessage}
 use Rattle.read_place.specs.Blames.{Blames}
@@ -210,7 +211,15 @@ module _ (m : List ℕ) where
     unfolding check Placed faultPlace base
     alone-other b asked t = rw (first-is, ← asked, t)
 
-    module _ (b : Bool) (asked : b ≡ kinds .mine (getD m 0 0)) (told : b ≡ true) (inner : ℕ) (entry : inner ≡ entryPlace true m 0 len (getD m 0 0)) where
+    -- the tag stands at the front, so only the length is asked for
+    pub alone-stands : (inner : ℕ) → inner ≡ lengthPlace 0 1 len (lengthOf (span m 1 len) true) → inner ≡ entryPlace true m 0 len (getD m 0 0)
+    unfolding entryPlace standsOf
+    alone-stands inner e = let z : until len ≡ len = omega (arith, short) in rw (z, ne-eqb 0 len (λ q. omega (arith, q, some)), eq-eqb (getD m 0 0) (getD m 0 0) refl) e
+
+    module _ (b : Bool) (asked : b ≡ kinds .mine (getD m 0 0)) (told : b ≡ true) (inner : ℕ) (stops : inner ≡ lengthPlace 0 1 len (lengthOf (span m 1 len) true)) where
+      pub entry : inner ≡ entryPlace true m 0 len (getD m 0 0)
+      entry = alone-stands inner stops
+
       pub sound : Lead (getD m 0 0)
       sound = lead (getD m 0 0) (sym asked ∙ told)
 

@@ -4,17 +4,17 @@ ghost use mathlib.Core.Bool.{true};
 ghost use Prim.Native.Nat.{_≤_};
 ghost use lib.ListN.{length, set};
 ghost use Rattle.element.specs.Parts.{lastBody};
-ghost use Rattle.read_place.specs.Places.{Reads, Finishes, Ready, Far, standsOf};
-ghost use Rattle.read_place.specs.Leaves.{Left, Leaves, LeavesAll, untold};
-ghost use Rattle.read_place.specs.Laying.{layOrig, layDest, layDialogue, layComponents, layEnding, layMessage, layAccepted};
+ghost use Rattle.read_place.specs.Places.{Reads, Finishes, Ready};
+ghost use Rattle.read_place.specs.Leaves.{Left, Leaves, LeavesAll};
+ghost use Rattle.read_place.specs.Laying.{layOrig, layDest, layComponents, layEnding, layMessage, layAccepted};
 ghost use Rattle.read_place.specs.Blames.{Blames};
-ghost use Rattle.read_dialogue.specs.Dialogues.{Passes, Owns};
+ghost use Rattle.read_dialogue.specs.Dialogues.{Passes};
 ghost use Rattle.tcap.specs.WellFormed.{deepestLevel};
 ghost use Rattle.tcap.specs.Reading.{readFirst, locatedUpTo};
 ghost use Rattle.tcap.specs.Productions.{levelAt, origItem, destItem, componentsItem, dialogueItem, tailBody, uniBody, beginBody, endBody, continueBody, abortBody, messageItem};
 ghost use Rattle.read_message.specs.Messages.{componentsBody, endingItem, bodyOf, Answers, layListed, layTail, layLast, LaysPast};
 use read_component::rows_at;
-use read_dialogue::blames_dialogue;
+use read_dialogue::OF_PORTION;
 use read_dialogue::dialogue_at;
 use read_field::small_at;
 use read_field::transaction_id_at;
@@ -27,31 +27,18 @@ use read_place::behind;
 use read_place::ended;
 use read_place::entry_at;
 use read_place::leave;
+use read_place::length_at;
 use read_place::put_text;
 use read_place::stands;
 use read_place::start_of;
 
 // A fault of the transaction portion, told so.
-fn of_portion(out: &mut [u8], r: usize) -> usize
+fn portion_fault(out: &mut [u8], r: usize) -> usize
     requires { ⌜ length (now out) ≡ 428 ⌝ }
     ensures { λ s. ⌜ s ≡ r ⌝ }
     ensures { λ _. ⌜ now (out .exit) ≡ set (now (out .entry)) 0 0 ⌝ }
 {
-    out[0] = 0;
-    r
-}
-
-// A fault in 6B: whose it is, by a second look.
-fn blamed_by(m: &[u8], at: usize, stop: usize, r: usize, out: &mut [u8]) -> usize
-    requires { ⌜ Ready (now m) at stop × Reads (dialogueItem deepestLevel) (now m) at stop r × Far r × (length (now out) ≡ 428) ⌝ }
-    ensures { λ s. ⌜ s ≡ r ⌝ }
-    ensures { λ _. ⌜ Leaves layDialogue Blames (dialogueItem deepestLevel) (now (m .entry)) at stop (now (out .entry)) (now (out .exit)) ⌝ }
-{
-    if blames_dialogue(m, at, stop, out) {
-        out[0] = 1;
-        return r;
-    }
-    out[0] = 0;
+    out[0] = OF_PORTION;
     r
 }
 
@@ -63,7 +50,7 @@ fn orig_at(m: &[u8], at: usize, stop: usize, out: &mut [u8]) -> usize
 {
     let r = transaction_id_at(m, at, stop, 0x48);
     if r >= FAULT {
-        return of_portion(out, r);
+        return portion_fault(out, r);
     }
     out[1] = 1;
     put_text(out, 8, at + 2, r - at - 2);
@@ -78,7 +65,7 @@ fn dest_at(m: &[u8], at: usize, stop: usize, out: &mut [u8]) -> usize
 {
     let r = transaction_id_at(m, at, stop, 0x49);
     if r >= FAULT {
-        return of_portion(out, r);
+        return portion_fault(out, r);
     }
     out[2] = 1;
     put_text(out, 16, at + 2, r - at - 2);
@@ -93,7 +80,7 @@ fn components_at(m: &[u8], at: usize, stop: usize, out: &mut [u8]) -> usize
 {
     let inner = entry_at(m, at, stop, 0x6C);
     if inner >= FAULT {
-        return of_portion(out, inner);
+        return portion_fault(out, inner);
     }
     rows_at(m, start_of(m, at + 1), inner, out)
 }
@@ -113,7 +100,7 @@ fn last_components_at(m: &[u8], at: usize, stop: usize, out: &mut [u8]) -> usize
     }
     let last = leave(m, r, stop);
     if last >= FAULT {
-        return of_portion(out, last);
+        return portion_fault(out, last);
     }
     last
 }
@@ -125,11 +112,7 @@ fn past_dialogue(m: &[u8], at: usize, stop: usize, out: &mut [u8]) -> usize
     ensures { λ _. ⌜ LaysPast (now (m .entry)) at stop (now (out .entry)) (now (out .exit)) ⌝ }
 {
     if stands(m, at, stop, 0x6B) {
-        let d = dialogue_at(m, at, stop, out);
-        if d >= FAULT {
-            return blamed_by(m, at, stop, d, out);
-        }
-        return d;
+        return dialogue_at(m, at, stop, out);
     }
     at
 }
@@ -163,7 +146,7 @@ fn uni_at(m: &[u8], at: usize, stop: usize, out: &mut [u8]) -> usize
     }
     let last = leave(m, s, stop);
     if last >= FAULT {
-        return of_portion(out, last);
+        return portion_fault(out, last);
     }
     last
 }
@@ -218,15 +201,11 @@ fn ending_at(m: &[u8], at: usize, stop: usize, out: &mut [u8]) -> usize
     ensures { λ _. ⌜ Leaves layEnding Blames endingItem (now (m .entry)) at stop (now (out .entry)) (now (out .exit)) ⌝ }
 {
     if stands(m, at, stop, 0x6B) {
-        let d = dialogue_at(m, at, stop, out);
-        if d >= FAULT {
-            return blamed_by(m, at, stop, d, out);
-        }
-        return d;
+        return dialogue_at(m, at, stop, out);
     }
     let r = small_at(m, at, stop, 0x4A, 4);
     if r >= FAULT {
-        return of_portion(out, r);
+        return portion_fault(out, r);
     }
     out[3] = 1;
     out[41] = m[at + 2];
@@ -248,7 +227,7 @@ fn last_ending_at(m: &[u8], at: usize, stop: usize, out: &mut [u8]) -> usize
     }
     let last = leave(m, r, stop);
     if last >= FAULT {
-        return of_portion(out, last);
+        return portion_fault(out, last);
     }
     last
 }
@@ -314,9 +293,9 @@ fn alone_at(m: &[u8], len: usize, out: &mut [u8]) -> usize
 {
     let tag = m[0];
     if is_message(tag) {
-        let inner = entry_at(m, 0, len, tag);
+        let inner = length_at(m, 0, 1, len, true);
         if inner >= FAULT {
-            return of_portion(out, inner);
+            return portion_fault(out, inner);
         }
         let r = contents_at(m, start_of(m, 1), inner, tag, out);
         if r >= FAULT {
@@ -326,9 +305,9 @@ fn alone_at(m: &[u8], len: usize, out: &mut [u8]) -> usize
             out[0] = tag;
             return r;
         }
-        return of_portion(out, OCTETS_AFTER + r);
+        return portion_fault(out, OCTETS_AFTER + r);
     }
-    of_portion(out, NO_MESSAGE)
+    portion_fault(out, NO_MESSAGE)
 }
 
 // The same of any octets.
@@ -339,10 +318,10 @@ pub fn message_at(m: &[u8], out: &mut [u8]) -> usize
 {
     let len = m.len();
     if len > 255 {
-        return of_portion(out, OVERLONG + 255);
+        return portion_fault(out, OVERLONG + 255);
     }
     if len == 0 {
-        return of_portion(out, CUT_OFF);
+        return portion_fault(out, CUT_OFF);
     }
     alone_at(m, len, out)
 }

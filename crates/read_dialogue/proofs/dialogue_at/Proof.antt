@@ -1,9 +1,10 @@
 -- `dialogue_at` meets its contract. Assumes nothing.
 use borrow.Author.Needs.{needs}
+use native.Mathlib.Omega.{arith}
 use Rattle.read_place.proofs.Optional.{reads-within}
-use Rattle.read_place.proofs.Leaves.{leaves-far}
 use Rattle.read_dialogue.proofs.Names.{dialogue-entry, dialogue-far, dialogue-near}
-use Rattle.read_dialogue.proofs.NamesLeft.{stood, stood-room, stood-inside, stood-from, stood-to, dialogue-left}
+use Rattle.read_dialogue.proofs.NamesLeft.{stood, stood-room, stood-inside, stood-from, stood-to}
+use Rattle.read_dialogue.proofs.Owners.{entry-told, inside-told, behind-told, dialogue-told}
 use Rattle.read_dialogue.proofs.dialogue_at.Statement.{statement}
 use Rattle.read_dialogue.proofs.dialogue_at.Tie as tie
 
@@ -13,8 +14,14 @@ add-length-at c = search needs
 length-at-requires : tie.Need-length-at-requires
 length-at-requires c κs = search (needs, stood-room)
 
+slice-write-out : tie.Need-slice-write-out
+slice-write-out c = search needs
+
+same-length : tie.Need-same-length
+same-length c = search needs
+
 returns : tie.Need-returns
-returns c = search (dialogue-entry, leaves-far, stood)
+returns c = search (dialogue-entry, entry-told, stood)
 
 add-start-of : tie.Need-add-start-of
 add-start-of c = search needs
@@ -25,20 +32,38 @@ start-of-requires c κs = search (needs, stood-inside)
 wrapped-at-requires : tie.Need-wrapped-at-requires
 wrapped-at-requires c κs = search (needs, stood-from, stood-to)
 
-same-length : tie.Need-same-length
-same-length c = search needs
+owner-at-requires : tie.Need-owner-at-requires
+owner-at-requires c κs = search (needs, stood-from, stood-to)
 
-returns-2 : tie.Need-returns-2
-returns-2 c = search (dialogue-far, leaves-far, stood)
-
-leave-requires : tie.Need-leave-requires
-leave-requires c κs = search (needs, reads-within, stood-to)
+slice-write-out-2 : tie.Need-slice-write-out-2
+slice-write-out-2 c = search needs
 
 same-length-2 : tie.Need-same-length-2
 same-length-2 c = search needs
 
+returns-2 : tie.Need-returns-2
+returns-2 c = (search (dialogue-far, stood), inside-told _ _ _ (c .before .before .before .before .before .before .before .before .before .before .before .pre .0) (c .before .before .before .before .before .before .before .before .before .before .before .pre .1) _ (c .before .before .before .before .before .before .before .before .length-at .ensures) _ (c .before .before .before .before .before .before .before .if1 .left) _ (c .before .before .before .before .before .before .start-of .ensures) _ (c .before .before .before .before .wrapped-at .ensures .0) (c .before .before .before .before .wrapped-at .last .1 .1 .1 .0) (c .before .if2 .taken) _ (c .owner-at .ensures) (omega arith))
+
+leave-requires : tie.Need-leave-requires
+leave-requires c κs = search (needs, reads-within, stood-to)
+
+owner-at-requires-2 : tie.Need-owner-at-requires-2
+owner-at-requires-2 c κs = search (needs, reads-within, stood-to)
+
+slice-write-out-3 : tie.Need-slice-write-out-3
+slice-write-out-3 c = search needs
+
+same-length-3 : tie.Need-same-length-3
+same-length-3 c = search needs
+
 returns-3 : tie.Need-returns-3
-returns-3 c = search (dialogue-near, dialogue-left, stood)
+returns-3 c = (search (dialogue-near, stood), behind-told _ _ _ (c .before .before .before .before .before .before .before .before .before .before .before .before .before .pre .0) (c .before .before .before .before .before .before .before .before .before .before .before .before .before .pre .1) _ (c .before .before .before .before .before .before .before .before .before .before .length-at .ensures) _ (c .before .before .before .before .before .before .before .before .before .if1 .left) _ (c .before .before .before .before .before .before .before .before .start-of .ensures) _ (c .before .before .before .before .before .before .wrapped-at .ensures .0) (c .before .before .before .before .before .before .wrapped-at .last .1 .1 .1 .0) (c .before .before .before .if2 .left) _ (c .before .before .leave .ensures) (c .before .if3 .taken) _ (c .owner-at2 .ensures) (omega arith))
+
+same-length-4 : tie.Need-same-length-4
+same-length-4 c = search needs
+
+returns-4 : tie.Need-returns-4
+returns-4 c = (search (dialogue-near, stood), dialogue-told _ _ _ (c .before .before .before .before .before .before .before .before .before .before .before .before .pre .0) (c .before .before .before .before .before .before .before .before .before .before .before .before .pre .1) _ (c .before .before .before .before .before .before .before .before .before .length-at .ensures) _ (c .before .before .before .before .before .before .before .before .if1 .left) _ (c .before .before .before .before .before .before .before .start-of .ensures) _ (c .before .before .before .before .before .wrapped-at .ensures .0) _ (c .before .before .if2 .left) _ (c .before .leave .ensures) (c .if3 .left) (c .before .before .before .before .before .wrapped-at .ensures .1))
 
 pub dialogue-at-spec : {M : Type 1} → statement M
 dialogue-at-spec =
@@ -46,12 +71,20 @@ dialogue-at-spec =
     (tie.spec
     add-length-at
     length-at-requires
+    slice-write-out
+    same-length
     returns
     add-start-of
     start-of-requires
     wrapped-at-requires
-    same-length
+    owner-at-requires
+    slice-write-out-2
+    same-length-2
     returns-2
     leave-requires
-    same-length-2
-    returns-3)
+    owner-at-requires-2
+    slice-write-out-3
+    same-length-3
+    returns-3
+    same-length-4
+    returns-4)

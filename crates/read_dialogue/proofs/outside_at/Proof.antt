@@ -1,70 +1,75 @@
 -- `outside_at` meets its contract. Assumes nothing.
 use borrow.Author.Needs.{needs}
 use native.Mathlib.Omega.{arith}
-use mathlib.Core.Path.{_∙_}
-use lib.ListN.{length-set}
-use Rattle.read_dialogue.proofs.Names.{outside-single, outside-octets}
-use Rattle.read_dialogue.proofs.NamesLeft.{octets-inside, octets-from, octets-left, outside-left, outside-left-far}
+use mathlib.Core.Bool.{false}
+use denote.Ref.{now}
+use Rattle.read_place.proofs.Leaves.{leaves-all-far}
+use Rattle.read_dialogue.proofs.Names.{name-to, other-bad, other-far, other-near, holds-within}
+use Rattle.read_dialogue.proofs.NamesLeft.{other-bad-left, other-laid}
 use Rattle.read_dialogue.proofs.outside_at.Statement.{statement}
 use Rattle.read_dialogue.proofs.outside_at.Tie as tie
 
-stands-requires : tie.Need-stands-requires
-stands-requires c κs = search needs
+add-piece : tie.Need-add-piece
+add-piece c = search needs
 
-slice-write-out : tie.Need-slice-write-out
-slice-write-out c = search needs
+piece-requires : tie.Need-piece-requires
+piece-requires c κs = let h = name-to (now (c .before .before .args .m)) _ _ _ (c .before .before .pre .0) (c .before .before .pre .1) in omega (arith, h, c .before .before .pre .0)
 
-single-at-requires : tie.Need-single-at-requires
-single-at-requires c κs = search needs
+identifier-ok-requires : tie.Need-identifier-ok-requires
+identifier-ok-requires c κs = search needs
 
-same-length : tie.Need-same-length
-same-length c = c .before .out .given ∙ length-set (c .before .before .before .before .before .before .before .before .args .out .now) 3 6
-
-returns : tie.Need-returns
-returns c = search (outside-single, outside-left)
-
-field-asked-requires : tie.Need-field-asked-requires
-field-asked-requires c κs = search needs
-
-returns-2 : tie.Need-returns-2
-returns-2 c = search (outside-octets, outside-left-far)
-
-slice-write-out-2 : tie.Need-slice-write-out-2
-slice-write-out-2 c = search needs
-
-add-start-of : tie.Need-add-start-of
-add-start-of c = search needs
-
-start-of-requires : tie.Need-start-of-requires
-start-of-requires c κs = search (needs, octets-inside)
-
-sub-put-text : tie.Need-sub-put-text
-sub-put-text c = search octets-from
+add-put-text : tie.Need-add-put-text
+add-put-text c = search needs
 
 put-text-requires : tie.Need-put-text-requires
-put-text-requires c κs = simp length-set (omega arith)
+put-text-requires c κs = search needs
+
+add-encoding-at : tie.Need-add-encoding-at
+add-encoding-at c = search needs
+
+add-encoding-at-2 : tie.Need-add-encoding-at-2
+add-encoding-at-2 c = let h = name-to (now (c .before .before .before .before .before .before .before .before .before .args .m)) _ _ _ (c .before .before .before .before .before .before .before .before .before .pre .0) (c .before .before .before .before .before .before .before .before .before .pre .1) in omega (arith, h)
+
+encoding-at-requires : tie.Need-encoding-at-requires
+encoding-at-requires c κs = search (needs, name-to)
+
+same-length : tie.Need-same-length
+same-length c = search needs
+
+returns : tie.Need-returns
+returns c = search (other-far, leaves-all-far)
+
+leave-requires : tie.Need-leave-requires
+leave-requires c κs = let w = holds-within false false (now (c .before .before .before .before .before .before .before .before .before .before .before .before .before .before .args .m)) _ _ _ (c .before .before .before .encoding-at .ensures .0) (c .if2 .left) in omega (arith, w, c .before .before .before .before .before .before .before .before .before .before .before .before .before .before .pre .0)
 
 same-length-2 : tie.Need-same-length-2
-same-length-2 c = c .before .out2 .given ∙ length-set (c .before .before .before .before .before .before .before .before .before .before .before .args .out .now) 3 7
+same-length-2 c = search needs
+
+returns-2 : tie.Need-returns-2
+returns-2 c = search (other-near, other-laid)
+
+add-result : tie.Need-add-result
+add-result c = search needs
 
 returns-3 : tie.Need-returns-3
-returns-3 c = search (outside-octets, octets-left)
+returns-3 c = search (other-bad, other-bad-left)
 
 pub outside-at-spec : {M : Type 1} → statement M
 outside-at-spec =
     tie.close
     (tie.spec
-    stands-requires
-    slice-write-out
-    single-at-requires
+    add-piece
+    piece-requires
+    identifier-ok-requires
+    add-put-text
+    put-text-requires
+    add-encoding-at
+    add-encoding-at-2
+    encoding-at-requires
     same-length
     returns
-    field-asked-requires
-    returns-2
-    slice-write-out-2
-    add-start-of
-    start-of-requires
-    sub-put-text
-    put-text-requires
+    leave-requires
     same-length-2
+    returns-2
+    add-result
     returns-3)

@@ -1,9 +1,7 @@
 -- `version_at` meets its contract. Assumes nothing.
 use borrow.Author.Needs.{needs}
-use Rattle.read_dialogue.proofs.Pdus.{version-none, version-good, version-bad}
-use Rattle.read_field.proofs.Fields.{count-more, count-room}
-use native.Mathlib.Omega.{arith}
-use denote.Ref.{now}
+use Rattle.read_field.proofs.Fields.{count-third}
+use Rattle.read_dialogue.proofs.Pdus.{version-none, version-short, version-room, version-first, version-second, version-good}
 use Rattle.read_dialogue.proofs.version_at.Statement.{statement}
 use Rattle.read_dialogue.proofs.version_at.Tie as tie
 
@@ -16,29 +14,41 @@ bad-field-requires c κs = search needs
 returns : tie.Need-returns
 returns c = search version-none
 
-add-piece : tie.Need-add-piece
-add-piece c = search needs
-
-piece-requires : tie.Need-piece-requires
-piece-requires c κs = search (needs, count-more)
-
-is-version-requires : tie.Need-is-version-requires
-is-version-requires c κs = search needs
-
 add-result : tie.Need-add-result
 add-result c = search needs
 
-add-result-2 : tie.Need-add-result-2
-add-result-2 c = let h = count-room (now (c .before .before .before .before .before .before .args .m)) _ _ 128 2 _ (c .before .before .before .before .count-at .ensures) (c .before .before .before .if1 .left) in omega (arith, h)
-
 returns-2 : tie.Need-returns-2
-returns-2 c = search version-good
+returns-2 c = search version-short
+
+add-if3 : tie.Need-add-if3
+add-if3 c = search needs
+
+shared-slice-read-if3 : tie.Need-shared-slice-read-if3
+shared-slice-read-if3 c = search count-third
+
+add-result-2 : tie.Need-add-result-2
+add-result-2 c = search needs
+
+returns-3 : tie.Need-returns-3
+returns-3 c = search version-first
+
+add-if4 : tie.Need-add-if4
+add-if4 c = search needs
+
+shared-slice-read-if4 : tie.Need-shared-slice-read-if4
+shared-slice-read-if4 c = search version-room
 
 add-result-3 : tie.Need-add-result-3
 add-result-3 c = search needs
 
-returns-3 : tie.Need-returns-3
-returns-3 c = search version-bad
+returns-4 : tie.Need-returns-4
+returns-4 c = search version-second
+
+add-result-4 : tie.Need-add-result-4
+add-result-4 c = search needs
+
+returns-5 : tie.Need-returns-5
+returns-5 c = search version-good
 
 pub version-at-spec : {M : Type 1} → statement M
 version-at-spec =
@@ -47,11 +57,15 @@ version-at-spec =
     count-at-requires
     bad-field-requires
     returns
-    add-piece
-    piece-requires
-    is-version-requires
     add-result
-    add-result-2
     returns-2
+    add-if3
+    shared-slice-read-if3
+    add-result-2
+    returns-3
+    add-if4
+    shared-slice-read-if4
     add-result-3
-    returns-3)
+    returns-4
+    add-result-4
+    returns-5)

@@ -11,14 +11,14 @@ use Rattle.read_message.proofs.components_at.Tie as tie
 entry-at-requires : tie.Need-entry-at-requires
 entry-at-requires c κs = search needs
 
-of-portion-requires : tie.Need-of-portion-requires
-of-portion-requires c κs = search needs
+portion-fault-requires : tie.Need-portion-fault-requires
+portion-fault-requires c κs = search needs
 
 same-length : tie.Need-same-length
 same-length c = search needs
 
 returns : tie.Need-returns
-returns c = (reads-as _ _ _ _ _ _ (search components-entry) (c .before .before .of-portion .ensures .0), components-told _ _ _ _ (omega arith) (omega arith) (c .before .before .before .before .before .entry-at .ensures) _ (c .before .before .before .before .if1 .taken) (omega arith) _ (c .before .before .of-portion .ensures .1))
+returns c = (reads-as _ _ _ _ _ _ (search components-entry) (c .before .before .portion-fault .ensures .0), components-told _ _ _ _ (omega arith) (omega arith) (c .before .before .before .before .before .entry-at .ensures) _ (c .before .before .before .before .if1 .taken) (omega arith) _ (c .before .before .portion-fault .ensures .1))
 
 add-start-of : tie.Need-add-start-of
 add-start-of c = search needs
@@ -40,7 +40,7 @@ components-at-spec =
     tie.close
     (tie.spec
     entry-at-requires
-    of-portion-requires
+    portion-fault-requires
     same-length
     returns
     add-start-of

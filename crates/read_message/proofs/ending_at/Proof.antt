@@ -4,7 +4,7 @@ use native.Mathlib.Omega.{arith}
 use mathlib.Core.Path.{refl, sym, _∙_}
 use denote.Ref.{now}
 use Rattle.read_message.proofs.Portions.{ending-says, ending-cause}
-use Rattle.read_message.proofs.Fields.{reads-as, dialogue-near, blamed-again, says-laid, cause-told, cause-laid, cause-room}
+use Rattle.read_message.proofs.Fields.{reads-as, says-laid, cause-told, cause-laid, cause-room}
 use Rattle.read_message.proofs.ending_at.Statement.{statement}
 use Rattle.read_message.proofs.ending_at.Tie as tie
 
@@ -14,32 +14,23 @@ stands-requires c κs = search needs
 dialogue-at-requires : tie.Need-dialogue-at-requires
 dialogue-at-requires c κs = search (needs, sym (c .before .before .stands .ensures) ∙ c .before .if1 .taken)
 
-blamed-by-requires : tie.Need-blamed-by-requires
-blamed-by-requires c κs = search needs
-
 same-length : tie.Need-same-length
 same-length c = search needs
 
 returns : tie.Need-returns
-returns c = (ending-says _ _ _ _ (omega arith) _ (c .before .before .before .before .before .before .before .before .before .before .stands .ensures) (c .before .before .before .before .before .before .before .before .before .if1 .taken) (reads-as _ _ _ _ _ _ (c .before .before .before .before .before .before .before .dialogue-at .ensures .0) (c .before .before .blamed-by .ensures .0)), says-laid _ _ _ 0 (omega arith) _ (c .before .before .before .before .before .before .before .before .before .before .stands .ensures) (c .before .before .before .before .before .before .before .before .before .if1 .taken) _ _ (blamed-again _ _ _ _ (c .before .before .before .before .before .before .before .dialogue-at .ensures .0) _ (c .before .before .before .before .if2 .taken) _ _ (c .before .before .blamed-by .ensures .1)))
+returns c = (ending-says _ _ _ _ (omega arith) _ (c .before .before .before .before .before .stands .ensures) (c .before .before .before .before .if1 .taken) (c .before .before .dialogue-at .ensures .0), says-laid _ _ _ 0 (omega arith) _ (c .before .before .before .before .before .stands .ensures) (c .before .before .before .before .if1 .taken) _ _ (c .before .before .dialogue-at .ensures .1))
+
+small-at-requires : tie.Need-small-at-requires
+small-at-requires c κs = search needs
+
+portion-fault-requires : tie.Need-portion-fault-requires
+portion-fault-requires c κs = search needs
 
 same-length-2 : tie.Need-same-length-2
 same-length-2 c = search needs
 
 returns-2 : tie.Need-returns-2
-returns-2 c = (ending-says _ _ _ _ (omega arith) _ (c .before .before .before .before .before .before .stands .ensures) (c .before .before .before .before .before .if1 .taken) (c .before .before .before .dialogue-at .ensures .0), says-laid _ _ _ 0 (omega arith) _ (c .before .before .before .before .before .before .stands .ensures) (c .before .before .before .before .before .if1 .taken) _ _ (dialogue-near _ _ _ _ (c .before .before .before .dialogue-at .ensures .0) _ (c .if2 .left) _ (c .before .before .before .dialogue-at .ensures .1)))
-
-small-at-requires : tie.Need-small-at-requires
-small-at-requires c κs = search needs
-
-of-portion-requires : tie.Need-of-portion-requires
-of-portion-requires c κs = search needs
-
-same-length-3 : tie.Need-same-length-3
-same-length-3 c = search needs
-
-returns-3 : tie.Need-returns-3
-returns-3 c = (ending-cause _ _ _ _ (omega arith) _ (c .before .before .before .before .before .before .before .stands .ensures) (c .before .before .before .before .before .before .if1 .left) (reads-as _ _ _ _ _ _ (c .before .before .before .before .before .small-at .ensures) (c .before .before .of-portion .ensures .0)), cause-told _ _ _ _ (omega arith) _ (c .before .before .before .before .before .before .before .stands .ensures) (c .before .before .before .before .before .before .if1 .left) (c .before .before .before .before .before .small-at .ensures) _ _ (c .before .before .before .before .if3 .taken) (omega arith) (c .before .before .of-portion .ensures .1))
+returns-2 c = (ending-cause _ _ _ _ (omega arith) _ (c .before .before .before .before .before .before .before .stands .ensures) (c .before .before .before .before .before .before .if1 .left) (reads-as _ _ _ _ _ _ (c .before .before .before .before .before .small-at .ensures) (c .before .before .portion-fault .ensures .0)), cause-told _ _ _ _ (omega arith) _ (c .before .before .before .before .before .before .before .stands .ensures) (c .before .before .before .before .before .before .if1 .left) (c .before .before .before .before .before .small-at .ensures) _ _ (c .before .before .before .before .if2 .taken) (omega arith) (c .before .before .portion-fault .ensures .1))
 
 slice-write-out : tie.Need-slice-write-out
 slice-write-out c = search needs
@@ -48,16 +39,16 @@ add-out : tie.Need-add-out
 add-out c = search needs
 
 shared-slice-read-out : tie.Need-shared-slice-read-out
-shared-slice-read-out c = cause-room (now (c .before .before .before .before .before .before .before .args .m)) _ _ _ (c .before .before .small-at .ensures) (c .before .if3 .left) (omega arith)
+shared-slice-read-out c = cause-room (now (c .before .before .before .before .before .before .before .args .m)) _ _ _ (c .before .before .small-at .ensures) (c .before .if2 .left) (omega arith)
 
 slice-write-out-2 : tie.Need-slice-write-out-2
 slice-write-out-2 c = search needs
 
-same-length-4 : tie.Need-same-length-4
-same-length-4 c = search needs
+same-length-3 : tie.Need-same-length-3
+same-length-3 c = search needs
 
-returns-4 : tie.Need-returns-4
-returns-4 c = (ending-cause _ _ _ _ (omega arith) _ (c .before .before .before .before .stands .ensures) (c .before .before .before .if1 .left) (c .before .before .small-at .ensures), cause-laid _ _ _ _ (omega arith) _ (c .before .before .before .before .stands .ensures) (c .before .before .before .if1 .left) (c .before .before .small-at .ensures) _ _ (c .before .if3 .left) refl)
+returns-3 : tie.Need-returns-3
+returns-3 c = (ending-cause _ _ _ _ (omega arith) _ (c .before .before .before .before .stands .ensures) (c .before .before .before .if1 .left) (c .before .before .small-at .ensures), cause-laid _ _ _ _ (omega arith) _ (c .before .before .before .before .stands .ensures) (c .before .before .before .if1 .left) (c .before .before .small-at .ensures) _ _ (c .before .if2 .left) refl)
 
 pub ending-at-spec : {M : Type 1} → statement M
 ending-at-spec =
@@ -65,18 +56,15 @@ ending-at-spec =
     (tie.spec
     stands-requires
     dialogue-at-requires
-    blamed-by-requires
     same-length
     returns
+    small-at-requires
+    portion-fault-requires
     same-length-2
     returns-2
-    small-at-requires
-    of-portion-requires
-    same-length-3
-    returns-3
     slice-write-out
     add-out
     shared-slice-read-out
     slice-write-out-2
-    same-length-4
-    returns-4)
+    same-length-3
+    returns-3)

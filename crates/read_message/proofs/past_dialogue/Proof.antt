@@ -2,7 +2,6 @@
 use borrow.Author.Needs.{needs}
 use mathlib.Core.Path.{sym, _∙_}
 use Rattle.read_dialogue.proofs.Pdus.{passed-there, passed-not}
-use Rattle.read_message.proofs.Fields.{reads-as, dialogue-near, blamed-again}
 use Rattle.read_message.proofs.Leaving.{lays-there, lays-not}
 use Rattle.read_message.proofs.past_dialogue.Statement.{statement}
 use Rattle.read_message.proofs.past_dialogue.Tie as tie
@@ -13,33 +12,14 @@ stands-requires c κs = search needs
 dialogue-at-requires : tie.Need-dialogue-at-requires
 dialogue-at-requires c κs = search (needs, sym (c .before .before .stands .ensures) ∙ c .before .if1 .taken)
 
-blamed-by-requires : tie.Need-blamed-by-requires
-blamed-by-requires c κs = search needs
-
 same-length : tie.Need-same-length
 same-length c = search needs
 
 returns : tie.Need-returns
-returns c = (passed-there _ _ _ _ _ _ _ (c .before .before .before .before .before .before .before .before .before .before .stands .ensures) (c .before .before .before .before .before .before .before .before .before .if1 .taken) (reads-as _ _ _ _ _ _ (c .before .before .before .before .before .before .before .dialogue-at .ensures .0) (c .before .before .blamed-by .ensures .0)), lays-there _ _ _ _ (c .before .before .before .before .before .before .before .before .before .before .stands .ensures) (c .before .before .before .before .before .before .before .before .before .if1 .taken) _ _ (blamed-again _ _ _ _ (c .before .before .before .before .before .before .before .dialogue-at .ensures .0) _ (c .before .before .before .before .if2 .taken) _ _ (c .before .before .blamed-by .ensures .1)))
-
-same-length-2 : tie.Need-same-length-2
-same-length-2 c = search needs
+returns c = (search passed-there, lays-there _ _ _ _ (c .before .before .before .before .before .stands .ensures) (c .before .before .before .before .if1 .taken) _ _ (c .before .before .dialogue-at .ensures .1))
 
 returns-2 : tie.Need-returns-2
-returns-2 c = (search passed-there, lays-there _ _ _ _ (c .before .before .before .before .before .before .stands .ensures) (c .before .before .before .before .before .if1 .taken) _ _ (dialogue-near _ _ _ _ (c .before .before .before .dialogue-at .ensures .0) _ (c .if2 .left) _ (c .before .before .before .dialogue-at .ensures .1)))
-
-returns-3 : tie.Need-returns-3
-returns-3 c = (search passed-not, lays-not _ _ _ _ (c .before .stands .ensures) (c .if1 .left) _)
+returns-2 c = (search passed-not, lays-not _ _ _ _ (c .before .stands .ensures) (c .if1 .left) _)
 
 pub past-dialogue-spec : {M : Type 1} → statement M
-past-dialogue-spec =
-    tie.close
-    (tie.spec
-    stands-requires
-    dialogue-at-requires
-    blamed-by-requires
-    same-length
-    returns
-    same-length-2
-    returns-2
-    returns-3)
+past-dialogue-spec = tie.close (tie.spec stands-requires dialogue-at-requires same-length returns returns-2)
