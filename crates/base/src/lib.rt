@@ -4,6 +4,7 @@ ghost use Prim.Native.Nat.{_+_, _<_, _≤_};
 ghost use mathlib.Core.List.{[], _∷_};
 ghost use lib.ListN.{length, drop, take};
 ghost use Rattle.base.specs.Put.{Put};
+ghost use Rattle.base.specs.Back.{Room, PutBack};
 
 // The largest place.
 const FARTHEST: usize = 18446744073709551615;
@@ -127,4 +128,40 @@ pub fn put_part(out: &mut [u8], at: usize, part: &[u8]) -> usize
         return put_each(out, at, part);
     }
     copy_part(out, at, part)
+}
+
+// Two octets, and three, that end where `at` is; the place where they begin.
+pub fn back_two(out: &mut [u8], at: usize, one: u8, two: u8) -> usize
+    requires { ⌜ Room (now out) at (one ∷ two ∷ []) ⌝ }
+    ensures { λ r. ⌜ PutBack (now (out .entry)) at (one ∷ two ∷ []) r (now (out .exit)) ⌝ }
+{
+    let start = at - 2;
+    out[start] = one;
+    out[start + 1] = two;
+    start
+}
+
+pub fn back_three(out: &mut [u8], at: usize, one: u8, two: u8, three: u8) -> usize
+    requires { ⌜ Room (now out) at (one ∷ two ∷ three ∷ []) ⌝ }
+    ensures { λ r. ⌜ PutBack (now (out .entry)) at (one ∷ two ∷ three ∷ []) r (now (out .exit)) ⌝ }
+{
+    let start = at - 3;
+    out[start] = one;
+    out[start + 1] = two;
+    out[start + 2] = three;
+    start
+}
+
+// All octets of a part.
+pub fn back_part(out: &mut [u8], at: usize, part: &[u8]) -> usize
+    requires { ⌜ Room (now out) at (now part) ⌝ }
+    ensures { λ r. ⌜ PutBack (now (out .entry)) at (now (part .entry)) r (now (out .exit)) ⌝ }
+{
+    let start = at - part.len();
+    let mut i = 0;
+    while i < part.len() {
+        out[start + i] = part[i];
+        i += 1;
+    }
+    start
 }

@@ -154,7 +154,7 @@ unfolding digits
 digits-two k n h i = rw (ne-eqb n 0 (λ e. omega arith), digits-one k (n / 256) (omega arith) (omega arith))
 
 -- one, two or three octets
-pub Cases : ℕ → Type 0
+unfoldable pub Cases : ℕ → Type 0
 Cases n = ((n < 128) × (lengthOctets n ≡ n ∷ [])) ⊎ (((128 ≤ n) × (n < 256) × (lengthOctets n ≡ 0x81 ∷ n ∷ [])) ⊎ ((256 ≤ n) × (lengthOctets n ≡ 0x82 ∷ (n / 256) ∷ (n % 256) ∷ [])))
 
 long-octets : (n : ℕ) (ds : List ℕ) → 128 ≤ n → digits n n ≡ ds → lengthOctets n ≡ (128 + length ds) ∷ ds
@@ -170,7 +170,7 @@ two-digits zero h i = absurd (omega arith)
 two-digits (suc zero) h i = absurd (omega arith)
 two-digits (suc (suc k)) h i = digits-two k (suc (suc k)) h i
 
-cases : (n : ℕ) → n < cap → Cases n
+pub cases : (n : ℕ) → n < cap → Cases n
 unfolding Cases lengthOctets
 cases n k = go (ltb n 128) (ltb n 256) refl refl
   where

@@ -11,7 +11,7 @@ use borrow.Author.Tests.{lt-ltb, ltb-true, ltb-false, eqb-true, eqb-false, eq-eq
 use Rattle.element.specs.Form.{Form, exactly, then, leaf, around, shortest, document01, StandsFor, lengthOctets}
 use Rattle.element.proofs.Shortest.{document01-laws}
 use Rattle.judging.specs.declared.Judged.{Judged}
-use Rattle.judging.specs.Judged.{rankOf, judged, joined, wholeSize, wrapped, sizeOf}
+use Rattle.judging.specs.Judged.{rankOf, sizeCap, judged, joined, wholeSize, wrapped, sizeOf}
 
 -- the worse of two
 
@@ -36,7 +36,7 @@ module _ (p v s h p′ v′ s′ h′ : Bool) where
         worst h h′ 0 0 1 (omega arith) (omega arith),
       )
 
-joined-judged : (k l a b : ℕ) → joined (judged k a) (judged l b) ≡ judged (max k l) (a + b)
+pub joined-judged : (k l a b : ℕ) → joined (judged k a) (judged l b) ≡ judged (max k l) (a + b)
 unfolding judged joined
 joined-judged k l a b = by (eqb k 0) (eqb l 0) refl refl
   where
@@ -79,25 +79,25 @@ pub size-over : (n : ℕ) → n < wholeSize n
 unfolding wholeSize
 size-over n = omega arith
 
-pub size-most : (n : ℕ) → 253 ≤ n → 256 ≤ wholeSize n
-size-most n h = by (ltb n 256) refl
+pub size-most : (n : ℕ) → sizeCap ≤ n + 3 → sizeCap ≤ wholeSize n
+size-most n h = by (ltb n sizeCap) refl
   where
-    by : (b : Bool) → ltb n 256 ≡ b → 256 ≤ wholeSize n
-    by true e = omega (arith, size-long n (omega arith) (ltb-true n 256 e))
-    by false e = omega (arith, size-over n, ltb-false n 256 e)
+    by : (b : Bool) → ltb n sizeCap ≡ b → sizeCap ≤ wholeSize n
+    by true e = omega (arith, size-long n (omega arith) (ltb-true n sizeCap e))
+    by false e = omega (arith, size-over n, ltb-false n sizeCap e)
 
-size-capped : (n : ℕ) → min (wholeSize (min n 256)) 256 ≡ min (wholeSize n) 256
-size-capped n = by (ltb n 256) refl
+size-capped : (n : ℕ) → min (wholeSize (min n sizeCap)) sizeCap ≡ min (wholeSize n) sizeCap
+size-capped n = by (ltb n sizeCap) refl
   where
-    by : (b : Bool) → ltb n 256 ≡ b → min (wholeSize (min n 256)) 256 ≡ min (wholeSize n) 256
+    by : (b : Bool) → ltb n sizeCap ≡ b → min (wholeSize (min n sizeCap)) sizeCap ≡ min (wholeSize n) sizeCap
     by true e =
-        let h = ltb-true n 256 e in
-        let i : min n 256 ≡ n = omega arith in
+        let h = ltb-true n sizeCap e in
+        let i : min n sizeCap ≡ n = omega arith in
         rw i
     by false e =
-        let h = ltb-false n 256 e in
-        let i : min n 256 ≡ 256 = omega arith in
-        rw i (omega (arith, size-over n, size-over 256))
+        let h = ltb-false n sizeCap e in
+        let i : min n sizeCap ≡ sizeCap = omega arith in
+        rw i (omega (arith, size-over n, size-over sizeCap))
 
 pub wrap : (k n : ℕ) → wrapped (judged k n) ≡ judged k (wholeSize n)
 unfolding judged wrapped
@@ -131,7 +131,7 @@ pub record Passed (p v s h : Bool) (n k : ℕ) : Type 0 where
   pub ranges : v ≡ true
   pub lies : s ≡ true
   pub shaped : h ≡ true
-  pub size : k ≡ min n 256
+  pub size : k ≡ min n sizeCap
 
 pub passed : (p v s h : Bool) (n k : ℕ) → judged (rankOf p v s h) n ≡ Judged.Fine k → Passed p v s h n k
 unfolding judged rankOf

@@ -1,3 +1,4 @@
 pub mod Joining
 pub mod Leaves
 pub mod Rows
+pub mod Listed

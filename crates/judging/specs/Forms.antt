@@ -2,7 +2,6 @@
 -- Assumes nothing: these are definitions.
 use Prim.Native.Nat.{ℕ}
 use mathlib.Core.{List.List, List.[], List._∷_}
-use lib.{ListN.length}
 use Rattle.element.specs.{Form.Form, Form.exactly, Form.then, Form.leaf, Form.around, Form.seriesForm, Form.shortest, Form.document01}
 use Rattle.tcap.specs.{declared.Span.Span, declared.OptionalSpan.OptionalSpan, declared.OptionalOrig.OptionalOrig, declared.OptionalDest.OptionalDest, declared.InvokeId.InvokeId, declared.LinkedId.LinkedId, declared.Code.Code, declared.Returned.Returned, declared.ComponentKind.ComponentKind, declared.Row.Row, declared.Dialogue.Dialogue, declared.Record.Record, Record.messageTag, Meaning.octet, Meaning.integer, Meaning.problemForm, Meaning.structured, Meaning.unstructured, Meaning.versionForm, Meaning.contextForm, Meaning.sourceForm, Meaning.external}
 use Rattle.judging.specs.{Verdict.octetsIn, Verdict.counted}
@@ -36,6 +35,14 @@ module _ (m : List ℕ) where
   rowTag (ComponentKind.ResultNotLast r) = 0xA7
   rowTag (ComponentKind.ReturnError c p) = 0xA3
   rowTag (ComponentKind.Reject q) = 0xA4
+
+  -- behind the invoke ID
+  unfoldable pub restForm : ComponentKind → Form
+  restForm (ComponentKind.Invoke l c p) = then (linkedForm l) (then (codeForm c) (parameterForm p))
+  restForm (ComponentKind.ResultLast r) = returnedForm r
+  restForm (ComponentKind.ResultNotLast r) = returnedForm r
+  restForm (ComponentKind.ReturnError c p) = then (codeForm c) (parameterForm p)
+  restForm (ComponentKind.Reject q) = problemForm q
 
   unfoldable pub contentsForm : InvokeId → ComponentKind → Form
   contentsForm i (ComponentKind.Invoke l c p) = then (idForm i) (then (linkedForm l) (then (codeForm c) (parameterForm p)))

@@ -4,20 +4,27 @@ use Prim.Native.Nat.{ℕ, suc, _+_, min, max}
 use mathlib.Core.{Bool.Bool, Bool.true, Bool.cond, Bool._&&_, List.List}
 use lib.{ListN.length, Dec.leb, Dec.eqb}
 use Rattle.element.specs.{declared.Walk.Walk, Form.Form, Form.then, Form.seriesForm, Form.lengthOctets, Form.shortest, Form.document01}
-use Rattle.tcap.specs.{declared.Span.Span, declared.OptionalSpan.OptionalSpan, declared.InvokeId.InvokeId, declared.LinkedId.LinkedId, declared.Code.Code, declared.Problem.Problem, declared.Returned.Returned, declared.ComponentKind.ComponentKind, declared.Row.Row, Meaning.problemForm}
-use Rattle.judging.specs.{declared.Judged.Judged, Verdict.every, Verdict.idThere, Verdict.rowPartsFit, Verdict.ranges, Verdict.nameRanges, Verdict.codeRanges, Verdict.problemRanges, Verdict.returnedRanges, Verdict.rowRanges, Verdict.lies, Verdict.optionLies, Verdict.codeLies, Verdict.returnedLies, Verdict.rowLies, Verdict.tookAll, Verdict.isElement, Verdict.isSeries, Verdict.octetsIn, Verdict.nameShaped, Verdict.parameterShaped, Verdict.codeShaped, Verdict.returnedShaped, Verdict.rowShaped, Forms.idForm, Forms.linkedForm, Forms.codeForm, Forms.parameterForm, Forms.returnedForm, Forms.contentsForm, Forms.rowForm}
+use Rattle.tcap.specs.{declared.Span.Span, declared.OptionalSpan.OptionalSpan, declared.Code.Code, declared.Problem.Problem, declared.Returned.Returned, declared.ComponentKind.ComponentKind, declared.Row.Row, Meaning.problemForm, WellFormed.mostOctets}
+use Rattle.judging.specs.{declared.Judged.Judged, Verdict.every, Verdict.rowPartsFit, Verdict.ranges, Verdict.nameRanges, Verdict.codeRanges, Verdict.problemRanges, Verdict.returnedRanges, Verdict.rowRanges, Verdict.lies, Verdict.optionLies, Verdict.codeLies, Verdict.returnedLies, Verdict.rowLies, Verdict.tookAll, Verdict.isElement, Verdict.isSeries, Verdict.octetsIn, Verdict.nameShaped, Verdict.parameterShaped, Verdict.codeShaped, Verdict.returnedShaped, Verdict.rowShaped, Forms.codeForm, Forms.parameterForm, Forms.returnedForm, Forms.restForm, Forms.rowForm}
 
 -- the worst of a part by the four tests, in the order of document 01: 4 for 24, 3 for 23, 2 for 21, 1 for 22, and 0 for none
 unfoldable pub rankOf : Bool → Bool → Bool → Bool → ℕ
 rankOf parts ranges lies shaped = cond parts (cond ranges (cond lies (cond shaped 0 1) 2) 3) 4
 
--- sizes above 255 are all alike: no such message may be written
+-- sizes above the most octets are all alike: no such message may be written
+abbrev pub sizeCap : ℕ
+sizeCap = suc mostOctets
+
 unfoldable pub judged : ℕ → ℕ → Judged
-judged rank size = cond (eqb rank 0) (Judged.Fine (min size 256)) (Judged.Bad rank)
+judged rank size = cond (eqb rank 0) (Judged.Fine (min size sizeCap)) (Judged.Bad rank)
+
+-- a part as octets say it: an octet that chooses and is not listed is a wrong part, 24
+abbrev pub listed : Bool → Judged → Judged
+listed b j = cond b j (Judged.Bad 4)
 
 -- two parts, one after the other
 unfoldable pub joined : Judged → Judged → Judged
-joined (Judged.Fine a) (Judged.Fine b) = Judged.Fine (min (a + b) 256)
+joined (Judged.Fine a) (Judged.Fine b) = Judged.Fine (min (a + b) sizeCap)
 joined (Judged.Fine a) (Judged.Bad l) = Judged.Bad l
 joined (Judged.Bad k) (Judged.Fine b) = Judged.Bad k
 joined (Judged.Bad k) (Judged.Bad l) = Judged.Bad (max k l)
@@ -27,7 +34,7 @@ unfoldable pub wholeSize : ℕ → ℕ
 wholeSize n = suc (length (lengthOctets n) + n)
 
 unfoldable pub wrapped : Judged → Judged
-wrapped (Judged.Fine n) = Judged.Fine (min (wholeSize n) 256)
+wrapped (Judged.Fine n) = Judged.Fine (min (wholeSize n) sizeCap)
 wrapped (Judged.Bad k) = Judged.Bad k
 
 abbrev pub sizeOf : Form → ℕ
@@ -40,21 +47,8 @@ walkJudged w n = judged (rankOf true true true (tookAll w n)) n
 abbrev pub octetJudged : ℕ → ℕ → Judged
 octetJudged x most = judged (rankOf true (leb x most) true true) 3
 
-abbrev pub idJudged : InvokeId → Judged
-idJudged i = judged (rankOf (idThere i) true true true) (sizeOf (idForm i))
-
--- of a Reject, where null may stand
-abbrev pub nullJudged : InvokeId → Judged
-nullJudged i = judged (rankOf true true true true) (sizeOf (idForm i))
-
-abbrev pub linkedJudged : LinkedId → Judged
-linkedJudged l = judged (rankOf true true true true) (sizeOf (linkedForm l))
-
 abbrev pub problemJudged : Problem → Judged
 problemJudged q = judged (rankOf true (problemRanges q) true true) (sizeOf (problemForm q))
-
-abbrev pub rejectJudged : InvokeId → Problem → Judged
-rejectJudged i q = judged (rankOf true (problemRanges q) true true) (sizeOf (then (idForm i) (problemForm q)))
 
 module _ (m : List ℕ) where
   -- octets of any kind; of 1 to `most`; an object identifier; one element; a series of 28
@@ -85,8 +79,8 @@ module _ (m : List ℕ) where
   abbrev pub returnedJudged : Returned → Judged
   returnedJudged r = judged (rankOf true (returnedRanges r) (returnedLies (length m) r) (returnedShaped m r)) (sizeOf (returnedForm m r))
 
-  abbrev pub contentsJudged : InvokeId → ComponentKind → Judged
-  contentsJudged i k = judged (rankOf (rowPartsFit i k) (rowRanges k) (rowLies (length m) k) (rowShaped m k)) (sizeOf (contentsForm m i k))
+  abbrev pub restJudged : ComponentKind → Judged
+  restJudged k = judged (rankOf true (rowRanges k) (rowLies (length m) k) (rowShaped m k)) (sizeOf (restForm m k))
 
   abbrev pub rowJudged : Row → Judged
   rowJudged r = judged (rankOf (rowPartsFit (r .id) (r .kind)) (rowRanges (r .kind)) (rowLies (length m) (r .kind)) (rowShaped m (r .kind))) (sizeOf (rowForm m r))

@@ -1,6 +1,6 @@
 -- Why a record may not be written over the material beside it: document 01, "Writing", each number over the whole record before the next.
 -- Assumes nothing: these are definitions.
-use Prim.Native.Nat.{ℕ, suc, _+_, _-_}
+use Prim.Native.Nat.{ℕ, _+_, _-_}
 use mathlib.Core.{Bool.Bool, Bool.true, Bool.false, Bool.not, Bool._&&_, List.List, List.[], List._∷_}
 use lib.{ListN.length, ListN.take, ListN.drop, Dec.leb, Dec.eqb}
 use Rattle.base.specs.{Value.same}

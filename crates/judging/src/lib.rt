@@ -1,48 +1,46 @@
 // Whether the parts of a record may be written, and how many octets they take, told in one pass.
+pub mod row;
+
 ghost use mathlib.Core.Path.{_≡_};
 ghost use mathlib.Core.Bool.{true};
 ghost use Prim.Native.Nat.{_+_, min, max};
-ghost use lib.ListN.{length, take};
+ghost use lib.ListN.{length};
 ghost use Rattle.judging.specs.Verdict.{lies, octetsIn};
-ghost use Rattle.judging.specs.Judged.{joined, wrapped, walkJudged, octetJudged, idJudged, nullJudged, linkedJudged, problemJudged, rejectJudged, octetsJudged, sizedJudged, nameJudged, elementJudged, seriesJudged, codeJudged, parameterJudged, codedJudged, returnedJudged, contentsJudged, rowJudged, rowsJudged};
-ghost use Rattle.tcap.specs.declared.ComponentKind.{ComponentKind};
+ghost use Rattle.judging.specs.Judged.{sizeCap, joined, wrapped, walkJudged, octetJudged, octetsJudged, sizedJudged, nameJudged, elementJudged, seriesJudged};
 use base::piece;
 use element::Walk;
 use element::walk_element;
 use element::walk_series;
 use primitive::identifier_ok;
-use primitive::integer_size;
-use tcap::Code;
-use tcap::ComponentKind;
-use tcap::InvokeId;
-use tcap::LinkedId;
-use tcap::OptionalSpan;
-use tcap::Problem;
-use tcap::Returned;
-use tcap::Row;
 use tcap::Span;
 
-// A part that may be written, with its size, where 256 is any size above 255; or the worst that is wrong: 4 for 24, 3 for 23, 2 for 21, 1 for 22.
+// The most octets that a message may have.
+pub const MOST_OCTETS: usize = 255;
+
+// Any size above that.
+const SIZE_CAP: usize = 256;
+
+// A part that may be written, with its size, capped; or the worst that is wrong: 4 for 24, 3 for 23, 2 for 21, 1 for 22.
 pub enum Judged {
     Fine(usize),
     Bad(u8),
 }
 
 fn capped(size: usize) -> usize
-    ensures { λ r. ⌜ r ≡ min size 256 ⌝ }
+    ensures { λ r. ⌜ r ≡ min size sizeCap ⌝ }
 {
-    if size < 256 { size } else { 256 }
+    if size < SIZE_CAP { size } else { SIZE_CAP }
 }
 
 // A sum that does not wrap.
 fn total(one: usize, other: usize) -> usize
-    ensures { λ r. ⌜ r ≡ min (one + other) 256 ⌝ }
+    ensures { λ r. ⌜ r ≡ min (one + other) sizeCap ⌝ }
 {
-    if one >= 256 {
-        return 256;
+    if one >= SIZE_CAP {
+        return SIZE_CAP;
     }
-    if other >= 256 {
-        return 256;
+    if other >= SIZE_CAP {
+        return SIZE_CAP;
     }
     capped(one + other)
 }
@@ -79,10 +77,10 @@ pub fn around(contents: Judged) -> Judged
             if n < 128 {
                 return Judged::Fine(n + 2);
             }
-            if n < 253 {
+            if n < SIZE_CAP - 3 {
                 return Judged::Fine(n + 3);
             }
-            Judged::Fine(256)
+            Judged::Fine(SIZE_CAP)
         }
     }
 }
@@ -191,171 +189,4 @@ pub fn octet_judged(octet: u8, most: u8) -> Judged
         return Judged::Bad(3);
     }
     Judged::Fine(3)
-}
-
-// The invoke ID of a Reject, or null.
-fn null_judged(id: InvokeId) -> Judged
-    ensures { λ r. ⌜ r ≡ nullJudged id ⌝ }
-{
-    match id {
-        InvokeId::Null => Judged::Fine(2),
-        InvokeId::Id(i) => Judged::Fine(3),
-    }
-}
-
-// The invoke ID of any other component.
-fn id_judged(id: InvokeId) -> Judged
-    ensures { λ r. ⌜ r ≡ idJudged id ⌝ }
-{
-    match id {
-        InvokeId::Null => Judged::Bad(4),
-        InvokeId::Id(i) => Judged::Fine(3),
-    }
-}
-
-fn linked_judged(linked: LinkedId) -> Judged
-    ensures { λ r. ⌜ r ≡ linkedJudged linked ⌝ }
-{
-    match linked {
-        LinkedId::Unlinked => Judged::Fine(0),
-        LinkedId::Linked(i) => Judged::Fine(3),
-    }
-}
-
-// An operation or error code.
-fn code_judged(code: Code, material: &[u8]) -> Judged
-    ensures { λ r. ⌜ r ≡ codeJudged (now (material .entry)) code ⌝ }
-{
-    match code {
-        Code::Local(z) => around(Judged::Fine(integer_size(z))),
-        Code::Global(name) => around(name_judged(name, material)),
-    }
-}
-
-// A parameter stands at level 4.
-fn parameter_judged(parameter: OptionalSpan, material: &[u8]) -> Judged
-    ensures { λ r. ⌜ r ≡ parameterJudged (now (material .entry)) parameter ⌝ }
-{
-    match parameter {
-        OptionalSpan::Absent => Judged::Fine(0),
-        OptionalSpan::Present(span) => element_judged(span, material, 13),
-    }
-}
-
-// What a return result holds; its parameter stands at level 5.
-fn returned_judged(returned: Returned, material: &[u8]) -> Judged
-    ensures { λ r. ⌜ r ≡ returnedJudged (now (material .entry)) returned ⌝ }
-{
-    match returned {
-        Returned::Bare => Judged::Fine(0),
-        Returned::Both { code, parameter } => around(both(
-            code_judged(code, material),
-            element_judged(parameter, material, 12),
-        )),
-    }
-}
-
-fn problem_judged(problem: Problem) -> Judged
-    ensures { λ r. ⌜ r ≡ problemJudged problem ⌝ }
-{
-    match problem {
-        Problem::General(n) => octet_judged(n, 2),
-        Problem::OfInvoke(n) => octet_judged(n, 7),
-        Problem::OfResult(n) => octet_judged(n, 2),
-        Problem::OfError(n) => octet_judged(n, 4),
-    }
-}
-
-// A code, and the parameter behind it.
-fn coded_judged(code: Code, parameter: OptionalSpan, material: &[u8]) -> Judged
-    ensures { λ r. ⌜ r ≡ codedJudged (now (material .entry)) code parameter ⌝ }
-{
-    both(
-        code_judged(code, material),
-        parameter_judged(parameter, material),
-    )
-}
-
-// What an Invoke holds.
-fn invoke_judged(
-    id: InvokeId,
-    linked: LinkedId,
-    code: Code,
-    parameter: OptionalSpan,
-    material: &[u8],
-) -> Judged
-    ensures { λ r. ⌜ r ≡ contentsJudged (now (material .entry)) id (ComponentKind.Invoke linked code parameter) ⌝ }
-{
-    let coded = coded_judged(code, parameter, material);
-    both(id_judged(id), both(linked_judged(linked), coded))
-}
-
-// What a return result holds, be it the last or not.
-fn result_judged(id: InvokeId, returned: Returned, material: &[u8]) -> Judged
-    ensures { λ r. ⌜ r ≡ contentsJudged (now (material .entry)) id (ComponentKind.ResultLast returned) ⌝ }
-{
-    both(id_judged(id), returned_judged(returned, material))
-}
-
-// What a return error holds.
-fn error_judged(id: InvokeId, code: Code, parameter: OptionalSpan, material: &[u8]) -> Judged
-    ensures { λ r. ⌜ r ≡ contentsJudged (now (material .entry)) id (ComponentKind.ReturnError code parameter) ⌝ }
-{
-    both(id_judged(id), coded_judged(code, parameter, material))
-}
-
-// What a Reject holds.
-fn reject_judged(id: InvokeId, problem: Problem) -> Judged
-    ensures { λ r. ⌜ r ≡ rejectJudged id problem ⌝ }
-{
-    both(null_judged(id), problem_judged(problem))
-}
-
-// What a component holds.
-fn contents_judged(id: InvokeId, kind: ComponentKind, material: &[u8]) -> Judged
-    ensures { λ r. ⌜ r ≡ contentsJudged (now (material .entry)) id kind ⌝ }
-{
-    match kind {
-        ComponentKind::Invoke {
-            linked,
-            code,
-            parameter,
-        } => invoke_judged(id, linked, code, parameter, material),
-        ComponentKind::ResultLast(returned) => result_judged(id, returned, material),
-        ComponentKind::ResultNotLast(returned) => result_judged(id, returned, material),
-        ComponentKind::ReturnError { code, parameter } => error_judged(
-            id,
-            code,
-            parameter,
-            material,
-        ),
-        ComponentKind::Reject(problem) => reject_judged(id, problem),
-    }
-}
-
-// One component.
-pub fn row_judged(row: Row, material: &[u8]) -> Judged
-    ensures { λ r. ⌜ r ≡ rowJudged (now (material .entry)) row ⌝ }
-{
-    let id = row.id;
-    let kind = row.kind;
-    around(contents_judged(id, kind, material))
-}
-
-// The components that count, one after the other; with a count above 16 all 16 are looked at.
-pub fn rows_judged(rows: [Row; 16], count: usize, material: &[u8]) -> Judged
-    ensures { λ r. ⌜ r ≡ rowsJudged (now (material .entry)) (take count rows) ⌝ }
-{
-    let mut all = Judged::Fine(0);
-    let mut i = 0;
-    while i < 16 {
-        if i >= count {
-            return all;
-        }
-        let row = rows[i];
-        let one = row_judged(row, material);
-        all = both(all, one);
-        i += 1;
-    }
-    all
 }

@@ -1,16 +1,22 @@
--- By their types the rows of the code, and their parts, are such as the octets can hold. Assumes nothing.
-use Prim.Native.Nat.{_<_, _≤_, _^_}
-use mathlib.Core.Path.{_≡_}
+-- By their types the records of the code, and their parts, are such as the octets can hold, but for the count. Assumes nothing.
+use Prim.Native.Nat.{ℕ, zero, suc, _<_, _≤_, _^_}
+use mathlib.Core.Path.{_≡_, sym, _∙_}
 use mathlib.Core.Bool.{true}
-use mathlib.Core.List.{List, [], _∷_}
+use mathlib.Core.List.{List, [], _∷_, map}
 use native.Mathlib.Omega.{arith}
+use lib.ListN.{take, length-map}
 use lib.IntN.{ℤ}
 use lib.Signed.{mag}
 use mir.Val.{Val}
 use denote.Laws.{Is}
+use denote.Shadow.{shadow}
+use denote.Array.{each}
+use denote.Struct.Struct.{Struct}
+use denote.Struct.Declared.{shape}
 use Rattle.base.specs.Number.{topOf, holds}
+use Rattle.base.specs.Value.{Every}
 use Rattle.base.proofs.Numbers.{small-holds}
-use Rattle.tcap.specs.declared.{Span.Span, OptionalSpan.OptionalSpan, InvokeId.InvokeId, LinkedId.LinkedId, Code.Code, Returned.Returned, ComponentKind.ComponentKind, Row.Row}
+use Rattle.tcap.specs.declared.{Span.Span, OptionalSpan.OptionalSpan, OptionalOrig.OptionalOrig, OptionalDest.OptionalDest, InvokeId.InvokeId, LinkedId.LinkedId, Code.Code, Returned.Returned, ComponentKind.ComponentKind, Row.Row, Dialogue.Dialogue, Record.Record}
 use Rattle.tcap.proofs.Span as Spans
 use Rattle.tcap.proofs.OptionalSpan as Optionals
 use Rattle.tcap.proofs.InvokeId as Ids
@@ -19,7 +25,11 @@ use Rattle.tcap.proofs.Code as Codes
 use Rattle.tcap.proofs.Returned as Returns
 use Rattle.tcap.proofs.ComponentKind as Components
 use Rattle.tcap.proofs.Row as Rows
-use Rattle.layout.specs.Fits.{SpanFits, OptionalFits, IdFits, LinkedFits, CodeFits, ReturnedFits, KindFits, RowFits}
+use Rattle.tcap.proofs.OptionalOrig as Origs
+use Rattle.tcap.proofs.OptionalDest as Dests
+use Rattle.tcap.proofs.Dialogue as Dialogues
+use Rattle.tcap.proofs.Record as Records
+use Rattle.layout.specs.Fits.{SpanFits, OptionalFits, IdFits, LinkedFits, CodeFits, ReturnedFits, KindFits, RowFits, OrigFits, DestFits, DialogueFits, RecordFits}
 
 octet-holds : (z : ℤ) → mag z < 2 ^ 7 → holds 1 z ≡ true
 unfolding topOf
@@ -62,3 +72,46 @@ kind-typed (ComponentKind.Reject q) vs p = tt
 
 pub row-typed : (w : Row) (vs : List Val) → Is Rows.the-row w vs → RowFits w
 row-typed w vs p = (id-typed (w .id) _ (p .1 .1 .0), kind-typed (w .kind) _ (p .1 .1 .1 .0))
+
+pub rows-typed : (rs : List Row) (us : List Val) → shadow (each (Struct (shape Rows.the-type) .Denot) (Struct (shape Rows.the-type) .own) (map (Rows.the-type .to) rs) us) → Every RowFits rs
+unfolding Every
+rows-typed [] us p = tt
+rows-typed (w ∷ rs) [] p = absurd p
+rows-typed (w ∷ rs) (u ∷ us) p = (row-typed w (u ∷ []) (p .0), rows-typed rs us (p .1))
+
+orig-typed : (o : OptionalOrig) (vs : List Val) → Is Origs.the-row o vs → OrigFits o
+orig-typed OptionalOrig.NoOrig vs p = tt
+orig-typed (OptionalOrig.Orig o) vs p = span-typed (o .0 .octets) _ (p .1 .1 .1 .1 .0 .1 .1 .0 .1 .1 .0)
+
+dest-typed : (e : OptionalDest) (vs : List Val) → Is Dests.the-row e vs → DestFits e
+dest-typed OptionalDest.NoDest vs p = tt
+dest-typed (OptionalDest.Dest e) vs p = span-typed (e .0 .octets) _ (p .1 .1 .1 .1 .0 .1 .1 .0 .1 .1 .0)
+
+dialogue-typed : (d : Dialogue) (vs : List Val) → Is Dialogues.the-row d vs → DialogueFits d
+dialogue-typed Dialogue.NoDialogue vs p = tt
+dialogue-typed (Dialogue.Cause n) vs p = tt
+dialogue-typed (Dialogue.Request n u) vs p = (span-typed n _ (p .1 .1 .1 .1 .0), optional-typed u _ (p .1 .1 .1 .1 .1 .0))
+dialogue-typed (Dialogue.Response n r s u) vs p = (span-typed n _ (p .1 .1 .1 .1 .0), optional-typed u _ (p .1 .1 .1 .1 .1 .1 .1 .0))
+dialogue-typed (Dialogue.DialogueAbort r u) vs p = optional-typed u _ (p .1 .1 .1 .1 .1 .0)
+dialogue-typed (Dialogue.Unidialogue n u) vs p = (span-typed n _ (p .1 .1 .1 .1 .0), optional-typed u _ (p .1 .1 .1 .1 .1 .0))
+dialogue-typed (Dialogue.OutsideElement n e) vs p = (span-typed n _ (p .1 .1 .1 .1 .0), span-typed e _ (p .1 .1 .1 .1 .1 .0))
+dialogue-typed (Dialogue.OutsideOctets n c) vs p = (span-typed n _ (p .1 .1 .1 .1 .0), span-typed c _ (p .1 .1 .1 .1 .1 .0))
+
+every-first : (n : ℕ) (rs : List Row) → Every RowFits rs → Every RowFits (take n rs)
+unfolding Every
+every-first zero rs h = tt
+every-first (suc n) [] h = tt
+every-first (suc n) (r ∷ rs) h = (h .0, every-first n rs (h .1))
+
+-- of a parameter `r` this is of `record-typed (c .args .r) _ (c .good .0)`, if it is the first; the count may be too large
+pub record-typed : (r : Record) (vs : List Val) → Is Records.the-row r vs → (n : ℕ) → n ≤ topOf 4 → RecordFits (record { kind = r .kind; orig = r .orig; dest = r .dest; dialogue = r .dialogue; count = n; rows = r .rows })
+record-typed r vs p n h =
+    let a = p .1 .1 .1 .1 .1 .1 .1 .0 in
+    record {
+      orig = orig-typed (r .orig) _ (p .1 .1 .1 .0);
+      dest = dest-typed (r .dest) _ (p .1 .1 .1 .1 .0);
+      dialogue = dialogue-typed (r .dialogue) _ (p .1 .1 .1 .1 .1 .0);
+      count = h;
+      sixteen = sym (length-map (r .rows) _) ∙ a .1 .0 .1;
+      rows = every-first n (r .rows) (rows-typed (r .rows) (a .0) (a .1 .1));
+    }

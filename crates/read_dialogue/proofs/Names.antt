@@ -166,10 +166,10 @@ pub name-other : (m : List ℕ) (at n k : ℕ) (xs : List ℕ) → xs ≡ take n
 name-other m at n k xs xs-is told z = ap nameKind (sym xs-is) ∙ sym told ∙ z
 
 module _ (m : List ℕ) (at stop n : ℕ) (ready : Ready m at stop) where
-  pub name-lacks : n ≡ countOf (until stop - at) (getD m at 0) (getD m (at + 1) 0) 6 16 → n ≡ 0 → (r : ℕ) → r ≡ badPlace m at stop 6 → Finishes (externalBody deepestLevel) m at stop r
+  pub name-lacks : n ≡ countOf (until stop) at (getD m at 0) (getD m (at + 1) 0) 6 16 → n ≡ 0 → (r : ℕ) → r ≡ badPlace m at stop 6 → Finishes (externalBody deepestLevel) m at stop r
   name-lacks is z r e = external-far m at stop r (name-none m at stop n (ready .0 .0) (ready .0 .1) is z r e) (bad-far m at stop 6 r e)
 
-  pub name-counted : n ≡ countOf (until stop - at) (getD m at 0) (getD m (at + 1) 0) 6 16 → (n ≡ 0 → ⊥) → NameCounted m at stop n
+  pub name-counted : n ≡ countOf (until stop) at (getD m at 0) (getD m (at + 1) 0) 6 16 → (n ≡ 0 → ⊥) → NameCounted m at stop n
   name-counted is some = (is, positive n some)
     where
       positive : (k : ℕ) → (k ≡ 0 → ⊥) → 1 ≤ k

@@ -52,7 +52,7 @@ pduItem false = askedItem deepestLevel unidialogue
 
 -- how many octets a name here would have: 1 to 16
 abbrev pub NameCounted : List ℕ → ℕ → ℕ → ℕ → Type 0
-NameCounted m at stop n = (n ≡ countOf (until stop - at) (getD m at 0) (getD m (at + 1) 0) 0x06 16) × (1 ≤ n)
+NameCounted m at stop n = (n ≡ countOf (until stop) at (getD m at 0) (getD m (at + 1) 0) 0x06 16) × (1 ≤ n)
 
 -- what stands behind a name, whatever its octets were: the structured dialogue, the unstructured, another
 unfoldable pub Holds : Bool → Bool → List ℕ → ℕ → ℕ → ℕ → Type 0

@@ -9,14 +9,15 @@ use lib.ListN.{length}
 use lib.Dec.{eqb}
 use borrow.Author.Tests.{eqb-true, eqb-false}
 use Rattle.element.specs.Form.{seriesForm}
-use Rattle.tcap.specs.declared.{Row.Row, MessageKind.MessageKind, Record.Record}
+use Rattle.tcap.specs.declared.{OptionalOrig.OptionalOrig, OptionalDest.OptionalDest, Row.Row, Dialogue.Dialogue, MessageKind.MessageKind, Record.Record}
 use Rattle.tcap.specs.WellFormed.{mostComponents}
 use Rattle.judging.specs.declared.Judged.{Judged}
-use Rattle.judging.specs.Verdict.{counted, partsFit, allParts, allRanges, allLie, allShaped}
+use Rattle.judging.specs.Verdict.{counted, partsFit, origRanges, destRanges, dialogueRanges, origLies, destLies, dialogueLies, dialogueShaped, allParts, allRanges, allLie, allShaped}
 use Rattle.judging.specs.Forms.{rowsForm, insideForm, recordForm}
 use Rattle.judging.specs.Judged.{rankOf, judged, wrapped, sizeOf, rowsRank, rowsJudged}
 use Rattle.judging.proofs.Joining.{join, wrap, then-size, around-size}
 use Rattle.judging.proofs.Rows.{rows-none}
+use Rattle.judging.proofs.Listed.{over-right}
 use Rattle.verdict.specs.Whole.{origFits, destFits, restFits, portionOf, portionJudged, messageJudged}
 
 pub parts-by : (k : MessageKind) (o e c : Bool) (n : ℕ) → partsFit k o e c n ≡ origFits k o && (destFits k e && restFits k c n)
@@ -49,3 +50,8 @@ module _ (m : List ℕ) where
   pub record-law : (r : Record) → messageJudged m (r .kind) (r .orig) (r .dest) (r .dialogue) (r .count) (portionJudged m (counted r)) ≡ judged (rankOf (allParts r) (allRanges r) (allLie (length m) r) (allShaped m r)) (sizeOf (recordForm m r))
   unfolding rowsRank allParts allRanges allLie allShaped insideForm recordForm
   record-law r = simp (join, wrap, around-size, then-size, zero-add)
+
+  -- a wrong part of a row outranks all else
+  pub message-bad : (k : MessageKind) (o : OptionalOrig) (e : OptionalDest) (d : Dialogue) (n : ℕ) → messageJudged m k o e d n (Judged.Bad 4) ≡ Judged.Bad 4
+  unfolding wrapped
+  message-bad k o e d n = rw (over-right true (dialogueRanges d) (dialogueLies (length m) d) (dialogueShaped m d), over-right true (destRanges e) (destLies (length m) e) true, over-right true (origRanges o) (origLies (length m) o) true) (over-right _ _ true true 0)

@@ -1,10 +1,7 @@
 // Whether a record may be written, and how many octets the message has, told in one pass.
 ghost use mathlib.Core.Path.{_≡_};
-ghost use lib.ListN.{length};
 ghost use Rattle.tcap.specs.declared.Dialogue.{Dialogue};
-ghost use Rattle.judging.specs.Verdict.{origThere, destThere, causeThere, allParts, allRanges, allLie, allShaped};
-ghost use Rattle.judging.specs.Forms.{recordForm, octetsOf};
-ghost use Rattle.judging.specs.Judged.{rankOf, judged};
+ghost use Rattle.judging.specs.Verdict.{origThere, destThere, causeThere};
 ghost use Rattle.verdict.specs.Whole.{externalJudged, pduJudged, numberJudged, sourceJudged, origFits, destFits, restFits, partsJudged, infoJudged, contextJudged, outsideJudged, answerJudged, dialogueJudged, origJudged, destJudged, portionOf, behindJudged, messageJudged};
 use judging::Judged;
 use judging::around;
@@ -14,7 +11,6 @@ use judging::name_judged;
 use judging::octet_judged;
 use judging::octets_judged;
 use judging::octets_of;
-use judging::rows_judged;
 use judging::series_judged;
 use judging::sized_judged;
 use tcap::Diagnostic;
@@ -23,8 +19,6 @@ use tcap::MessageKind;
 use tcap::OptionalDest;
 use tcap::OptionalOrig;
 use tcap::OptionalSpan;
-use tcap::Record;
-use tcap::Row;
 use tcap::Span;
 use tcap::name_kind;
 
@@ -334,18 +328,4 @@ pub fn message_judged(
     let rest = both(dialogue_judged(dialogue, material), portion);
     let whole = around(behind_judged(orig, dest, rest, material));
     both(parts_judged(kind, orig, dest, dialogue, count), whole)
-}
-
-// A record over the material that its strings lie in.
-pub fn record_judged(message: Record, material: &[u8]) -> Judged
-    ensures { λ r. ⌜ r ≡ judged (rankOf (allParts message) (allRanges message) (allLie (length (now (material .entry))) message) (allShaped (now (material .entry)) message)) (length (octetsOf (recordForm (now (material .entry)) message))) ⌝ }
-{
-    let kind = message.kind;
-    let orig = message.orig;
-    let dest = message.dest;
-    let dialogue = message.dialogue;
-    let rows = message.rows;
-    let count = message.count;
-    let portion = portion_judged(count, rows_judged(rows, count, material));
-    message_judged(kind, orig, dest, dialogue, count, portion, material)
 }

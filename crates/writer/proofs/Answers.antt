@@ -1,5 +1,5 @@
--- What writing answers, and what it leaves in the buffer, from what the code computes: the rank of the worst that is wrong, and the size, which stays at
--- 256 from there on. Assumes nothing.
+-- What writing answers, and what it leaves in the buffer, from what the code computes: the rank of the worst that is wrong, and the size, which is
+-- capped. Assumes nothing.
 use Prim.Native.Nat.{ℕ, _≤_, _<_, min}
 use mathlib.Core.Path.{_≡_, refl, sym, _∙_}
 use mathlib.Core.Bool.{Bool, true, false, cond}
@@ -8,12 +8,13 @@ use native.Mathlib.Omega.{arith}
 use lib.ListN.{length}
 use lib.Dec.{leb, eqb}
 use borrow.Author.Tests.{leb-true, leb-false, le-leb, lt-leb}
-use Rattle.base.specs.Put.{Put}
-use Rattle.base.proofs.Puts.{put-front}
+use Rattle.base.specs.Back.{Room, PutBack}
+use Rattle.base.proofs.Backs.{back-front}
 use Rattle.tcap.specs.declared.{Record.Record}
 use Rattle.tcap.specs.WellFormed.{mostOctets}
 use Rattle.judging.specs.Verdict.{allParts, allRanges, allLie, allShaped}
 use Rattle.judging.specs.Forms.{recordForm, octetsOf}
+use Rattle.judging.specs.Judged.{sizeCap}
 use Rattle.writer.specs.declared.{WriteFault.WriteFault, Written.Written}
 use Rattle.writer.specs.Writing.{faultAt, messageOf, RecordOk, unless, writing, Writes, RecordTyped}
 use Rattle.writer.proofs.Meant.{checked-means}
@@ -57,8 +58,8 @@ module _ (r : Record) (m : List ℕ) where
   unfolding writing
   bad-writes {k} {out} h e = untouched (by-rank (allParts r) (allRanges r) (allLie (length m) r) (allShaped m r) _ ∙ rw (h, e))
 
-  -- no rank, and a size that stays at 256 from there on
-  module _ (w : RecordTyped r) (fine : rankIn ≡ 0) (n : ℕ) (sized : n ≡ min (length octetsIn) 256) where
+  -- no rank, and a size that is capped
+  module _ (w : RecordTyped r) (fine : rankIn ≡ 0) (n : ℕ) (sized : n ≡ min (length octetsIn) sizeCap) where
     pub message-octets : messageOf r m ≡ octetsIn
     message-octets = let (μ, e, f) = checked-means r m w (rank-ok fine) in message-is r m e ∙ forms-same r m e
 
@@ -74,8 +75,12 @@ module _ (r : Record) (m : List ℕ) where
     pub full-writes : {out : List ℕ} → min mostOctets (length out) < n → Writes r m out (Written.Refused WriteFault.NoRoom) out
     full-writes {out} l = untouched (fine-answer (length out) ∙ rw (lt-leb n (min mostOctets (length out)) l))
 
-    pub put-writes : {next : ℕ} {out new : List ℕ} → n ≤ min mostOctets (length out) → Put out 0 octetsIn next new → Writes r m out (Written.Length n) new
-    put-writes {next} {out} {new} l p =
+    -- the octets fit exactly before the place that the size tells
+    pub put-room : {out : List ℕ} → n ≤ min mostOctets (length out) → Room out n octetsIn
+    put-room l = record { fits = omega arith; within = omega arith; low = omega arith }
+
+    pub put-writes : {start : ℕ} {out new : List ℕ} → n ≤ min mostOctets (length out) → PutBack out n octetsIn start new → Writes r m out (Written.Length n) new
+    put-writes {start} {out} {new} l p =
         let g : length octetsIn ≡ n = omega arith in
         let a : writing r m (length out) ≡ Written.Length n = fine-answer (length out) ∙ rw (le-leb n (min mostOctets (length out)) l) in
-        record { answers = sym a; holds = put-front p (omega arith) ∙ rw (g, ← message-octets) (sym (leaves-message r m out a)) }
+        record { answers = sym a; holds = back-front p (sym g) ∙ rw (g, ← message-octets) (sym (leaves-message r m out a)) }

@@ -12,3 +12,4 @@ pub mod Answers
 pub mod Specimens
 pub mod Told
 pub mod Standing
+pub mod Laid

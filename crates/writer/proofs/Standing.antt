@@ -1,45 +1,50 @@
 -- The record that octets stand for: the rows that count are those that are looked at, and the judgment of the rows tells their size.
 -- Assumes nothing.
-use Prim.Native.Nat.{ℕ, zero, suc, _+_, _-_, _/_, _≤_, _<_, min}
+use Prim.Native.Nat.{ℕ, zero, suc, _+_, _-_, _≤_, _<_, min}
 use native.Mathlib.Omega.{arith}
 use mathlib.Core.Path.{_≡_, refl, sym, ap, _∙_}
 use mathlib.Core.Bool.{Bool, true, false, cond, false≢true}
 use mathlib.Core.List.{List, [], _∷_, _++_, append-nil}
-use lib.ListN.{length, take, drop, replicate, length-append, length-replicate}
+use lib.ListN.{length, drop, replicate, length-append, length-replicate}
 use lib.Seq.{take-at, take-all}
 use lib.Dec.{leb, eqb}
-use borrow.Author.Tests.{leb-true, leb-false, eqb-true}
+use borrow.Author.Tests.{le-leb, lt-leb, leb-true, leb-false, eqb-true, ne-eqb}
 use Rattle.base.specs.Number.{topOf, signedAt, holds}
 use Rattle.base.specs.Value.{Every}
 use Rattle.base.proofs.Numbers.{signed-small, small-holds}
 use Rattle.element.specs.Form.{seriesForm}
-use Rattle.tcap.specs.declared.{Span.Span, InvokeId.InvokeId, LinkedId.LinkedId, Code.Code, Returned.Returned, ComponentKind.ComponentKind, Row.Row, Record.Record}
+use Rattle.tcap.specs.declared.{Span.Span, InvokeId.InvokeId, LinkedId.LinkedId, Code.Code, Returned.Returned, Row.Row, Record.Record}
+use Rattle.tcap.specs.WellFormed.{mostOctets}
 use Rattle.tcap.specs.Record.{blankRow}
 use Rattle.judging.specs.declared.Judged.{Judged}
 use Rattle.judging.specs.Verdict.{every, counted, rowLies, allParts, allRanges, allLie, allShaped}
-use Rattle.judging.specs.Forms.{rowForm, recordForm, octetsOf}
-use Rattle.judging.specs.Judged.{rankOf, judged, joined, wholeSize, wrapped, sizeOf, rowsRank, rowsJudged}
+use Rattle.judging.specs.Forms.{rowForm, recordForm}
+use Rattle.judging.specs.Judged.{rankOf, sizeCap, judged, listed, joined, wholeSize, wrapped, sizeOf, rowsRank, rowsJudged}
 use Rattle.judging.proofs.Rows.{rows-none}
-use Rattle.verdict.specs.Whole.{portionOf, portionJudged, messageJudged}
-use Rattle.verdict.proofs.Messages.{portion-law, record-law}
-use Rattle.rows.specs.Sizes.{rowsSize}
-use Rattle.rows.proofs.Sizes.{rows-size}
-use Rattle.putting.proofs.Sizes.{rows-lie}
-use Rattle.layout.specs.Layout.{headSize, rowSize, mostRows, recordSize, octet, numberAt, spanAt, idIn, linkedIn, codeIn, returnedIn, kindIn, rowIn, rowsIn, rowsHeld, rowsLooked, isRecord, recordIn}
+use Rattle.verdict.specs.Whole.{portionOf, messageJudged}
+use Rattle.verdict.proofs.Messages.{portion-law, record-law, message-bad}
+use Rattle.layout.specs.Layout.{headSize, rowSize, mostRows, recordSize, octet, numberAt, spanAt, idIn, linkedIn, codeIn, returnedIn, kindIn, rowIn, rowsIn, rowsHeld, rowsLooked, areRows, isHead, isRecord, recordIn}
 use Rattle.unpack.proofs.Rows.{rows-length}
 use Rattle.writer.specs.declared.{WriteFault.WriteFault, Written.Written}
 use Rattle.layout.specs.Fits.{IdFits, LinkedFits}
-use Rattle.writer.specs.Writing.{Writes, CodeTyped, ReturnedTyped, KindTyped, RowTyped, RecordTyped}
-use Rattle.writer.specs.Octets.{writingOctets, leavesOctets, sizeIn}
-use Rattle.writer.proofs.Told.{fine-tells}
+use Rattle.writer.specs.Writing.{faultAt, Writes, CodeTyped, ReturnedTyped, KindTyped, RowTyped, RecordTyped}
+use Rattle.writer.specs.Octets.{writingOctets, leavesOctets}
+use Rattle.writer.proofs.Answers.{bad-writes}
+use Rattle.writer.proofs.Told.{fine-tells, bad-tells}
 
-pub record-long : (l : List ℕ) → isRecord l ≡ true → recordSize ≤ length l
+-- Of enough octets, a head and rows are a record
+module _ (l : List ℕ) (long : recordSize ≤ length l) where
+  pub head-record : isHead l ≡ true → isRecord l ≡ areRows (rowsLooked l) (drop headSize l)
+  unfolding isRecord
+  head-record h = rw (le-leb recordSize (length l) long, h)
+
+  pub no-head : isHead l ≡ false → isRecord l ≡ false
+  unfolding isRecord
+  no-head h = rw (le-leb recordSize (length l) long, h)
+
+pub too-short : (l : List ℕ) → length l < recordSize → isRecord l ≡ false
 unfolding isRecord
-record-long l h = by-length (leb recordSize (length l)) refl
-  where
-    by-length : (b : Bool) → leb recordSize (length l) ≡ b → recordSize ≤ length l
-    by-length true e = leb-true recordSize (length l) e
-    by-length false e = absurd (false≢true (rw e at h))
+too-short l h = rw (lt-leb recordSize (length l) h)
 
 -- What octets stand for has 16 rows, IDs of 8 bits and local codes of 32
 
@@ -139,57 +144,26 @@ module _ (o : List ℕ) where
   unfolding recordIn
   looked = rows-length (rowsLooked o) (drop headSize o)
 
+  -- no rows are rows
+  some : areRows (rowsLooked o) (drop headSize o) ≡ false → recordIn o .count ≡ 0 → ⊥
+  unfolding recordIn areRows
+  some h e = let z : rowsLooked o ≡ 0 = omega (arith, e) in false≢true (sym h ∙ ap (λ (n : ℕ). areRows n (drop headSize o)) z)
+
   module _ (m : List ℕ) where
-    -- what the code judges is the record
-    pub octets-judged : (components : Judged) → components ≡ rowsJudged m rowsOf
-        → let r = recordIn o in messageJudged m (r .kind) (r .orig) (r .dest) (r .dialogue) (r .count) (portionOf (r .count) components) ≡ judged (rankOf (allParts r) (allRanges r) (allLie (length m) r) (allShaped m r)) (sizeOf (recordForm m r))
-    octets-judged components e =
-        let r = recordIn o in
-        rw (e, portion-law m rowsOf (r .count) looked, ← counted-in) (record-law m r)
+    abbrev pub are : Bool
+    are = areRows (rowsLooked o) (drop headSize o)
 
--- Of what is fine and not too long, every part is
+    abbrev pub judgment : Judged
+    judgment = let r = recordIn o in judged (rankOf (allParts r) (allRanges r) (allLie (length m) r) (allShaped m r)) (sizeOf (recordForm m r))
 
-joined-right : (a b : Judged) (n : ℕ) → joined a b ≡ Judged.Fine n → n ≤ 255 → (y : ℕ) × (b ≡ Judged.Fine y) × (y ≤ n)
-unfolding joined
-joined-right (Judged.Fine x) (Judged.Fine y) n e h = let z : min (x + y) 256 ≡ n = cc in (y, refl, omega arith)
-joined-right (Judged.Fine x) (Judged.Bad l) n e h = let z : _≡_ {A = ℕ} 0 1 = cc in absurd (omega arith)
-joined-right (Judged.Bad k) (Judged.Fine y) n e h = let z : _≡_ {A = ℕ} 0 1 = cc in absurd (omega arith)
-joined-right (Judged.Bad k) (Judged.Bad l) n e h = let z : _≡_ {A = ℕ} 0 1 = cc in absurd (omega arith)
-
-wrapped-in : (a : Judged) (n : ℕ) → wrapped a ≡ Judged.Fine n → n ≤ 255 → (x : ℕ) × (a ≡ Judged.Fine x) × (x ≤ n)
-unfolding wrapped wholeSize
-wrapped-in (Judged.Fine x) n e h = let z : min (wholeSize x) 256 ≡ n = cc in (x, refl, omega arith)
-wrapped-in (Judged.Bad k) n e h = let z : _≡_ {A = ℕ} 0 1 = cc in absurd (omega arith)
-
-module _ (m : List ℕ) (rs : List Row) (lie : every (λ w. rowLies (length m) (w .kind)) rs ≡ true) where
-  some-size : (x : ℕ) → rowsJudged m rs ≡ Judged.Fine x → x ≤ 255 → sizeIn (rowsJudged m rs) ≡ rowsSize rs
-  unfolding sizeIn
-  some-size x e h = rw e (omega (arith, fine-tells (rowsRank m rs) (sizeOf (seriesForm (rowForm m) rs)) x (sym e) .1, rows-size m rs lie))
-
-none-size : (m : List ℕ) (rs : List Row) → length rs ≡ 0 → sizeIn (rowsJudged m rs) ≡ rowsSize rs
-unfolding rowsSize sizeIn
-none-size m [] h = rw (← (rows-none m))
-none-size m (r ∷ rs) h = absurd (omega arith)
-
-module _ (o m : List ℕ) (lie : allLie (length m) (recordIn o) ≡ true) (n : ℕ) (small : n ≤ 255) where
-  abbrev the : Record
-  the = recordIn o
-
-  -- the judgment of the rows tells their size
-  pub size-told : messageJudged m (the .kind) (the .orig) (the .dest) (the .dialogue) (the .count) (portionOf (the .count) (rowsJudged m (rowsOf o))) ≡ Judged.Fine n → sizeIn (rowsJudged m (rowsOf o)) ≡ rowsSize (counted the)
-  size-told e =
-      let a = joined-right _ _ n e small in
-      let b = wrapped-in _ (a .0) (a .1) (omega (arith, a .2)) in
-      let c = joined-right _ _ (b .0) (b .1) (omega (arith, a .2, b .2)) in
-      let d = joined-right _ _ (c .0) (c .1) (omega (arith, a .2, b .2, c .2)) in
-      let f = joined-right _ _ (d .0) (d .1) (omega (arith, a .2, b .2, c .2, d .2)) in
-      rw (counted-in o) (by-count (eqb (the .count) 0) refl (f .0) (f .1) (omega (arith, a .2, b .2, c .2, d .2, f .2)))
-    where
-      by-count : (b : Bool) → eqb (the .count) 0 ≡ b → (y : ℕ) → portionOf (the .count) (rowsJudged m (rowsOf o)) ≡ Judged.Fine y → y ≤ 255 → sizeIn (rowsJudged m (rowsOf o)) ≡ rowsSize (rowsOf o)
-      by-count true h y e k = none-size m (rowsOf o) (omega (arith, looked o, eqb-true (the .count) 0 h))
-      by-count false h y e k =
-          let w = wrapped-in (rowsJudged m (rowsOf o)) y (rw h at e) k in
-          some-size m (rowsOf o) (rw (counted-in o) at (rows-lie m the lie)) (w .0) (w .1) (omega (arith, w .2))
+    -- what the code judges is the record, if the rows are rows
+    pub octets-judged : (components : Judged) → components ≡ listed are (rowsJudged m rowsOf) → let r = recordIn o in messageJudged m (r .kind) (r .orig) (r .dest) (r .dialogue) (r .count) (portionOf (r .count) components) ≡ listed are judgment
+    unfolding wrapped
+    octets-judged components e = by are refl
+      where
+        by : (b : Bool) → are ≡ b → let r = recordIn o in messageJudged m (r .kind) (r .orig) (r .dest) (r .dialogue) (r .count) (portionOf (r .count) components) ≡ listed are judgment
+        by true h = let r = recordIn o in rw (e, h, portion-law m rowsOf (r .count) looked, ← counted-in) (record-law m r)
+        by false h = let r = recordIn o in rw (e, h, ne-eqb (r .count) 0 (some h)) (message-bad m (r .kind) (r .orig) (r .dest) (r .dialogue) (r .count))
 
 -- what the writer answers and leaves for the record is what it does for its octets
 pub octets-write : (o m out : List ℕ) {w : Written} {new : List ℕ} → isRecord o ≡ true → Writes (recordIn o) m out w new → (w ≡ writingOctets o m (length out)) × (new ≡ leavesOctets o m out)
@@ -199,3 +173,12 @@ octets-write o m out h x = rw h (x .answers, x .holds)
 pub octets-none : (o m out : List ℕ) → isRecord o ≡ false → (Written.Refused WriteFault.WrongParts ≡ writingOctets o m (length out)) × (out ≡ leavesOctets o m out)
 unfolding writingOctets leavesOctets
 octets-none o m out h = rw h (refl, refl)
+
+-- a rank, of octets that may be no record
+pub bad-octets : (o m out : List ℕ) (k : ℕ) → Judged.Bad k ≡ listed (isRecord o) (judgment o m) → (Written.Refused (faultAt k) ≡ writingOctets o m (length out)) × (out ≡ leavesOctets o m out)
+unfolding rankOf faultAt
+bad-octets o m out k e = by (isRecord o) refl e
+  where
+    by : (b : Bool) → isRecord o ≡ b → Judged.Bad k ≡ listed b (judgment o m) → (Written.Refused (faultAt k) ≡ writingOctets o m (length out)) × (out ≡ leavesOctets o m out)
+    by true h e = let t = bad-tells _ _ k e in octets-write o m out h (bad-writes (recordIn o) m (t .0) (t .1))
+    by false h e = let z : k ≡ 4 = cc in rw z (octets-none o m out h)

@@ -2,7 +2,6 @@
 -- Assumes nothing: these are definitions.
 use Prim.Native.Nat.{ℕ}
 use mathlib.Core.{Bool.cond, List.List}
-use Rattle.judging.specs.{declared.Judged.Judged}
 use Rattle.layout.specs.Layout.{isRecord, recordIn}
 use Rattle.writer.specs.{declared.WriteFault.WriteFault, declared.Written.Written, Writing.unless, Writing.writing, Writing.leaves}
 
@@ -11,8 +10,3 @@ writingOctets o m room = unless (isRecord o) WriteFault.WrongParts (writing (rec
 
 unfoldable pub leavesOctets : List ℕ → List ℕ → List ℕ → List ℕ
 leavesOctets o m out = cond (isRecord o) (leaves (recordIn o) m out) out
-
--- the size of what is fine; cited by inner contracts
-unfoldable pub sizeIn : Judged → ℕ
-sizeIn (Judged.Fine n) = n
-sizeIn (Judged.Bad k) = 0

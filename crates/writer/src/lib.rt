@@ -3,7 +3,7 @@ pub mod octets;
 
 ghost use mathlib.Core.Path.{_≡_};
 ghost use Rattle.writer.specs.Writing.{faultAt, Writes};
-use judging::Judged;
+use crate::octets::write_octets;
 use tcap::Record;
 
 // Why a record is not written; document 01 numbers these 24, 23, 21, 22 and 25.
@@ -41,17 +41,7 @@ fn fault_at(rank: u8) -> WriteFault
 pub fn write(held: Record, material: &[u8], out: &mut [u8]) -> Written
     ensures { λ w. ⌜ Writes held (now (material .entry)) (now (out .entry)) w (now (out .exit)) ⌝ }
 {
-    match verdict::record_judged(held, material) {
-        Judged::Bad(rank) => Written::Refused(fault_at(rank)),
-        Judged::Fine(size) => {
-            if size > 255 {
-                return Written::Refused(WriteFault::NoRoom);
-            }
-            if size > out.len() {
-                return Written::Refused(WriteFault::NoRoom);
-            }
-            putting::put_record(out, held, material);
-            Written::Length(size)
-        }
-    }
+    let mut octets = [0u8; 428];
+    pack::put_record(&mut octets, held);
+    write_octets(&octets, material, out)
 }

@@ -21,8 +21,11 @@ returns : tie.Need-returns
 unfolding wrapped
 returns c = rw (c .before .before .contents2 .given .1) (ap Judged.Fine (omega (arith, size-short (c .before .before .contents2 .given .0 .0) (omega arith))))
 
-add-t7 : tie.Need-add-t7
-add-t7 c = search needs
+sub-if2 : tie.Need-sub-if2
+sub-if2 c = search needs
+
+add-t8 : tie.Need-add-t8
+add-t8 c = search needs
 
 returns-2 : tie.Need-returns-2
 unfolding wrapped
@@ -44,7 +47,8 @@ around-spec =
     enum-known-contents-2
     add-t6
     returns
-    add-t7
+    sub-if2
+    add-t8
     returns-2
     returns-3
     returns-4)

@@ -1,0 +1,50 @@
+-- By the flag of the linked ID. Assumes nothing.
+use borrow.Author.Needs.{needs}
+use native.Mathlib.Omega.{arith}
+use native.Mathlib.Nat.{zero-add}
+use Rattle.layout.specs.Layout.{linkedIn}
+use Rattle.judging.specs.Verdict.{rowRanges, rowLies, rowShaped}
+use Rattle.judging.specs.Forms.{linkedForm, restForm}
+use Rattle.judging.proofs.Joining.{then-size, exact-size}
+use Rattle.judging.proofs.Listed.{fine-then, flag-none, octet-id}
+use Rattle.judging.proofs.row.invoke_judged.Statement.{statement}
+use Rattle.judging.proofs.row.invoke_judged.Tie as tie
+
+shared-slice-read-if1 : tie.Need-shared-slice-read-if1
+shared-slice-read-if1 c = search needs
+
+coded-judged-requires : tie.Need-coded-judged-requires
+coded-judged-requires c κs = search needs
+
+returns : tie.Need-returns
+unfolding linkedIn linkedForm restForm rowRanges rowLies rowShaped
+returns c = rw (c .before .if1 .taken, c .coded-judged .ensures) (simp (then-size, exact-size, zero-add))
+
+shared-slice-read-if2 : tie.Need-shared-slice-read-if2
+shared-slice-read-if2 c = search needs
+
+coded-judged-requires-2 : tie.Need-coded-judged-requires-2
+coded-judged-requires-2 c κs = search needs
+
+both-requires : tie.Need-both-requires
+both-requires c κs = search needs
+
+returns-2 : tie.Need-returns-2
+unfolding linkedIn linkedForm restForm rowRanges rowLies rowShaped
+returns-2 c = rw (c .before .before .if2 .taken, c .both .ensures, c .before .coded-judged2 .ensures, fine-then 3 (omega arith)) (simp (then-size, octet-id))
+
+returns-3 : tie.Need-returns-3
+returns-3 c = rw (flag-none _ (c .before .before .if1 .left) (c .if2 .left))
+
+pub invoke-judged-spec : {M : Type 1} → statement M
+invoke-judged-spec =
+    tie.close
+    (tie.spec
+    shared-slice-read-if1
+    coded-judged-requires
+    returns
+    shared-slice-read-if2
+    coded-judged-requires-2
+    both-requires
+    returns-2
+    returns-3)

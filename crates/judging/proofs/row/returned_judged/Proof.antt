@@ -1,0 +1,70 @@
+-- Neither, or both. Assumes nothing.
+use borrow.Author.Needs.{needs}
+use mathlib.Core.Bool.{and-true, and-false}
+use borrow.Author.Tests.{eq-eqb, ne-eqb}
+use Rattle.element.specs.Form.{shortest}
+use Rattle.layout.specs.Layout.{isReturned, returnedIn}
+use Rattle.judging.specs.Judged.{rankOf, judged}
+use Rattle.judging.specs.Verdict.{returnedRanges, returnedLies, returnedShaped}
+use Rattle.judging.specs.Forms.{returnedForm}
+use Rattle.judging.proofs.Joining.{then-size, around-size, exact-size}
+use Rattle.judging.proofs.Listed.{listed-then, listed-wrap}
+use Rattle.judging.proofs.row.returned_judged.Statement.{statement}
+use Rattle.judging.proofs.row.returned_judged.Tie as tie
+
+shared-slice-read-if1 : tie.Need-shared-slice-read-if1
+shared-slice-read-if1 c = search needs
+
+shared-slice-read-if2 : tie.Need-shared-slice-read-if2
+shared-slice-read-if2 c = search needs
+
+returns : tie.Need-returns
+unfolding rankOf judged isReturned returnedIn returnedRanges returnedLies returnedShaped returnedForm shortest
+returns c = rw (eq-eqb _ _ (c .before .before .if1 .taken), eq-eqb _ _ (c .if2 .taken))
+
+returns-2 : tie.Need-returns-2
+unfolding isReturned
+returns-2 c = rw (eq-eqb _ _ (c .before .before .if1 .taken), ne-eqb _ _ (c .if2 .left))
+
+shared-slice-read-if3 : tie.Need-shared-slice-read-if3
+shared-slice-read-if3 c = search needs
+
+returns-3 : tie.Need-returns-3
+unfolding isReturned
+returns-3 c = rw (ne-eqb _ _ (c .before .before .if1 .left), ne-eqb _ _ (c .if3 .taken), and-false)
+
+code-judged-requires : tie.Need-code-judged-requires
+code-judged-requires c κs = search needs
+
+span-at-requires : tie.Need-span-at-requires
+span-at-requires c κs = search needs
+
+element-judged-requires : tie.Need-element-judged-requires
+element-judged-requires c κs = search needs
+
+both-requires : tie.Need-both-requires
+both-requires c κs = search needs
+
+around-requires : tie.Need-around-requires
+around-requires c κs = search needs
+
+returns-4 : tie.Need-returns-4
+unfolding isReturned returnedIn returnedRanges returnedLies returnedShaped returnedForm
+returns-4 c = rw (ne-eqb _ _ (c .before .before .before .before .before .before .before .if1 .left), eq-eqb _ _ (c .before .before .before .before .before .if3 .left), and-true, c .around .ensures, c .before .both .ensures, c .before .before .before .before .code-judged .ensures, c .before .before .element-judged .ensures, c .before .before .before .span-at .ensures, listed-then, listed-wrap, around-size, then-size, exact-size) (simp and-true)
+
+pub returned-judged-spec : {M : Type 1} → statement M
+returned-judged-spec =
+    tie.close
+    (tie.spec
+    shared-slice-read-if1
+    shared-slice-read-if2
+    returns
+    returns-2
+    shared-slice-read-if3
+    returns-3
+    code-judged-requires
+    span-at-requires
+    element-judged-requires
+    both-requires
+    around-requires
+    returns-4)

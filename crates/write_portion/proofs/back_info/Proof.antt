@@ -1,0 +1,40 @@
+-- By cases. Assumes nothing.
+use borrow.Author.Needs.{needs}
+use Rattle.base.proofs.Backs.{back-none}
+use Rattle.element.specs.Form.{shortest}
+use Rattle.judging.specs.Verdict.{optionLies}
+use Rattle.judging.specs.Forms.{infoForm}
+use Rattle.write_portion.proofs.back_info.Statement.{statement}
+use Rattle.write_portion.proofs.back_info.Tie as tie
+
+enum-told : tie.Need-enum-told
+enum-told c = search needs
+
+enum-known-info : tie.Need-enum-known-info
+enum-known-info c = search needs
+
+back-string-requires : tie.Need-back-string-requires
+unfolding optionLies infoForm shortest
+back-string-requires c κs = (rw (c .before .before .info .given .1) at (c .before .before .before .before .before .before .pre .0), rw (c .before .before .info .given .1) at (c .before .before .before .before .before .before .pre .1))
+
+returns : tie.Need-returns
+unfolding infoForm shortest
+returns c = rw (c .enum-told .given .1) (back-none _ _ (c .before .before .before .before .pre .1 .within))
+
+same-length : tie.Need-same-length
+same-length c = search needs
+
+returns-2 : tie.Need-returns-2
+unfolding infoForm shortest
+returns-2 c = rw (c .before .before .before .before .before .info .given .1) (c .before .before .back-string .ensures)
+
+pub back-info-spec : {M : Type 1} → statement M
+back-info-spec =
+    tie.close
+    (tie.spec
+    enum-told
+    enum-known-info
+    back-string-requires
+    returns
+    same-length
+    returns-2)

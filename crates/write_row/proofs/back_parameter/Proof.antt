@@ -1,0 +1,42 @@
+-- By the flag. Assumes nothing.
+use borrow.Author.Needs.{needs}
+use borrow.Author.Tests.{eq-eqb, ne-eqb}
+use Rattle.base.proofs.Backs.{back-none}
+use Rattle.element.specs.Form.{shortest}
+use Rattle.judging.specs.Verdict.{optionLies}
+use Rattle.judging.specs.Forms.{parameterForm}
+use Rattle.layout.specs.Layout.{optionalIn}
+use Rattle.write_row.proofs.back_parameter.Statement.{statement}
+use Rattle.write_row.proofs.back_parameter.Tie as tie
+
+shared-slice-read-if1 : tie.Need-shared-slice-read-if1
+shared-slice-read-if1 c = search needs
+
+returns : tie.Need-returns
+unfolding parameterForm optionalIn shortest
+returns c = rw (eq-eqb _ _ (c .if1 .taken)) (back-none _ _ (c .before .before .before .before .before .pre .1 .1 .within))
+
+span-at-requires : tie.Need-span-at-requires
+span-at-requires c κs = search needs
+
+back-span-requires : tie.Need-back-span-requires
+unfolding optionLies parameterForm optionalIn shortest
+back-span-requires c κs = rw (c .before .span-at .ensures) (rw (ne-eqb _ _ (c .before .before .if1 .left)) at (c .before .before .before .before .before .before .before .pre .1))
+
+same-length : tie.Need-same-length
+same-length c = search needs
+
+returns-2 : tie.Need-returns-2
+unfolding parameterForm optionalIn shortest
+returns-2 c = rw (ne-eqb _ _ (c .before .before .before .before .before .if1 .left), ← (c .before .before .before .before .span-at .ensures)) (c .before .before .back-span .ensures)
+
+pub back-parameter-spec : {M : Type 1} → statement M
+back-parameter-spec =
+    tie.close
+    (tie.spec
+    shared-slice-read-if1
+    returns
+    span-at-requires
+    back-span-requires
+    same-length
+    returns-2)
