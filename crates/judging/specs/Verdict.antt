@@ -6,7 +6,7 @@ use lib.{ListN.length, ListN.take, ListN.drop, Dec.leb, Dec.eqb}
 use Rattle.base.specs.{Value.same}
 use Rattle.primitive.specs.{Primitive.identifierOk}
 use Rattle.element.specs.{declared.Walk.Walk, Answers.elementWalk, Answers.seriesWalk}
-use Rattle.tcap.specs.{declared.Span.Span, declared.OptionalSpan.OptionalSpan, declared.OptionalOrig.OptionalOrig, declared.OptionalDest.OptionalDest, declared.InvokeId.InvokeId, declared.Code.Code, declared.Problem.Problem, declared.Diagnostic.Diagnostic, declared.Returned.Returned, declared.ComponentKind.ComponentKind, declared.Row.Row, declared.Dialogue.Dialogue, declared.MessageKind.MessageKind, declared.Record.Record, Meaning.structured, Meaning.unstructured, WellFormed.mostComponents, WellFormed.deepestLevel, WellFormed.leftAt}
+use Rattle.tcap.specs.{declared.Span.Span, declared.OptionalSpan.OptionalSpan, declared.OptionalOrig.OptionalOrig, declared.OptionalDest.OptionalDest, declared.InvokeId.InvokeId, declared.Code.Code, declared.Problem.Problem, declared.Diagnostic.Diagnostic, declared.Returned.Returned, declared.ComponentKind.ComponentKind, declared.Row.Row, declared.Dialogue.Dialogue, declared.MessageKind.MessageKind, declared.Record.Record, Meaning.structured, Meaning.unstructured, WellFormed.mostComponents, WellFormed.the93, WellFormed.leftAt}
 
 -- every row that counts; with a count above 16 that is all 16
 unfoldable pub every : (Row → Bool) → List Row → Bool
@@ -185,7 +185,7 @@ module _ (m : List ℕ) where
 
   -- how deep: a parameter stands at level 4, in a result at level 5, the element of an outside name at level 5, a 28 at level 7
   abbrev pub elementAt : ℕ → Span → Bool
-  elementAt level s = isElement (leftAt deepestLevel level) (octetsIn s)
+  elementAt level s = isElement (leftAt the93 level) (octetsIn s)
 
   unfoldable pub parameterShaped : OptionalSpan → Bool
   parameterShaped OptionalSpan.Absent = true
@@ -193,7 +193,7 @@ module _ (m : List ℕ) where
 
   unfoldable pub infoShaped : OptionalSpan → Bool
   infoShaped OptionalSpan.Absent = true
-  infoShaped (OptionalSpan.Present s) = isSeries (leftAt deepestLevel 7) (octetsIn s)
+  infoShaped (OptionalSpan.Present s) = isSeries (leftAt the93 7) (octetsIn s)
 
   abbrev pub nameShaped : Span → Bool
   nameShaped s = identifierOk (octetsIn s)

@@ -15,7 +15,7 @@ use Rattle.element.specs.Fault.{Text}
 use Rattle.element.specs.Ask.{Got, got, bad}
 use Rattle.tcap.specs.declared.{OptionalOrig.OptionalOrig, OptionalDest.OptionalDest, Dialogue.Dialogue as DialogueField, MessageKind.MessageKind, Row.Row, Record.Record, Outcome.Outcome}
 use Rattle.tcap.specs.Meaning.{Originating, orig, Destination, dest, Code, local, global, Component, invoke, last, notLast, error, reject, Dialogue, request, unidialogue, response, aborted, single, octets, Ending, silent, cause, says, Message, unidirectional, begin, finish, continue, abort}
-use Rattle.tcap.specs.WellFormed.{mostOctets, mostComponents, deepestLevel, CodeOk, ComponentOk, ComponentsOk, BothOk, WellFormedUpTo}
+use Rattle.tcap.specs.WellFormed.{Rules, mostOctets, mostComponents, the93, CodeOk, ComponentOk, ComponentsOk, BothOk, WellFormedUpTo}
 use Rattle.tcap.specs.Record.{spanOf, spanField, origField, destField, idField, linkedField, codeField, bothField, rowOf, dialogueField, endingField, portionField, blankRow, recordFrom, recordOf}
 use Rattle.tcap.specs.Reading.{locatedUpTo, answered, readingUpTo, reading}
 use Rattle.tcap.proofs.Strings.{octetsOf, codeAs, bothAs, componentAs, forget, Strings, optionStrings, tagged, whole, seriesStrings, codeStrings, bothStrings, componentStrings, namedStrings, dialogueStrings, endingStrings, origStrings, destStrings, restStrings, strings}
@@ -42,9 +42,9 @@ module _ (m : List ℕ) (short : length m ≤ mostOctets) where
   code-fits (local z) s k = k
   code-fits (global t) s k = text-fits (some 0x06) t s
 
-  both-fits : (limit : ℕ) (r : Option (Code Text × Text)) → AllSit (optionStrings bothStrings r) → Maybe (BothOk limit) (Option·map (bothAs octetsOf) r) → ReturnedFits (bothField r)
-  both-fits limit none s k = tt
-  both-fits limit (some (c, t)) s k = let (a, b) = every-parts (Sits m) (codeStrings c) (whole t) s in (code-fits c a (k .0), text-fits none t b)
+  both-fits : (rules : Rules) (r : Option (Code Text × Text)) → AllSit (optionStrings bothStrings r) → Maybe (BothOk rules) (Option·map (bothAs octetsOf) r) → ReturnedFits (bothField r)
+  both-fits rules none s k = tt
+  both-fits rules (some (c, t)) s k = let (a, b) = every-parts (Sits m) (codeStrings c) (whole t) s in (code-fits c a (k .0), text-fits none t b)
 
   id-fits : (i : Option ℤ) → Maybe (λ z. holds 1 z ≡ true) i → IdFits (idField i)
   id-fits none k = tt
@@ -54,18 +54,18 @@ module _ (m : List ℕ) (short : length m ≤ mostOctets) where
   linked-fits none k = tt
   linked-fits (some i) k = k
 
-  row-fits : (limit : ℕ) (c : Component Text) → AllSit (componentStrings c) → ComponentOk limit (componentAs octetsOf c) → RowFits (rowOf c)
+  row-fits : (rules : Rules) (c : Component Text) → AllSit (componentStrings c) → ComponentOk rules (componentAs octetsOf c) → RowFits (rowOf c)
   unfolding ComponentOk
-  row-fits limit (invoke i l c p) s k = let (a, b) = every-parts (Sits m) (codeStrings c) (optionStrings whole p) s in (k .0, (linked-fits l (k .1), code-fits c a (k .2), option-fits none p b))
-  row-fits limit (last i r) s k = (k .0, both-fits limit r s (k .1))
-  row-fits limit (notLast i r) s k = (k .0, both-fits limit r s (k .1))
-  row-fits limit (error i c p) s k = let (a, b) = every-parts (Sits m) (codeStrings c) (optionStrings whole p) s in (k .0, (code-fits c a (k .1), option-fits none p b))
-  row-fits limit (reject i q) s k = (id-fits i (k .0), tt)
+  row-fits rules (invoke i l c p) s k = let (a, b) = every-parts (Sits m) (codeStrings c) (optionStrings whole p) s in (k .0, (linked-fits l (k .1), code-fits c a (k .2), option-fits none p b))
+  row-fits rules (last i r) s k = (k .0, both-fits rules r s (k .1))
+  row-fits rules (notLast i r) s k = (k .0, both-fits rules r s (k .1))
+  row-fits rules (error i c p) s k = let (a, b) = every-parts (Sits m) (codeStrings c) (optionStrings whole p) s in (k .0, (code-fits c a (k .1), option-fits none p b))
+  row-fits rules (reject i q) s k = (id-fits i (k .0), tt)
 
-  rows-fit : (limit : ℕ) (cs : List (Component Text)) → AllSit (seriesStrings componentStrings cs) → Every (ComponentOk limit) (map (componentAs octetsOf) cs) → Every RowFits (map rowOf cs)
+  rows-fit : (rules : Rules) (cs : List (Component Text)) → AllSit (seriesStrings componentStrings cs) → Every (ComponentOk rules) (map (componentAs octetsOf) cs) → Every RowFits (map rowOf cs)
   unfolding Every seriesStrings
-  rows-fit limit [] s k = tt
-  rows-fit limit (c ∷ cs) s k = let (a, b) = every-parts (Sits m) (componentStrings c) (seriesStrings componentStrings cs) s in (row-fits limit c a (k .0), rows-fit limit cs b (k .1))
+  rows-fit rules [] s k = tt
+  rows-fit rules (c ∷ cs) s k = let (a, b) = every-parts (Sits m) (componentStrings c) (seriesStrings componentStrings cs) s in (row-fits rules c a (k .0), rows-fit rules cs b (k .1))
 
   named-fits : (n : Text) (u : Option Text) → AllSit (namedStrings n u) → SpanFits (spanOf n) × OptionalFits (spanField u)
   named-fits n u s = let (a, b) = every-parts (Sits m) (tagged 0x06 n) (optionStrings (tagged 0xBE) u) s in (text-fits (some 0x06) n a, option-fits (some 0xBE) u b)
@@ -93,9 +93,9 @@ module _ (m : List ℕ) (short : length m ≤ mostOctets) where
   dest-fits : (e : Destination Text) → AllSit (destStrings e) → DestFits (destField e)
   dest-fits (dest t) s = text-fits (some 0x49) t s
 
-  from-fits : (limit : ℕ) (k : MessageKind) (o : OptionalOrig) (e : OptionalDest) (d : DialogueField) (cs : List (Component Text)) → OrigFits o → DestFits e → DialogueFits d → AllSit (seriesStrings componentStrings cs) → ComponentsOk limit (map (componentAs octetsOf) cs) → RecordFits (recordFrom k o e d cs)
+  from-fits : (rules : Rules) (k : MessageKind) (o : OptionalOrig) (e : OptionalDest) (d : DialogueField) (cs : List (Component Text)) → OrigFits o → DestFits e → DialogueFits d → AllSit (seriesStrings componentStrings cs) → ComponentsOk rules (map (componentAs octetsOf) cs) → RecordFits (recordFrom k o e d cs)
   unfolding topOf
-  from-fits limit k o e d cs a b c s w =
+  from-fits rules k o e d cs a b c s w =
       let few : length cs ≤ mostComponents = omega (arith, w .0, length-map cs (componentAs octetsOf)) in
       let all : length (map rowOf cs) + length (replicate (mostComponents - length cs) blankRow) ≡ mostRows = omega (arith, length-map cs rowOf, length-replicate (mostComponents - length cs) blankRow) in
       record {
@@ -104,30 +104,30 @@ module _ (m : List ℕ) (short : length m ≤ mostOctets) where
         dialogue = c;
         count = omega arith;
         sixteen = length-append (map rowOf cs) (replicate (mostComponents - length cs) blankRow) ∙ all;
-        rows = rw (take-at (map rowOf cs) (replicate (mostComponents - length cs) blankRow) (length cs) (length-map cs rowOf)) (rows-fit limit cs s (w .1));
+        rows = rw (take-at (map rowOf cs) (replicate (mostComponents - length cs) blankRow) (length cs) (length-map cs rowOf)) (rows-fit rules cs s (w .1));
       }
 
-  pub record-fits : (limit : ℕ) (v : Message Text) → AllSit (strings v) → WellFormedUpTo limit (forget v) → RecordFits (recordOf v)
+  pub record-fits : (rules : Rules) (v : Message Text) → AllSit (strings v) → WellFormedUpTo rules (forget v) → RecordFits (recordOf v)
   unfolding WellFormedUpTo recordOf seriesStrings Every
-  record-fits limit (unidirectional d cs) s w =
+  record-fits rules (unidirectional d cs) s w =
       let (a, b) = every-parts (Sits m) (optionStrings dialogueStrings d) (seriesStrings componentStrings cs) s in
-      from-fits limit MessageKind.Unidirectional OptionalOrig.NoOrig OptionalDest.NoDest (portionField d) cs tt tt (portion-fits d a) b (w .2)
-  record-fits limit (begin o d cs) s w =
+      from-fits rules MessageKind.Unidirectional OptionalOrig.NoOrig OptionalDest.NoDest (portionField d) cs tt tt (portion-fits d a) b (w .2)
+  record-fits rules (begin o d cs) s w =
       let (i, r) = every-parts (Sits m) (origStrings o) (restStrings d cs) s in
       let (a, b) = every-parts (Sits m) (optionStrings dialogueStrings d) (seriesStrings componentStrings cs) r in
-      from-fits limit MessageKind.Begin (origField o) OptionalDest.NoDest (portionField d) cs (orig-fits o i) tt (portion-fits d a) b (w .2)
-  record-fits limit (finish e d cs) s w =
+      from-fits rules MessageKind.Begin (origField o) OptionalDest.NoDest (portionField d) cs (orig-fits o i) tt (portion-fits d a) b (w .2)
+  record-fits rules (finish e d cs) s w =
       let (i, r) = every-parts (Sits m) (destStrings e) (restStrings d cs) s in
       let (a, b) = every-parts (Sits m) (optionStrings dialogueStrings d) (seriesStrings componentStrings cs) r in
-      from-fits limit MessageKind.End OptionalOrig.NoOrig (destField e) (portionField d) cs tt (dest-fits e i) (portion-fits d a) b (w .2)
-  record-fits limit (continue o e d cs) s w =
+      from-fits rules MessageKind.End OptionalOrig.NoOrig (destField e) (portionField d) cs tt (dest-fits e i) (portion-fits d a) b (w .2)
+  record-fits rules (continue o e d cs) s w =
       let (i, q) = every-parts (Sits m) (origStrings o) (destStrings e ++ restStrings d cs) s in
       let (j, r) = every-parts (Sits m) (destStrings e) (restStrings d cs) q in
       let (a, b) = every-parts (Sits m) (optionStrings dialogueStrings d) (seriesStrings componentStrings cs) r in
-      from-fits limit MessageKind.Continue (origField o) (destField e) (portionField d) cs (orig-fits o i) (dest-fits e j) (portion-fits d a) b (w .3)
-  record-fits limit (abort e q) s w =
+      from-fits rules MessageKind.Continue (origField o) (destField e) (portionField d) cs (orig-fits o i) (dest-fits e j) (portion-fits d a) b (w .3)
+  record-fits rules (abort e q) s w =
       let (i, r) = every-parts (Sits m) (destStrings e) (endingStrings q) s in
-      from-fits limit MessageKind.Abort OptionalOrig.NoOrig (destField e) (endingField q) [] tt (dest-fits e i) (ending-fits q r) tt (omega arith, tt)
+      from-fits rules MessageKind.Abort OptionalOrig.NoOrig (destField e) (endingField q) [] tt (dest-fits e i) (ending-fits q r) tt (omega arith, tt)
 
 -- the rows of what is read are blank from the count on already
 from-blanked : (k : MessageKind) (o : OptionalOrig) (e : OptionalDest) (d : DialogueField) (cs : List (Component Text)) → blanked (recordFrom k o e d cs) ≡ recordFrom k o e d cs
@@ -142,17 +142,17 @@ record-blanked (finish e d cs) = from-blanked MessageKind.End OptionalOrig.NoOri
 record-blanked (continue o e d cs) = from-blanked MessageKind.Continue (origField o) (destField e) (portionField d) cs
 record-blanked (abort e s) = from-blanked MessageKind.Abort OptionalOrig.NoOrig (destField e) (endingField s) []
 
-by-located : (m : List ℕ) (x : Got (Message Text)) → locatedUpTo deepestLevel m ≡ x → answered x .outcome ≡ Outcome.Accepted → RecordFits (answered x .message) × (blanked (answered x .message) ≡ answered x .message)
+by-located : (m : List ℕ) (x : Got (Message Text)) → locatedUpTo the93 m ≡ x → answered x .outcome ≡ Outcome.Accepted → RecordFits (answered x .message) × (blanked (answered x .message) ≡ answered x .message)
 unfolding answered
 by-located m (got v n) e h =
-    let r = located-reads deepestLevel (omega arith) m v n e in
-    (record-fits m (r .short) deepestLevel v (strings-sit deepestLevel m v n e) (r .fine), record-blanked v)
+    let r = located-reads the93 (omega arith) m v n e in
+    (record-fits m (r .short) the93 v (strings-sit the93 m v n e) (r .fine), record-blanked v)
 by-located m (bad f) e h = let z : _≡_ {A = ℕ} 0 1 = cc in absurd (omega arith)
 
 module _ (m : List ℕ) (h : reading m .outcome ≡ Outcome.Accepted) where
   kept : RecordFits (reading m .message) × (blanked (reading m .message) ≡ reading m .message)
   unfolding reading readingUpTo
-  kept = by-located m (locatedUpTo deepestLevel m) refl h
+  kept = by-located m (locatedUpTo the93 m) refl h
 
   -- what is read is laid out as a record, and given back, with any octets behind it
   pub reading-fits : RecordFits (reading m .message)

@@ -20,7 +20,7 @@ use Rattle.element.specs.Fault.{numberOf, Text, Owner, portion, dialogue, compo
 use Rattle.element.specs.Ask.{Got, got, bad, check}
 use Rattle.tcap.specs.declared.{OptionalOrig.OptionalOrig, OptionalDest.OptionalDest, InvokeId.InvokeId, Problem.Problem, Dialogue.Dialogue as DialogueField, MessageKind.MessageKind, ComponentKind.ComponentKind, Answer.Answer, Ground.Ground}
 use Rattle.tcap.specs.Meaning.{Originating, orig, Destination, dest, Code, local, global, Component, invoke, last, notLast, error, reject, Dialogue, request, unidialogue, response, aborted, single, octets, Ending, silent, cause, says, Message, unidirectional, begin, finish, continue, abort}
-use Rattle.tcap.specs.WellFormed.{mostOctets, mostComponents, deepestLevel, idOk, InvokeIdOk, CodeOk, ProblemOk, ComponentOk, ComponentsOk, BothOk, EndingOk, OrigOk, DestOk, WellFormedUpTo}
+use Rattle.tcap.specs.WellFormed.{Rules, mostOctets, mostComponents, the93, idOk, InvokeIdOk, CodeOk, ProblemOk, ComponentOk, ComponentsOk, BothOk, EndingOk, OrigOk, DestOk, WellFormedUpTo}
 use Rattle.tcap.specs.Record.{spanOf, spanField, origField, destField, idField, linkedField, codeField, bothField, rowOf, dialogueField, endingField, portionField, blankRow, recordFrom, recordOf}
 use Rattle.tcap.specs.Reading.{locatedUpTo, groundOf, byOwner, answerFor, refusalOf, answered, readingUpTo, reading}
 use Rattle.tcap.proofs.Strings.{octetsOf, codeAs, bothAs, componentAs, endingAs, origAs, destAs, forget, Strings, optionStrings, whole, seriesStrings, codeStrings, bothStrings, componentStrings, dialogueStrings, origStrings, destStrings, restStrings, strings}
@@ -138,11 +138,11 @@ portion-few : (d : Option (Dialogue Text)) → Within 9 (dialogueText (portionFi
 portion-few none = no-dialogue
 portion-few (some d) = dialogue-few d
 
-ending-few : (limit : ℕ) (e : Ending Text) → EndingOk limit (endingAs octetsOf e) → Within 9 (dialogueText (endingField e))
+ending-few : (rules : Rules) (e : Ending Text) → EndingOk rules (endingAs octetsOf e) → Within 9 (dialogueText (endingField e))
 unfolding dialogueText
-ending-few limit silent h = no-dialogue
-ending-few limit (cause n) h = wider (word (text " cause:") and one-digit n (omega (arith, leb-true n 4 h))) 9 (omega arith)
-ending-few limit (says d) h = dialogue-few d
+ending-few rules silent h = no-dialogue
+ending-few rules (cause n) h = wider (word (text " cause:") and one-digit n (omega (arith, leb-true n 4 h))) 9 (omega arith)
+ending-few rules (says d) h = dialogue-few d
 
 -- octets of the message, in hex
 string-few : (m : List ℕ) (t : Text) (n : ℕ) → length (t .1) ≤ n → Within (2 * n) (stringText m (spanOf t))
@@ -174,37 +174,37 @@ module _ (m : List ℕ) (short : length m ≤ mostOctets) where
   unfolding codedText
   coded-few l c p i h s = let (a, b) = every-parts (Sits m) (codeStrings c) (optionStrings whole p) s in linked-few l i and code-few c h and parameter-few p b
 
-  returned-few : (limit : ℕ) (r : Option (Code Text × Text)) → Maybe (BothOk limit) (Option·map (bothAs octetsOf) r) → AllSit (optionStrings bothStrings r) → Within 53 (returnedText m (bothField r))
+  returned-few : (rules : Rules) (r : Option (Code Text × Text)) → Maybe (BothOk rules) (Option·map (bothAs octetsOf) r) → AllSit (optionStrings bothStrings r) → Within 53 (returnedText m (bothField r))
   unfolding returnedText
-  returned-few limit none h s = wider (word (text " - - -")) 53 (omega arith)
-  returned-few limit (some (c, t)) h s = coded-few none c (some t) tt (h .0) s
+  returned-few rules none h s = wider (word (text " - - -")) 53 (omega arith)
+  returned-few rules (some (c, t)) h s = coded-few none c (some t) tt (h .0) s
 
-  parts-few : (limit : ℕ) (c : Component Text) → ComponentOk limit (componentAs octetsOf c) → AllSit (componentStrings c) → Within 53 (partsText m (rowOf c .kind))
+  parts-few : (rules : Rules) (c : Component Text) → ComponentOk rules (componentAs octetsOf c) → AllSit (componentStrings c) → Within 53 (partsText m (rowOf c .kind))
   unfolding partsText ComponentOk
-  parts-few limit (invoke i l c p) h s = coded-few l c p (h .1) (h .2) s
-  parts-few limit (last i r) h s = returned-few limit r (h .1) s
-  parts-few limit (notLast i r) h s = returned-few limit r (h .1) s
-  parts-few limit (error i c p) h s = coded-few none c p tt (h .1) s
-  parts-few limit (reject i q) h s = wider (reject-few q (h .1)) 53 (omega arith)
+  parts-few rules (invoke i l c p) h s = coded-few l c p (h .1) (h .2) s
+  parts-few rules (last i r) h s = returned-few rules r (h .1) s
+  parts-few rules (notLast i r) h s = returned-few rules r (h .1) s
+  parts-few rules (error i c p) h s = coded-few none c p tt (h .1) s
+  parts-few rules (reject i q) h s = wider (reject-few q (h .1)) 53 (omega arith)
 
-  invoked-few : (limit : ℕ) (c : Component Text) → ComponentOk limit (componentAs octetsOf c) → Within 5 (idText (rowOf c .id))
+  invoked-few : (rules : Rules) (c : Component Text) → ComponentOk rules (componentAs octetsOf c) → Within 5 (idText (rowOf c .id))
   unfolding ComponentOk
-  invoked-few limit (invoke i l c p) h = id-few (some i) (h .0)
-  invoked-few limit (last i r) h = id-few (some i) (h .0)
-  invoked-few limit (notLast i r) h = id-few (some i) (h .0)
-  invoked-few limit (error i c p) h = id-few (some i) (h .0)
-  invoked-few limit (reject i q) h = id-few i (h .0)
+  invoked-few rules (invoke i l c p) h = id-few (some i) (h .0)
+  invoked-few rules (last i r) h = id-few (some i) (h .0)
+  invoked-few rules (notLast i r) h = id-few (some i) (h .0)
+  invoked-few rules (error i c p) h = id-few (some i) (h .0)
+  invoked-few rules (reject i q) h = id-few i (h .0)
 
-  row-few : (limit i : ℕ) (c : Component Text) → i < mostComponents → ComponentOk limit (componentAs octetsOf c) → AllSit (componentStrings c) → Within 69 (rowText m i (rowOf c))
+  row-few : (rules : Rules) (i : ℕ) (c : Component Text) → i < mostComponents → ComponentOk rules (componentAs octetsOf c) → AllSit (componentStrings c) → Within 69 (rowText m i (rowOf c))
   unfolding rowText
-  row-few limit i c l h s = two-digits i (omega arith) and word-few (rowOf c .kind) and invoked-few limit c h and parts-few limit c h s and word (text "\n")
+  row-few rules i c l h s = two-digits i (omega arith) and word-few (rowOf c .kind) and invoked-few rules c h and parts-few rules c h s and word (text "\n")
 
-  rows-few : (limit i : ℕ) (cs : List (Component Text)) → i + length cs ≤ mostComponents → Every (ComponentOk limit) (map (componentAs octetsOf) cs) → AllSit (seriesStrings componentStrings cs) → length (rowsText m i (map rowOf cs)) ≤ 69 * length cs
+  rows-few : (rules : Rules) (i : ℕ) (cs : List (Component Text)) → i + length cs ≤ mostComponents → Every (ComponentOk rules) (map (componentAs octetsOf) cs) → AllSit (seriesStrings componentStrings cs) → length (rowsText m i (map rowOf cs)) ≤ 69 * length cs
   unfolding rowsText Every seriesStrings
-  rows-few limit i [] l h s = omega arith
-  rows-few limit i (c ∷ cs) l h s =
+  rows-few rules i [] l h s = omega arith
+  rows-few rules i (c ∷ cs) l h s =
       let (a, b) = every-parts (Sits m) (componentStrings c) (seriesStrings componentStrings cs) s in
-      omega (arith, length-append (rowText m i (rowOf c)) (rowsText m (suc i) (map rowOf cs)), row-few limit i c (omega (arith, l)) (h .0) a .most, rows-few limit (suc i) cs (omega (arith, l)) (h .1) b)
+      omega (arith, length-append (rowText m i (rowOf c)) (rowsText m (suc i) (map rowOf cs)), row-few rules i c (omega (arith, l)) (h .0) a .most, rows-few rules (suc i) cs (omega (arith, l)) (h .1) b)
 
   -- The first line
 
@@ -224,33 +224,33 @@ module _ (m : List ℕ) (short : length m ≤ mostOctets) where
   unfolding destText
   no-dest = wider (word (text " -")) 9 (omega arith)
 
-  from-few : (limit : ℕ) (k : MessageKind) (o : OptionalOrig) (e : OptionalDest) (d : DialogueField) (cs : List (Component Text)) → Within 9 (origText m o) → Within 9 (destText m e) → Within 9 (dialogueText d) → ComponentsOk limit (map (componentAs octetsOf) cs) → AllSit (seriesStrings componentStrings cs) → length (recordText m (recordFrom k o e d cs)) ≤ longestListing
+  from-few : (rules : Rules) (k : MessageKind) (o : OptionalOrig) (e : OptionalDest) (d : DialogueField) (cs : List (Component Text)) → Within 9 (origText m o) → Within 9 (destText m e) → Within 9 (dialogueText d) → ComponentsOk rules (map (componentAs octetsOf) cs) → AllSit (seriesStrings componentStrings cs) → length (recordText m (recordFrom k o e d cs)) ≤ longestListing
   unfolding recordText headText idsText
-  from-few limit k o e d cs a b c w s =
+  from-few rules k o e d cs a b c w s =
       let few : length cs ≤ mostComponents = omega (arith, w .0, length-map cs (componentAs octetsOf)) in
       let first : Within 49 (headText m (recordFrom k o e d cs)) = kind-few k and spaced (length m) (three-digits (length m) (omega (arith, short))) and (a and b) and c and spaced (length cs) (two-digits (length cs) (omega arith)) and word (text "\n") in
-      let lines = rows-few limit 0 cs (omega (arith, few)) (w .1) s in
+      let lines = rows-few rules 0 cs (omega (arith, few)) (w .1) s in
       rw (take-at (map rowOf cs) (replicate (mostComponents - length cs) blankRow) (length cs) (length-map cs rowOf)) (omega (arith, first .most, lines, few, length-append (headText m (recordFrom k o e d cs)) (rowsText m 0 (map rowOf cs))))
 
-  record-few : (limit : ℕ) (v : Message Text) → WellFormedUpTo limit (forget v) → AllSit (strings v) → length (recordText m (recordOf v)) ≤ longestListing
+  record-few : (rules : Rules) (v : Message Text) → WellFormedUpTo rules (forget v) → AllSit (strings v) → length (recordText m (recordOf v)) ≤ longestListing
   unfolding WellFormedUpTo recordOf seriesStrings Every
-  record-few limit (unidirectional d cs) w s =
+  record-few rules (unidirectional d cs) w s =
       let (a, b) = every-parts (Sits m) (optionStrings dialogueStrings d) (seriesStrings componentStrings cs) s in
-      from-few limit MessageKind.Unidirectional OptionalOrig.NoOrig OptionalDest.NoDest (portionField d) cs no-orig no-dest (portion-few d) (w .2) b
-  record-few limit (begin o d cs) w s =
+      from-few rules MessageKind.Unidirectional OptionalOrig.NoOrig OptionalDest.NoDest (portionField d) cs no-orig no-dest (portion-few d) (w .2) b
+  record-few rules (begin o d cs) w s =
       let (i, r) = every-parts (Sits m) (origStrings o) (restStrings d cs) s in
       let (a, b) = every-parts (Sits m) (optionStrings dialogueStrings d) (seriesStrings componentStrings cs) r in
-      from-few limit MessageKind.Begin (origField o) OptionalDest.NoDest (portionField d) cs (orig-few o (w .0)) no-dest (portion-few d) (w .2) b
-  record-few limit (finish e d cs) w s =
+      from-few rules MessageKind.Begin (origField o) OptionalDest.NoDest (portionField d) cs (orig-few o (w .0)) no-dest (portion-few d) (w .2) b
+  record-few rules (finish e d cs) w s =
       let (i, r) = every-parts (Sits m) (destStrings e) (restStrings d cs) s in
       let (a, b) = every-parts (Sits m) (optionStrings dialogueStrings d) (seriesStrings componentStrings cs) r in
-      from-few limit MessageKind.End OptionalOrig.NoOrig (destField e) (portionField d) cs no-orig (dest-few e (w .0)) (portion-few d) (w .2) b
-  record-few limit (continue o e d cs) w s =
+      from-few rules MessageKind.End OptionalOrig.NoOrig (destField e) (portionField d) cs no-orig (dest-few e (w .0)) (portion-few d) (w .2) b
+  record-few rules (continue o e d cs) w s =
       let (i, q) = every-parts (Sits m) (origStrings o) (destStrings e ++ restStrings d cs) s in
       let (j, r) = every-parts (Sits m) (destStrings e) (restStrings d cs) q in
       let (a, b) = every-parts (Sits m) (optionStrings dialogueStrings d) (seriesStrings componentStrings cs) r in
-      from-few limit MessageKind.Continue (origField o) (destField e) (portionField d) cs (orig-few o (w .0)) (dest-few e (w .1)) (portion-few d) (w .3) b
-  record-few limit (abort e q) w s = from-few limit MessageKind.Abort OptionalOrig.NoOrig (destField e) (endingField q) [] no-orig (dest-few e (w .0)) (ending-few limit q (w .1)) (omega arith, tt) tt
+      from-few rules MessageKind.Continue (origField o) (destField e) (portionField d) cs (orig-few o (w .0)) (dest-few e (w .1)) (portion-few d) (w .3) b
+  record-few rules (abort e q) w s = from-few rules MessageKind.Abort OptionalOrig.NoOrig (destField e) (endingField q) [] no-orig (dest-few e (w .0)) (ending-few rules q (w .1)) (omega arith, tt) tt
 
 -- A refusal: its place is at most 255, its component below 16
 
@@ -279,27 +279,27 @@ answer-few Ground.BadForm o i k = owner-few 2 2 o i (omega arith) (omega arith) 
 same-place : (f g : Fault) → _≡_ {A = Got (Message Text)} (bad f) (bad g) → placeOf f ≡ placeOf g
 same-place f g e = let z : f ≡ g = cc in ap placeOf z
 
-place-most : (m : List ℕ) (f : Fault) → locatedUpTo deepestLevel m ≡ bad f → placeOf f ≤ mostOctets
+place-most : (m : List ℕ) (f : Fault) → locatedUpTo the93 m ≡ bad f → placeOf f ≤ mostOctets
 unfolding locatedUpTo check
 place-most m f h = by (leb (length m) mostOctets) refl
   where
     by : (b : Bool) → leb (length m) mostOctets ≡ b → placeOf f ≤ mostOctets
-    by true e = omega (arith, fault-placed deepestLevel (omega arith) m f h .place, leb-true (length m) mostOctets e)
+    by true e = omega (arith, fault-placed the93 (omega arith) m f h .place, leb-true (length m) mostOctets e)
     by false e = omega (arith, same-place _ f (rw e at h))
 
-refusal-few : (m : List ℕ) (f : Fault) → locatedUpTo deepestLevel m ≡ bad f → length (refusalText (refusalOf f)) ≤ longestListing
+refusal-few : (m : List ℕ) (f : Fault) → locatedUpTo the93 m ≡ bad f → length (refusalText (refusalOf f)) ≤ longestListing
 unfolding refusalText refusalOf
 refusal-few m (fault k p o i t) h =
     let n = numberOf k in
-    let l = word (text "refused") and spaced n (two-digits n (omega (arith, numbered k .1))) and spaced p (three-digits p (omega (arith, place-most m (fault k p o i t) h))) and answer-few (groundOf k) o i (fault-placed deepestLevel (omega arith) m (fault k p o i t) h .owner) and word (text "\n") in
+    let l = word (text "refused") and spaced n (two-digits n (omega (arith, numbered k .1))) and spaced p (three-digits p (omega (arith, place-most m (fault k p o i t) h))) and answer-few (groundOf k) o i (fault-placed the93 (omega arith) m (fault k p o i t) h .owner) and word (text "\n") in
     omega (arith, l .most)
 
-by-located : (m : List ℕ) (x : Got (Message Text)) → locatedUpTo deepestLevel m ≡ x → length (listingOf m (answered x)) ≤ longestListing
+by-located : (m : List ℕ) (x : Got (Message Text)) → locatedUpTo the93 m ≡ x → length (listingOf m (answered x)) ≤ longestListing
 unfolding answered listingOf outcomeText
-by-located m (got v n) e = let r = located-reads deepestLevel (omega arith) m v n e in record-few m (r .short) deepestLevel v (r .fine) (strings-sit deepestLevel m v n e)
+by-located m (got v n) e = let r = located-reads the93 (omega arith) m v n e in record-few m (r .short) the93 v (r .fine) (strings-sit the93 m v n e)
 by-located m (bad f) e = refusal-few m f e
 
 -- for every octet string, of whatever length
 pub listing-most : (m : List ℕ) → length (listingOf m (reading m)) ≤ longestListing
 unfolding reading readingUpTo
-listing-most m = by-located m (locatedUpTo deepestLevel m) refl
+listing-most m = by-located m (locatedUpTo the93 m) refl

@@ -13,7 +13,7 @@ use Rattle.element.specs.Fault.{Text}
 use Rattle.element.specs.Ask.{got}
 use Rattle.tcap.specs.declared.{OptionalOrig.OptionalOrig, OptionalDest.OptionalDest, Dialogue.Dialogue as DialogueField, MessageKind.MessageKind}
 use Rattle.tcap.specs.Meaning.{Originating, orig, Destination, dest, Code, local, global, Component, invoke, last, notLast, error, reject, Dialogue, request, unidialogue, response, aborted, single, octets, Ending, silent, cause, says, Message, unidirectional, begin, finish, continue, abort}
-use Rattle.tcap.specs.WellFormed.{mostOctets, mostComponents, deepestLevel, WellFormedUpTo}
+use Rattle.tcap.specs.WellFormed.{mostOctets, mostComponents, the93, WellFormedUpTo}
 use Rattle.tcap.specs.Record.{origField, destField, rowOf, endingField, portionField, blankRow, recordFrom, recordOf, messageTag}
 use Rattle.tcap.specs.Reading.{locatedUpTo}
 use Rattle.tcap.proofs.Strings.{octetsOf, componentAs, forget, Strings, optionStrings, tagged, whole, seriesStrings, codeStrings, bothStrings, componentStrings, namedStrings, dialogueStrings, endingStrings, origStrings, destStrings, restStrings, strings}
@@ -182,7 +182,7 @@ module _ (m : List ℕ) (short : length m ≤ mostOctets) where
       (orig-small m short o i, dest-small m short e j, portion-small m short d a, rows-small m short cs b)
   parts-small (abort e q) s = let (i, r) = every-parts (Sits m) (destStrings e) (endingStrings q) s in (dest-small m short e i, ending-small m short q r)
 
-pub few : (v : Message Text) → WellFormedUpTo deepestLevel (forget v) → length (components v) ≤ mostComponents
+pub few : (v : Message Text) → WellFormedUpTo the93 (forget v) → length (components v) ≤ mostComponents
 unfolding WellFormedUpTo
 few (unidirectional d cs) w = omega (arith, w .2 .0, length-map cs (componentAs octetsOf))
 few (begin o d cs) w = omega (arith, w .2 .0, length-map cs (componentAs octetsOf))
@@ -190,11 +190,11 @@ few (finish e d cs) w = omega (arith, w .2 .0, length-map cs (componentAs octets
 few (continue o e d cs) w = omega (arith, w .3 .0, length-map cs (componentAs octetsOf))
 few (abort e s) w = omega arith
 
-module _ (m : List ℕ) (v : Message Text) (n : ℕ) (e : locatedUpTo deepestLevel m ≡ got v n) where
+module _ (m : List ℕ) (v : Message Text) (n : ℕ) (e : locatedUpTo the93 m ≡ got v n) where
   pub accepted-laid : layAccepted v (replicate 428 0) ≡ recordOctets (recordOf v) ++ blanks (mostComponents - length (components v))
   accepted-laid =
-      let r = located-reads deepestLevel (omega arith) m v n e in
-      small-laid v (few v (r .fine)) (parts-small m (r .short) v (strings-sit deepestLevel m v n e))
+      let r = located-reads the93 (omega arith) m v n e in
+      small-laid v (few v (r .fine)) (parts-small m (r .short) v (strings-sit the93 m v n e))
 
   pub accepted-held : take (length (recordOctets (recordOf v))) (layAccepted v (replicate 428 0)) ≡ recordOctets (recordOf v)
   accepted-held = rw accepted-laid (take-at (recordOctets (recordOf v)) (blanks (mostComponents - length (components v))) (length (recordOctets (recordOf v))) refl)

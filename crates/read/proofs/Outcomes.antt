@@ -8,7 +8,7 @@ use Rattle.element.specs.Fault.{Text, Fault}
 use Rattle.element.specs.Ask.{Got, got, bad}
 use Rattle.tcap.specs.declared.{Refusal.Refusal, Outcome.Outcome}
 use Rattle.tcap.specs.Meaning.{Message}
-use Rattle.tcap.specs.WellFormed.{deepestLevel}
+use Rattle.tcap.specs.WellFormed.{the93}
 use Rattle.tcap.specs.Reading.{locatedUpTo, answered, readingUpTo, reading}
 use Rattle.tcap.proofs.Promises.{located-reads}
 use Rattle.read_place.specs.Places.{Near, Far, Placed}
@@ -23,54 +23,54 @@ use Rattle.read.proofs.Accepted.{accepted-held}
 
 -- The outcome, and what is left in the octets
 
-module _ (m : List ℕ) (r : ℕ) (number : Answers m (locatedUpTo deepestLevel m) r) where
-  pub left-blamed : (old new : List ℕ) → Left layAccepted Blames (locatedUpTo deepestLevel m) old new → Blamed (locatedUpTo deepestLevel m) new
+module _ (m : List ℕ) (r : ℕ) (number : Answers m (locatedUpTo the93 m) r) where
+  pub left-blamed : (old new : List ℕ) → Left layAccepted Blames (locatedUpTo the93 m) old new → Blamed (locatedUpTo the93 m) new
   unfolding Left Blamed
-  left-blamed old new e = go (locatedUpTo deepestLevel m) e
+  left-blamed old new e = go (locatedUpTo the93 m) e
     where
       go : (x : Got (Message Text)) → Left layAccepted Blames x old new → Blamed x new
       go (got v n) e = tt
       go (bad f) e = e
 
   -- a message that is accepted has at most 255 octets
-  got-near : (v : Message Text) (n : ℕ) → locatedUpTo deepestLevel m ≡ got v n → Near r
+  got-near : (v : Message Text) (n : ℕ) → locatedUpTo the93 m ≡ got v n → Near r
   unfolding Placed
-  got-near v n e = let short = located-reads deepestLevel (omega arith) m v n e .short in let i : Answers m (got v n) r = rw e at number in omega (arith, i, short)
+  got-near v n e = let short = located-reads the93 (omega arith) m v n e .short in let i : Answers m (got v n) r = rw e at number in omega (arith, i, short)
 
-  bad-far : (f : Fault) → locatedUpTo deepestLevel m ≡ bad f → Far r
+  bad-far : (f : Fault) → locatedUpTo the93 m ≡ bad f → Far r
   unfolding Placed
   bad-far f e = let i : Answers m (bad f) r = rw e at number in omega (arith, i, far-fault f)
 
   module _ (far : Far r) where
-    pub refused-outcome : (q : Refusal) → RefusedAs q (locatedUpTo deepestLevel m) → Outcome.Refused q ≡ reading m .outcome
+    pub refused-outcome : (q : Refusal) → RefusedAs q (locatedUpTo the93 m) → Outcome.Refused q ≡ reading m .outcome
     unfolding RefusedAs reading readingUpTo answered
-    refused-outcome q e = go (locatedUpTo deepestLevel m) refl e
+    refused-outcome q e = go (locatedUpTo the93 m) refl e
       where
-        go : (x : Got (Message Text)) → locatedUpTo deepestLevel m ≡ x → RefusedAs q x → Outcome.Refused q ≡ answered x .outcome
+        go : (x : Got (Message Text)) → locatedUpTo the93 m ≡ x → RefusedAs q x → Outcome.Refused q ≡ answered x .outcome
         go (got v n) i e = absurd (omega (arith, got-near v n i, far))
         go (bad g) i e = ap Outcome.Refused e
 
     pub refused-held : (new : List ℕ) → Held (reading m .outcome) (reading m .message) new
     unfolding Held reading readingUpTo answered
-    refused-held new = go (locatedUpTo deepestLevel m) refl
+    refused-held new = go (locatedUpTo the93 m) refl
       where
-        go : (x : Got (Message Text)) → locatedUpTo deepestLevel m ≡ x → Held (answered x .outcome) (answered x .message) new
+        go : (x : Got (Message Text)) → locatedUpTo the93 m ≡ x → Held (answered x .outcome) (answered x .message) new
         go (got v n) i = absurd (omega (arith, got-near v n i, far))
         go (bad g) i = tt
 
   module _ (near : Near r) where
     pub accepted-outcome : Outcome.Accepted ≡ reading m .outcome
     unfolding reading readingUpTo answered
-    accepted-outcome = go (locatedUpTo deepestLevel m) refl
+    accepted-outcome = go (locatedUpTo the93 m) refl
       where
-        go : (x : Got (Message Text)) → locatedUpTo deepestLevel m ≡ x → Outcome.Accepted ≡ answered x .outcome
+        go : (x : Got (Message Text)) → locatedUpTo the93 m ≡ x → Outcome.Accepted ≡ answered x .outcome
         go (got v n) i = refl
         go (bad g) i = absurd (omega (arith, bad-far g i, near))
 
-    pub accepted-holds : (old new : List ℕ) → old ≡ replicate 428 0 → Left layAccepted Blames (locatedUpTo deepestLevel m) old new → Held (reading m .outcome) (reading m .message) new
+    pub accepted-holds : (old new : List ℕ) → old ≡ replicate 428 0 → Left layAccepted Blames (locatedUpTo the93 m) old new → Held (reading m .outcome) (reading m .message) new
     unfolding Left Held reading readingUpTo answered
-    accepted-holds old new blank e = go (locatedUpTo deepestLevel m) refl e
+    accepted-holds old new blank e = go (locatedUpTo the93 m) refl e
       where
-        go : (x : Got (Message Text)) → locatedUpTo deepestLevel m ≡ x → Left layAccepted Blames x old new → Held (answered x .outcome) (answered x .message) new
+        go : (x : Got (Message Text)) → locatedUpTo the93 m ≡ x → Left layAccepted Blames x old new → Held (answered x .outcome) (answered x .message) new
         go (got v n) i e = rw (e, blank) (accepted-held m v n i)
         go (bad g) i e = absurd (omega (arith, bad-far g i, near))

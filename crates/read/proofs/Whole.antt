@@ -8,7 +8,7 @@ use Rattle.element.specs.Fault.{Text}
 use Rattle.element.specs.Ask.{Got, got, bad}
 use Rattle.tcap.specs.declared.{OptionalOrig.OptionalOrig, OptionalDest.OptionalDest, Dialogue.Dialogue, MessageKind.MessageKind, Row.Row, Record.Record, Refusal.Refusal, Outcome.Outcome}
 use Rattle.tcap.specs.Meaning.{Message, unidirectional, begin, finish, continue, abort}
-use Rattle.tcap.specs.WellFormed.{mostComponents, deepestLevel}
+use Rattle.tcap.specs.WellFormed.{mostComponents, the93}
 use Rattle.tcap.specs.Record.{recordOf}
 use Rattle.tcap.specs.Reading.{locatedUpTo, answered, readingUpTo, reading}
 use Rattle.tcap.proofs.Promises.{located-reads}
@@ -36,10 +36,10 @@ module _ (m new : List ℕ) (is : Outcome.Accepted ≡ reading m .outcome) (held
 
   few-rows : numberAt new 4 ≤ 16
   unfolding recordIn
-  few-rows = let z : numberAt new 4 ≡ reading m .message .count = ap (λ (r : Record). r .count) record-back in omega (arith, z, go (locatedUpTo deepestLevel m) refl)
+  few-rows = let z : numberAt new 4 ≡ reading m .message .count = ap (λ (r : Record). r .count) record-back in omega (arith, z, go (locatedUpTo the93 m) refl)
     where
-      go : (x : Got (Message Text)) → locatedUpTo deepestLevel m ≡ x → reading m .message .count ≤ 16
-      go (got v n) e = unfold reading readingUpTo answered in (rw e (record-count v (few v (located-reads deepestLevel (omega arith) m v n e .fine))))
+      go : (x : Got (Message Text)) → locatedUpTo the93 m ≡ x → reading m .message .count ≤ 16
+      go (got v n) e = unfold reading readingUpTo answered in (rw e (record-count v (few v (located-reads the93 (omega arith) m v n e .fine))))
       go (bad f) e = unfold reading readingUpTo answered in (rw e (omega arith))
 
   pub looked-few : rowsLooked new ≤ 16
@@ -60,7 +60,7 @@ module _ (m : List ℕ) (q : Refusal) (is : Outcome.Refused q ≡ reading m .out
   pub read-refused : (l : List ℕ) (rows : List Row) → rows ≡ rowsHeld 0 l
       → record { outcome = Outcome.Refused q; message = record { kind = MessageKind.Unidirectional; orig = OptionalOrig.NoOrig; dest = OptionalDest.NoDest; dialogue = Dialogue.NoDialogue; count = 0; rows = rows } } ≡ reading m
   unfolding reading readingUpTo answered rowsHeld rowsIn
-  read-refused l rows e = go (locatedUpTo deepestLevel m) is
+  read-refused l rows e = go (locatedUpTo the93 m) is
     where
       go : (x : Got (Message Text)) → Outcome.Refused q ≡ answered x .outcome
           → record { outcome = Outcome.Refused q; message = record { kind = MessageKind.Unidirectional; orig = OptionalOrig.NoOrig; dest = OptionalDest.NoDest; dialogue = Dialogue.NoDialogue; count = 0; rows = rows } } ≡ answered x

@@ -18,7 +18,7 @@ use Rattle.element.proofs.Asking.{Then, fact, void, the-fact, then-next, then-b
 use Rattle.tcap.specs.declared.Ground.{Ground}
 use Rattle.tcap.specs.Meaning.{Component}
 use Rattle.tcap.specs.Reading.{byOwner, answerFor}
-use Rattle.tcap.specs.WellFormed.{deepestLevel}
+use Rattle.tcap.specs.WellFormed.{the93}
 use Rattle.tcap.specs.Productions.{componentAt, componentItem}
 use Rattle.read_place.specs.Places.{Far, Near, until, finite, part, Placed, Closing, Shut, Finishes, endedOf, unfinishedOf, missing, cutOff, seventeenth}
 use Rattle.read_place.specs.Leaves.{Left, LeavesAll, untold}
@@ -138,7 +138,7 @@ module _ (m : List ℕ) (from stop k at : ℕ) (old cur : List ℕ) (filling : F
       go zero on z = absurd (z refl)
       go (suc k) on z =
           let all : suc k + 0 ≡ suc k = omega arith in
-          on (set cur 7 (suc k)) (rw (series-whole (componentAt deepestLevel) FaultKind.UnknownComponent (componentItem deepestLevel) (suc k) (finite stop) at (part m at stop) (16 - suc k) (ended-is (endOf (finite stop) (part m at stop)) b is t)) (ap (set cur 7) (sym all)))
+          on (set cur 7 (suc k)) (rw (series-whole (componentAt the93) FaultKind.UnknownComponent (componentItem the93) (suc k) (finite stop) at (part m at stop) (16 - suc k) (ended-is (endOf (finite stop) (part m at stop)) b is t)) (ap (set cur 7) (sym all)))
 
 -- one more row, where the slice was lent
 near-told : {A : Type 0} (lay : A → List ℕ → List ℕ) (x : Got A) (p end r : ℕ) (old new : List ℕ) → Placed p end x r → Near r → Left lay untold x old new → Left lay Blames x old new
@@ -171,7 +171,7 @@ module _ (m : List ℕ) (from stop k at : ℕ) (old cur : List ℕ) (filling : F
   filling-on =
       let next-one : k + 1 ≡ suc k = omega arith in
       let placed = here m stop k at b c is also no nor most unfull r e in
-      let row = near-told (layRow k) _ at (until stop) r cur laid placed f (left-where untold (layRow k) (componentItem deepestLevel) FaultKind.UnknownComponent (componentAt deepestLevel k) (λ f l u. u) (finite stop) at (part m at stop) cur laid refl (row-left k cur sub _ left)) in
+      let row = near-told (layRow k) _ at (until stop) r cur laid placed f (left-where untold (layRow k) (componentItem the93) FaultKind.UnknownComponent (componentAt the93 k) (λ f l u. u) (finite stop) at (part m at stop) cur laid refl (row-left k cur sub _ left)) in
       rw next-one (λ new y. filling new (rw (one-more m stop k at b c is also no nor most unfull r e) (left-near Blames (layRow k) (layFrom k) _ _ at (until stop) r placed cur laid new f row (λ a n z q.
       rw (span-drop m at (until stop) n) (left-next Blames (layFrom (suc k)) (layFrom k) (λ ws. a ∷ ws) (λ j. n + j) (ask (rowsBody (16 - suc k) (suc k)) (finite stop) (at + n) (part m (at + n) stop)) cur laid new
       (λ ws. let all : suc k + length ws ≡ k + suc (length ws) = omega arith in rw (q, all)) (rw z at y))))))

@@ -24,7 +24,7 @@ use Rattle.element.specs.Ask.{Got, got, bad, next, check, blamed, Body, askLeng
 use Rattle.element.specs.Parts.{Item, Where, firstOf, level, leafItem, mapItem, aroundItem, integerItem, optBody, lastBody, onlyBody, bindBody, mapBody}
 use Rattle.element.proofs.Asking.{Then, fact, void, then-next, then-blamed, ask-sound}
 use Rattle.tcap.specs.Meaning.{last, notLast, reject}
-use Rattle.tcap.specs.WellFormed.{deepestLevel}
+use Rattle.tcap.specs.WellFormed.{the93}
 use Rattle.tcap.specs.Productions.{idItem, idOrNullItem, problemItem, codeBody, bothItem, invokeBody, resultBody, errorBody, componentItem, noted}
 use Rattle.read_place.specs.Places.{Far, Near, until, finite, part, front, Placed, Reads, standsOf, entryPlace, lengthPlace, lengthSize}
 use Rattle.read_place.proofs.Views.{span-length, span-get}
@@ -125,22 +125,22 @@ module _ (tag : ℕ) (m : List ℕ) (at stop : ℕ) (h : until stop ≤ length m
   Known j = Carries j (ask (bodyOf tag) (finite stop) at (part m at stop))
 
   module _ (other : tag ≡ 164 → ⊥) (r : ℕ) (id : Reads (integerItem 2 1) m at stop r) where
-    by-kind : (j : Option ℤ) → Carries j (ask (bindBody (level 13) noted (integerItem 2 1) (λ i. optBody (integerItem 128 1) (codeBody deepestLevel))) (finite stop) at (part m at stop))
-        → Carries j (ask (bindBody (level 13) noted (integerItem 2 1) (λ i. codeBody deepestLevel)) (finite stop) at (part m at stop)) → Carries j (ask returnedBody (finite stop) at (part m at stop)) → Known j
+    by-kind : (j : Option ℤ) → Carries j (ask (bindBody (level 13) noted (integerItem 2 1) (λ i. optBody (integerItem 128 1) (codeBody the93))) (finite stop) at (part m at stop))
+        → Carries j (ask (bindBody (level 13) noted (integerItem 2 1) (λ i. codeBody the93)) (finite stop) at (part m at stop)) → Carries j (ask returnedBody (finite stop) at (part m at stop)) → Known j
     unfolding bodyOf
     by-kind j u v w = rw (ne-eqb tag 164 other) (go (eqb tag 161) (eqb tag 163) (eqb tag 162))
       where
-        go : (a c b : Bool) → Carries j (ask (cond a (invokeBody deepestLevel) (cond c (errorBody deepestLevel) (cond b (resultBody deepestLevel last) (resultBody deepestLevel notLast)))) (finite stop) at (part m at stop))
-        go true c b = map-carries _ (bindBody (level 13) noted (integerItem 2 1) (λ i. optBody (integerItem 128 1) (codeBody deepestLevel))) j (finite stop) at (part m at stop) u
-        go false true b = map-carries _ (bindBody (level 13) noted (integerItem 2 1) (λ i. codeBody deepestLevel)) j (finite stop) at (part m at stop) v
+        go : (a c b : Bool) → Carries j (ask (cond a (invokeBody the93) (cond c (errorBody the93) (cond b (resultBody the93 last) (resultBody the93 notLast)))) (finite stop) at (part m at stop))
+        go true c b = map-carries _ (bindBody (level 13) noted (integerItem 2 1) (λ i. optBody (integerItem 128 1) (codeBody the93))) j (finite stop) at (part m at stop) u
+        go false true b = map-carries _ (bindBody (level 13) noted (integerItem 2 1) (λ i. codeBody the93)) j (finite stop) at (part m at stop) v
         go false false true = map-carries (λ v. last (v .0) (v .1)) returnedBody j (finite stop) at (part m at stop) w
         go false false false = map-carries (λ v. notLast (v .0) (v .1)) returnedBody j (finite stop) at (part m at stop) w
 
     pub known-none : Far r → Known none
-    known-none f = by-kind none (carries-none (λ i. optBody (integerItem 128 1) (codeBody deepestLevel)) m at stop r h id f) (carries-none (λ i. codeBody deepestLevel) m at stop r h id f) (carries-none (λ i. lastBody (level 13) (bothItem deepestLevel)) m at stop r h id f)
+    known-none f = by-kind none (carries-none (λ i. optBody (integerItem 128 1) (codeBody the93)) m at stop r h id f) (carries-none (λ i. codeBody the93) m at stop r h id f) (carries-none (λ i. lastBody (level 13) (bothItem the93)) m at stop r h id f)
 
     pub known-id : Near r → Known (some (signedOf (getD m (at + 2) 0 ∷ [])))
-    known-id f = by-kind _ (carries-id (λ i. optBody (integerItem 128 1) (codeBody deepestLevel)) m at stop r h id f) (carries-id (λ i. codeBody deepestLevel) m at stop r h id f) (carries-id (λ i. lastBody (level 13) (bothItem deepestLevel)) m at stop r h id f)
+    known-id f = by-kind _ (carries-id (λ i. optBody (integerItem 128 1) (codeBody the93)) m at stop r h id f) (carries-id (λ i. codeBody the93) m at stop r h id f) (carries-id (λ i. lastBody (level 13) (bothItem the93)) m at stop r h id f)
 
   module _ (rejects : tag ≡ 164) where
     its-body : (j : Option ℤ) → Carries j (ask (bindBody (level 13) withInvokeId idOrNullItem (λ i. onlyBody (level 13) problemItem)) (finite stop) at (part m at stop)) → Known j
@@ -206,9 +206,9 @@ wrong-front x d p part EndRead.Unfinished t h = unfold Carries in refl
 wrong-front x d p part EndRead.More (TagRead.Fault k) h = unfold Carries in refl
 wrong-front x d p part EndRead.More (TagRead.Tag a s) h = rw (h a s refl) (unfold Carries in refl)
 
-module _ (m : List ℕ) (at stop : ℕ) (h : until stop ≤ length m) (here : at < until stop) (b : Bool) (asked : b ≡ componentItem deepestLevel .mine (getD m at 0)) (told : b ≡ true) (inner : ℕ) (entry : inner ≡ entryPlace true m at stop (getD m at 0)) where
+module _ (m : List ℕ) (at stop : ℕ) (h : until stop ≤ length m) (here : at < until stop) (b : Bool) (asked : b ≡ componentItem the93 .mine (getD m at 0)) (told : b ≡ true) (inner : ℕ) (entry : inner ≡ entryPlace true m at stop (getD m at 0)) where
   pub component-carries : length m ≤ 65535 → Near inner → (st : ℕ) → st ≡ at + 1 + lengthSize (getD m (at + 1) 0) → (j : Option ℤ) → Carries j (ask (bodyOf (getD m at 0)) (finite inner) st (part m st inner))
-      → Carries j (ask (front (level 1) FaultKind.UnknownComponent (componentItem deepestLevel)) (finite stop) at (part m at stop))
+      → Carries j (ask (front (level 1) FaultKind.UnknownComponent (componentItem the93)) (finite stop) at (part m at stop))
   component-carries top near st start j e =
       by-tag m at stop h here (getD m at 0) refl (sym asked ∙ told) (λ x. Carries j x) (
       let s = lead (getD m at 0) (sym asked ∙ told) in
@@ -216,7 +216,7 @@ module _ (m : List ℕ) (at stop : ℕ) (h : until stop ≤ length m) (here : at
       rw (q .1) (carries-sized (q .0) j _ e))
 
   -- its length is none
-  pub entry-carries : Far inner → Carries none (ask (front (level 1) FaultKind.UnknownComponent (componentItem deepestLevel)) (finite stop) at (part m at stop))
+  pub entry-carries : Far inner → Carries none (ask (front (level 1) FaultKind.UnknownComponent (componentItem the93)) (finite stop) at (part m at stop))
   unfolding entryPlace standsOf
   entry-carries f =
       by-tag m at stop h here (getD m at 0) refl (sym asked ∙ told) (λ x. Carries none x) (
@@ -229,19 +229,19 @@ module _ (m : List ℕ) (at stop : ℕ) (h : until stop ≤ length m) (here : at
       go l q e = by-length (aroundItem (getD m at 0) (bodyOf (getD m at 0))) m at stop h here inner f (getD m at 0) l q e
 
 -- no component stands here
-pub wrong-carries : (m : List ℕ) (at stop : ℕ) → until stop ≤ length m → (b : Bool) → b ≡ componentItem deepestLevel .mine (getD m at 0) → b ≡ false → Carries none (ask (front (level 1) FaultKind.UnknownComponent (componentItem deepestLevel)) (finite stop) at (part m at stop))
+pub wrong-carries : (m : List ℕ) (at stop : ℕ) → until stop ≤ length m → (b : Bool) → b ≡ componentItem the93 .mine (getD m at 0) → b ≡ false → Carries none (ask (front (level 1) FaultKind.UnknownComponent (componentItem the93)) (finite stop) at (part m at stop))
 wrong-carries m at stop h b asked told =
-    rw (ask-front (front (level 1) FaultKind.UnknownComponent (componentItem deepestLevel)) (finite stop) at (part m at stop) refl refl)
-    (wrong-front (componentItem deepestLevel) (finite stop) at (part m at stop) (endOf (finite stop) (part m at stop)) (frontOf 1 (part m at stop)) (λ a s z. ap (λ (q : ℕ). componentItem deepestLevel .mine q) (sym (front-octet m at (until stop) a s h z .1)) ∙ sym asked ∙ told))
+    rw (ask-front (front (level 1) FaultKind.UnknownComponent (componentItem the93)) (finite stop) at (part m at stop) refl refl)
+    (wrong-front (componentItem the93) (finite stop) at (part m at stop) (endOf (finite stop) (part m at stop)) (frontOf 1 (part m at stop)) (λ a s z. ap (λ (q : ℕ). componentItem the93 .mine q) (sym (front-octet m at (until stop) a s h z .1)) ∙ sym asked ∙ told))
 
 -- What `known_id` answers
 
 module _ (m : List ℕ) (at stop : ℕ) (h : until stop ≤ length m) where
-  pub told-wrong : (b : Bool) → b ≡ componentItem deepestLevel .mine (getD m at 0) → b ≡ false → KnowsId m at stop 0
+  pub told-wrong : (b : Bool) → b ≡ componentItem the93 .mine (getD m at 0) → b ≡ false → KnowsId m at stop 0
   unfolding idTold
   told-wrong b asked told = wrong-carries m at stop h b asked told
 
-  module _ (here : at < until stop) (b : Bool) (asked : b ≡ componentItem deepestLevel .mine (getD m at 0)) (told : b ≡ true) (inner : ℕ) (entry : inner ≡ entryPlace true m at stop (getD m at 0)) where
+  module _ (here : at < until stop) (b : Bool) (asked : b ≡ componentItem the93 .mine (getD m at 0)) (told : b ≡ true) (inner : ℕ) (entry : inner ≡ entryPlace true m at stop (getD m at 0)) where
     pub told-entry : Far inner → KnowsId m at stop 0
     unfolding idTold
     told-entry f = entry-carries m at stop h here b asked told inner entry f

@@ -19,7 +19,7 @@ use Rattle.element.specs.Answers.{frontOf}
 use Rattle.element.specs.Ask.{Got, got, bad, next, check, blamed, definite, indefinite, head, askLength, ask}
 use Rattle.element.specs.Parts.{Item, Where, level}
 use Rattle.tcap.specs.Meaning.{Component}
-use Rattle.tcap.specs.WellFormed.{deepestLevel}
+use Rattle.tcap.specs.WellFormed.{the93}
 use Rattle.tcap.specs.Productions.{componentAt, componentItem}
 use Rattle.read_place.specs.Places.{Far, Near, until, finite, part, front, Placed, endedOf, unfinishedOf}
 use Rattle.read_place.proofs.Views.{span-drop}
@@ -101,11 +101,11 @@ module _ (m : List ℕ) (from stop k at : ℕ) (telling : Telling m from stop k 
 
   pub told-none : (b : Bool) → b ≡ endedOf (endOf (finite stop) (part m at stop)) → b ≡ true → k ≡ 0 → Told portion none
   unfolding Telling endsAt
-  told-none b is t z = telling portion none (rw (z, series-missing (componentAt deepestLevel) FaultKind.UnknownComponent (componentItem deepestLevel) 0 (finite stop) at (part m at stop) 16 (ended-is (endOf (finite stop) (part m at stop)) b is t)) (tells-plain (List (Component Text)) FaultKind.Missing at))
+  told-none b is t z = telling portion none (rw (z, series-missing (componentAt the93) FaultKind.UnknownComponent (componentItem the93) 0 (finite stop) at (part m at stop) 16 (ended-is (endOf (finite stop) (part m at stop)) b is t)) (tells-plain (List (Component Text)) FaultKind.Missing at))
 
   pub told-cut : (c : Bool) → c ≡ unfinishedOf (endOf (finite stop) (part m at stop)) → c ≡ true → Told portion none
   unfolding Telling
-  told-cut c is t = telling portion none (rw (series-cut (componentAt deepestLevel) FaultKind.UnknownComponent (componentItem deepestLevel) k (finite stop) at (part m at stop) (endsAt k) (16 - k) (unfinished-is (endOf (finite stop) (part m at stop)) c is t)) (tells-plain (List (Component Text)) FaultKind.CutOff at))
+  told-cut c is t = telling portion none (rw (series-cut (componentAt the93) FaultKind.UnknownComponent (componentItem the93) k (finite stop) at (part m at stop) (endsAt k) (16 - k) (unfinished-is (endOf (finite stop) (part m at stop)) c is t)) (tells-plain (List (Component Text)) FaultKind.CutOff at))
 
   module _ (b c : Bool) (is : b ≡ endedOf (endOf (finite stop) (part m at stop))) (also : c ≡ unfinishedOf (endOf (finite stop) (part m at stop))) (no : b ≡ false) (nor : c ≡ false) where
     more : endOf (finite stop) (part m at stop) ≡ EndRead.More
@@ -115,16 +115,16 @@ module _ (m : List ℕ) (from stop k at : ℕ) (telling : Telling m from stop k 
     unfolding Telling
     told-full z =
         let none-left : 16 - k ≡ 0 = omega (arith, z) in
-        telling portion none (rw (none-left, series-full (componentAt deepestLevel) FaultKind.UnknownComponent (componentItem deepestLevel) k (finite stop) at (part m at stop) (endsAt k) more) (tells-plain (List (Component Text)) FaultKind.Seventeenth at))
+        telling portion none (rw (none-left, series-full (componentAt the93) FaultKind.UnknownComponent (componentItem the93) k (finite stop) at (part m at stop) (endsAt k) more) (tells-plain (List (Component Text)) FaultKind.Seventeenth at))
 
     module _ (most : k ≤ 16) (unfull : k ≡ 16 → ⊥) (r : ℕ) (e : ReadsComponent m at stop r) where
       -- a fault in it: its number, and the invoke ID that it carries
-      pub told-far : Far r → (j : Option ℤ) → Carries j (ask (front (level 1) FaultKind.UnknownComponent (componentItem deepestLevel)) (finite stop) at (part m at stop)) → Told (component k) j
+      pub told-far : Far r → (j : Option ℤ) → Carries j (ask (front (level 1) FaultKind.UnknownComponent (componentItem the93)) (finite stop) at (part m at stop)) → Told (component k) j
       unfolding Telling
       told-far f j carries =
           telling (component k) j (rw (one-more m stop k at b c is also no nor most unfull r e)
           (tells-far _ _ at (until stop) r (here m stop k at b c is also no nor most unfull r e) (component k) j (omega arith) f
-          (rw (front-owned (componentAt deepestLevel k) FaultKind.UnknownComponent (componentItem deepestLevel) (finite stop) at (part m at stop) more refl) (tells-owned k j _ carries))))
+          (rw (front-owned (componentAt the93 k) FaultKind.UnknownComponent (componentItem the93) (finite stop) at (part m at stop) more refl) (tells-owned k j _ carries))))
 
       pub told-on : Near r → Telling m from stop (k + 1) r
       unfolding Telling

@@ -14,7 +14,7 @@ use Rattle.element.specs.Head.{endOf}
 use Rattle.element.specs.Ask.{Got, got, bad, next, check, blamed, atEnd, askEnd, ask}
 use Rattle.element.specs.Parts.{Item, Where, onward, silently, seriesBody}
 use Rattle.tcap.specs.Meaning.{Component}
-use Rattle.tcap.specs.WellFormed.{deepestLevel}
+use Rattle.tcap.specs.WellFormed.{the93}
 use Rattle.tcap.specs.Productions.{componentAt, componentItem}
 use Rattle.read_place.specs.Places.{Far, Near, until, finite, part, faultPlace, base, front, Placed, Closing, Finishes, endedOf, unfinishedOf, behindOf, cutOff, missing, seventeenth}
 use Rattle.read_place.proofs.Views.{span-drop, endBy, end-view}
@@ -73,10 +73,10 @@ unfolding inComponent faultPlace
 component-keeps k (fault j q o i t) = refl
 
 abbrev kinds : Item (Component Text)
-kinds = componentItem deepestLevel
+kinds = componentItem the93
 
 abbrev wheres : ℕ → Where
-wheres = componentAt deepestLevel
+wheres = componentAt the93
 
 -- one more stands here and there is room for it
 module _ (m : List ℕ) (stop k at : ℕ) (b c : Bool) (is : b ≡ endedOf (endOf (finite stop) (part m at stop))) (also : c ≡ unfinishedOf (endOf (finite stop) (part m at stop))) (no : b ≡ false) (nor : c ≡ false) (most : k ≤ 16) (unfull : k ≡ 16 → ⊥) (r : ℕ) (e : ReadsComponent m at stop r) where

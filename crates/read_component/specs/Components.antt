@@ -5,7 +5,7 @@ use mathlib.Core.{Path._≡_, Bool.cond, List.List, List.[], List._∷_, Option.
 use lib.{Dec.eqb, IntN.ℤ}
 use Rattle.primitive.specs.Primitive.{signedOf}
 use Rattle.element.specs.{declared.FaultKind.FaultKind, Fault.Owner, Fault.fault, Fault.Text, Ask.Got, Ask.got, Ask.bad, Ask.Body, Ask.ask, Parts.level, Parts.seriesBody}
-use Rattle.tcap.specs.{Meaning.Component, WellFormed.deepestLevel, Productions.componentAt, Productions.componentItem}
+use Rattle.tcap.specs.{Meaning.Component, WellFormed.the93, Productions.componentAt, Productions.componentItem}
 use Rattle.read_place.specs.Places.{finite, part, front}
 
 -- components, of which k are read: `room` more may come, and after the first none need
@@ -14,7 +14,7 @@ endsAt zero = none
 endsAt (suc k) = some []
 
 abbrev pub rowsBody : ℕ → ℕ → Body (List (Component Text))
-rowsBody room k = seriesBody (componentAt deepestLevel) FaultKind.UnknownComponent (componentItem deepestLevel) (endsAt k) room k
+rowsBody room k = seriesBody (componentAt the93) FaultKind.UnknownComponent (componentItem the93) (endsAt k) room k
 
 -- whom a fault belongs to, and the invoke ID that it carries
 unfoldable pub Tells : {A : Type 0} → Owner → Option ℤ → Got A → Type 0
@@ -31,7 +31,7 @@ idTold r = cond (eqb (r / 256) 0) none (some (signedOf (r % 256 ∷ [])))
 
 -- the invoke ID goes with a fault of the component that stands at a place
 abbrev pub CarriesHere : Option ℤ → List ℕ → ℕ → ℕ → Type 0
-CarriesHere j m at stop = Carries j (ask (front (level 1) FaultKind.UnknownComponent (componentItem deepestLevel)) (finite stop) at (part m at stop))
+CarriesHere j m at stop = Carries j (ask (front (level 1) FaultKind.UnknownComponent (componentItem the93)) (finite stop) at (part m at stop))
 
 -- told by a number
 abbrev pub KnowsId : List ℕ → ℕ → ℕ → ℕ → Type 0

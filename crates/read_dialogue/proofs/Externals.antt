@@ -20,7 +20,7 @@ use Rattle.element.specs.Parts.{level, onward, silently, keptItem, seriesBody}
 use Rattle.element.specs.Walk.{walkItem, walkTagItem}
 use Rattle.element.proofs.Walking.{not-more}
 use Rattle.element.proofs.Whole.{element-size}
-use Rattle.tcap.specs.WellFormed.{deepestLevel}
+use Rattle.tcap.specs.WellFormed.{the93}
 use Rattle.tcap.specs.Productions.{infoBody}
 use Rattle.read_place.specs.Places.{Far, Near, until, finite, part, base, faultPlace, front, Placed, Closing, nothing, Reads, Finishes, endedOf, behindOf, askedPlace, standsOf, wrongPlace, entryPlace, lengthSize, Walked, another}
 use Rattle.read_place.proofs.Views.{span-length, span-drop}
@@ -150,14 +150,14 @@ module _ (m : List ℕ) (from stop at : ℕ) (going : Going m from stop at) (b :
 -- BE, or nothing
 
 module _ (m : List ℕ) (at stop : ℕ) (g : at ≤ until stop) (h : until stop ≤ length m) (b : Bool) (is : b ≡ endedOf (endOf (finite stop) (part m at stop))) where
-  pub info-none : b ≡ true → (r : ℕ) → r ≡ behindOf at stop → Finishes (infoBody deepestLevel) m at stop r
+  pub info-none : b ≡ true → (r : ℕ) → r ≡ behindOf at stop → Finishes (infoBody the93) m at stop r
   info-none t r e = rw e (last-none (level 11) (keptItem 190 externalsBody) m at stop g h (ended-is (endOf (finite stop) (part m at stop)) b is t))
 
   module _ (no : b ≡ false) (inner : ℕ) (entry : inner ≡ entryPlace true m at stop 190) where
     info-lifted : (r : ℕ) → Reads (keptItem 190 externalsBody) m at stop r → Placed at (until stop) (ask (front (level 11) FaultKind.Another (keptItem 190 externalsBody)) (finite stop) at (part m at stop)) r
     info-lifted r e = placed-where (keptItem 190 externalsBody) FaultKind.Another (level 11) (λ f. refl) (finite stop) at (part m at stop) (until stop) r refl e
 
-    pub info-entry : Far inner → Finishes (infoBody deepestLevel) m at stop inner
+    pub info-entry : Far inner → Finishes (infoBody the93) m at stop inner
     unfolding constructorOf
     info-entry f = last-far (level 11) (keptItem 190 externalsBody) m at stop inner (info-lifted inner (entry-far true m at stop 190 inner g h entry (keptItem 190 externalsBody) (omega arith, omega arith, omega arith) refl (λ a. refl) f)) (not-ended (endOf (finite stop) (part m at stop)) b is no) f
 
@@ -166,10 +166,10 @@ module _ (m : List ℕ) (at stop : ℕ) (g : at ≤ until stop) (h : until stop 
       unfolding constructorOf
       info-held = kept-near 190 (omega arith, omega arith, omega arith) refl externalsBody m at stop inner g h entry top near st start r e
 
-      pub info-far : Far r → Finishes (infoBody deepestLevel) m at stop r
+      pub info-far : Far r → Finishes (infoBody the93) m at stop r
       info-far f = last-far (level 11) (keptItem 190 externalsBody) m at stop r (info-lifted r info-held) (not-ended (endOf (finite stop) (part m at stop)) b is no) f
 
-      pub info-near : Near r → (s : ℕ) → Finishes nothing m r stop s → Finishes (infoBody deepestLevel) m at stop s
+      pub info-near : Near r → (s : ℕ) → Finishes nothing m r stop s → Finishes (infoBody the93) m at stop s
       info-near f s q = last-near (level 11) (keptItem 190 externalsBody) m at stop r (info-lifted r info-held) (not-ended (endOf (finite stop) (part m at stop)) b is no) (λ f. refl) refl s f q
 
       pub info-within : Near r → r ≤ until stop

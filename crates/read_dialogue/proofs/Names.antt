@@ -21,7 +21,7 @@ use Rattle.element.proofs.Reading.{definite-size, indefinite-size}
 use Rattle.primitive.specs.Primitive.{identifierOk, numbers}
 use Rattle.tcap.specs.Meaning.{Dialogue, single, octets, structured, unstructured}
 use Rattle.tcap.specs.Names.{kindOf, nameKind}
-use Rattle.tcap.specs.WellFormed.{deepestLevel}
+use Rattle.tcap.specs.WellFormed.{the93}
 use Rattle.tcap.specs.Productions.{nameItem, heldItem, externalBody, inside6B, dialogueItem}
 use Rattle.read_place.specs.Places.{Far, Near, until, faults, finite, part, faultPlace, front, Placed, nothing, Reads, Finishes, standsOf, entryPlace, badPlace, countOf, base, badContents, lengthPlace, lengthSize, Ready}
 use Rattle.read_place.proofs.Views.{span-length, span-take}
@@ -112,9 +112,9 @@ module _ (m : List ℕ) (at stop r : ℕ) (e : Reads nameItem m at stop r) where
   name-lifted = placed-where nameItem FaultKind.Another (level 13) (λ f. refl) (finite stop) at (part m at stop) (until stop) r refl e
 
   abbrev held-by : Text → Item (Dialogue Text)
-  held-by n = heldItem deepestLevel n (same structured (n .1)) (same unstructured (n .1))
+  held-by n = heldItem the93 n (same structured (n .1)) (same unstructured (n .1))
 
-  pub external-far : Far r → Finishes (externalBody deepestLevel) m at stop r
+  pub external-far : Far r → Finishes (externalBody the93) m at stop r
   external-far f = map-closed (λ v. v .1) (bindBody (level 13) silently nameItem (λ n. onlyBody (level 13) (held-by n))) m at stop r (bind-far (level 13) nameItem m at stop r name-lifted silently (λ a f. refl) (λ n. onlyBody (level 13) (held-by n)) f)
 
   pub name-room : Near r → at + 2 ≤ r
@@ -136,12 +136,12 @@ module _ (m : List ℕ) (at stop r : ℕ) (e : Reads nameItem m at stop r) where
       unfolding Holds
       held-lifted a i = placed-where (held-by a) FaultKind.Another (level 13) (λ f. refl) (finite stop) r (part m r stop) (until stop) s refl (rw (ap (same structured) i, ap (same unstructured) i) (held a))
 
-      pub external-held : Far s → Finishes (externalBody deepestLevel) m at stop s
+      pub external-held : Far s → Finishes (externalBody the93) m at stop s
       external-held f =
           map-closed (λ v. v .1) (bindBody (level 13) silently nameItem (λ n. onlyBody (level 13) (held-by n))) m at stop s (bind-known (level 13) nameItem m at stop r name-lifted (λ n. onlyBody (level 13) (held-by n)) s near (λ a n i z.
           only-far (level 13) (held-by a) m r stop s (held-lifted a (octets-are a n i z)) f))
 
-      pub external-near : Near s → (q : ℕ) → Finishes nothing m s stop q → Finishes (externalBody deepestLevel) m at stop q
+      pub external-near : Near s → (q : ℕ) → Finishes nothing m s stop q → Finishes (externalBody the93) m at stop q
       external-near f q y =
           map-closed (λ v. v .1) (bindBody (level 13) silently nameItem (λ n. onlyBody (level 13) (held-by n))) m at stop q (bind-known (level 13) nameItem m at stop r name-lifted (λ n. onlyBody (level 13) (held-by n)) q near (λ a n i z.
           only-near (level 13) (held-by a) m r stop s (held-lifted a (octets-are a n i z)) (λ f. refl) refl q f y))
@@ -166,7 +166,7 @@ pub name-other : (m : List ℕ) (at n k : ℕ) (xs : List ℕ) → xs ≡ take n
 name-other m at n k xs xs-is told z = ap nameKind (sym xs-is) ∙ sym told ∙ z
 
 module _ (m : List ℕ) (at stop n : ℕ) (ready : Ready m at stop) where
-  pub name-lacks : n ≡ countOf (until stop) at (getD m at 0) (getD m (at + 1) 0) 6 16 → n ≡ 0 → (r : ℕ) → r ≡ badPlace m at stop 6 → Finishes (externalBody deepestLevel) m at stop r
+  pub name-lacks : n ≡ countOf (until stop) at (getD m at 0) (getD m (at + 1) 0) 6 16 → n ≡ 0 → (r : ℕ) → r ≡ badPlace m at stop 6 → Finishes (externalBody the93) m at stop r
   name-lacks is z r e = external-far m at stop r (name-none m at stop n (ready .0 .0) (ready .0 .1) is z r e) (bad-far m at stop 6 r e)
 
   pub name-counted : n ≡ countOf (until stop) at (getD m at 0) (getD m (at + 1) 0) 6 16 → (n ≡ 0 → ⊥) → NameCounted m at stop n
@@ -201,14 +201,14 @@ module _ (m : List ℕ) (at stop n : ℕ) (ready : Ready m at stop) where
           pub known-behind : Behind-name r
           known-behind = held-known m (at + 2 + n) stop r (at + 2) k xs piece-is told known e
 
-          pub known-far : Far r → Finishes (externalBody deepestLevel) m at stop r
+          pub known-far : Far r → Finishes (externalBody the93) m at stop r
           known-far f = external-held m at stop (at + 2 + n) known-name (ready .0 .1) name-near r known-behind f
 
-          pub known-near : Near r → (s : ℕ) → Finishes nothing m r stop s → Finishes (externalBody deepestLevel) m at stop s
+          pub known-near : Near r → (s : ℕ) → Finishes nothing m r stop s → Finishes (externalBody the93) m at stop s
           known-near f s q = external-near m at stop (at + 2 + n) known-name (ready .0 .1) name-near r known-behind f s q
 
       module _ (other : nameKind (take n (drop (at + 2) m)) ≡ 0) (b : Bool) (told : b ≡ identifierOk xs) where
-        pub other-bad : b ≡ false → Finishes (externalBody deepestLevel) m at stop (badContents + at)
+        pub other-bad : b ≡ false → Finishes (externalBody the93) m at stop (badContents + at)
         other-bad t = external-far m at stop (badContents + at) (name-bad m at stop n (ready .0 .0) (ready .0 .1) (counted .0) there xs b xs-is told t) (omega arith)
 
         module _ (t : b ≡ true) where
@@ -219,10 +219,10 @@ module _ (m : List ℕ) (at stop n : ℕ) (ready : Ready m at stop) where
             pub other-behind : Behind-name r
             other-behind = held-outside m (at + 2 + n) stop r (at + 2) 0 xs piece-is (sym other ∙ ap nameKind (sym xs-is)) refl e
 
-            pub other-far : Far r → Finishes (externalBody deepestLevel) m at stop r
+            pub other-far : Far r → Finishes (externalBody the93) m at stop r
             other-far f = external-held m at stop (at + 2 + n) other-name (ready .0 .1) name-near r other-behind f
 
-            pub other-near : Near r → (s : ℕ) → Finishes nothing m r stop s → Finishes (externalBody deepestLevel) m at stop s
+            pub other-near : Near r → (s : ℕ) → Finishes nothing m r stop s → Finishes (externalBody the93) m at stop s
             other-near f s q = external-near m at stop (at + 2 + n) other-name (ready .0 .1) name-near r other-behind f s q
 
 pub holds-within : (s u : Bool) (m : List ℕ) (at stop r : ℕ) → Holds s u m at stop r → Near r → r ≤ until stop
@@ -232,28 +232,28 @@ holds-within s u m at stop r e f = placed-near _ at (until stop) r (e (0, [])) f
 -- 28, and 6B around it
 
 module _ (m : List ℕ) (at stop inner : ℕ) (g : at ≤ until stop) (h : until stop ≤ length m) (entry : inner ≡ entryPlace true m at stop 40) where
-  pub wrapped-entry : Far inner → Reads (aroundItem 40 (externalBody deepestLevel)) m at stop inner
+  pub wrapped-entry : Far inner → Reads (aroundItem 40 (externalBody the93)) m at stop inner
   unfolding constructorOf
-  wrapped-entry f = around-entry 40 (omega arith, omega arith, omega arith) refl (externalBody deepestLevel) m at stop inner g h entry f
+  wrapped-entry f = around-entry 40 (omega arith, omega arith, omega arith) refl (externalBody the93) m at stop inner g h entry f
 
-  pub wrapped-near : length m ≤ 65535 → Near inner → (st : ℕ) → st ≡ at + 1 + lengthSize (getD m (at + 1) 0) → (r : ℕ) → Finishes (externalBody deepestLevel) m st inner r → Reads (aroundItem 40 (externalBody deepestLevel)) m at stop r
+  pub wrapped-near : length m ≤ 65535 → Near inner → (st : ℕ) → st ≡ at + 1 + lengthSize (getD m (at + 1) 0) → (r : ℕ) → Finishes (externalBody the93) m st inner r → Reads (aroundItem 40 (externalBody the93)) m at stop r
   unfolding constructorOf
-  wrapped-near top near st start r e = around-read 40 (omega arith, omega arith, omega arith) refl (externalBody deepestLevel) m at stop inner g h entry top near st start r e
+  wrapped-near top near st start r e = around-read 40 (omega arith, omega arith, omega arith) refl (externalBody the93) m at stop inner g h entry top near st start r e
 
 pub dialogue-keeps : Keeps inDialogue
 unfolding inDialogue faultPlace
 dialogue-keeps (fault k q o i t) = refl
 
 module _ (m : List ℕ) (at stop inner : ℕ) (g : at ≤ until stop) (h : until stop ≤ length m) (entry : inner ≡ entryPlace true m at stop 107) where
-  pub dialogue-entry : Far inner → Reads (dialogueItem deepestLevel) m at stop inner
+  pub dialogue-entry : Far inner → Reads (dialogueItem the93) m at stop inner
   unfolding constructorOf
-  dialogue-entry f = one-entry 107 (inside6B deepestLevel) (omega arith, omega arith, omega arith) refl dialogue-keeps refl (aroundItem 40 (externalBody deepestLevel)) m at stop inner g h entry f
+  dialogue-entry f = one-entry 107 (inside6B the93) (omega arith, omega arith, omega arith) refl dialogue-keeps refl (aroundItem 40 (externalBody the93)) m at stop inner g h entry f
 
-  module _ (top : length m ≤ 65535) (near : Near inner) (st : ℕ) (start : st ≡ at + 1 + lengthSize (getD m (at + 1) 0)) (r : ℕ) (e : Reads (aroundItem 40 (externalBody deepestLevel)) m st inner r) where
-    pub dialogue-far : Far r → Reads (dialogueItem deepestLevel) m at stop r
+  module _ (top : length m ≤ 65535) (near : Near inner) (st : ℕ) (start : st ≡ at + 1 + lengthSize (getD m (at + 1) 0)) (r : ℕ) (e : Reads (aroundItem 40 (externalBody the93)) m st inner r) where
+    pub dialogue-far : Far r → Reads (dialogueItem the93) m at stop r
     unfolding constructorOf
-    dialogue-far f = one-far 107 (inside6B deepestLevel) (omega arith, omega arith, omega arith) refl dialogue-keeps refl (aroundItem 40 (externalBody deepestLevel)) m at stop inner g h entry top near st start r e f
+    dialogue-far f = one-far 107 (inside6B the93) (omega arith, omega arith, omega arith) refl dialogue-keeps refl (aroundItem 40 (externalBody the93)) m at stop inner g h entry top near st start r e f
 
-    pub dialogue-near : Near r → (s : ℕ) → Finishes nothing m r inner s → Reads (dialogueItem deepestLevel) m at stop s
+    pub dialogue-near : Near r → (s : ℕ) → Finishes nothing m r inner s → Reads (dialogueItem the93) m at stop s
     unfolding constructorOf
-    dialogue-near f s q = one-near 107 (inside6B deepestLevel) (omega arith, omega arith, omega arith) refl dialogue-keeps refl (aroundItem 40 (externalBody deepestLevel)) m at stop inner g h entry top near st start r e f s q
+    dialogue-near f s q = one-near 107 (inside6B the93) (omega arith, omega arith, omega arith) refl dialogue-keeps refl (aroundItem 40 (externalBody the93)) m at stop inner g h entry top near st start r e f s q

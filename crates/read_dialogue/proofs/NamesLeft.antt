@@ -22,7 +22,7 @@ use Rattle.element.proofs.Asking.{Then, fact, void, then-next, then-blamed, ask
 use Rattle.element.proofs.Reading.{definite-size, indefinite-size}
 use Rattle.primitive.specs.Primitive.{identifierOk}
 use Rattle.tcap.specs.Meaning.{Dialogue, single, octets, structured, unstructured}
-use Rattle.tcap.specs.WellFormed.{deepestLevel}
+use Rattle.tcap.specs.WellFormed.{the93}
 use Rattle.tcap.specs.Productions.{nameItem, heldItem, externalBody, inside6B, dialogueItem}
 use Rattle.read_place.specs.Places.{Far, Near, until, finite, part, front, nothing, Reads, Finishes, endedOf, unfinishedOf, standsOf, entryPlace, lengthPlace, lengthSize, Ready, Walked, cutOff, missing, badContents}
 use Rattle.read_place.specs.Laying.{layText, laySpan, layName, layDialogue}
@@ -130,7 +130,7 @@ module _ (m : List ℕ) (at stop : ℕ) (h : until stop ≤ length m) (b : Bool)
 
   pub outside-left-far : b ≡ false → at ≤ until stop → (r : ℕ) → r ≡ entryPlace false m at stop 129 → Far r → Lays layElse false false m at stop old new
   unfolding Lays Holds
-  outside-left-far t g r e f = λ n. leaves-far layElse (heldItem deepestLevel n false false) m at stop r old new (outside-octets m at stop r h b is g t e n) f
+  outside-left-far t g r e f = λ n. leaves-far layElse (heldItem the93 n false false) m at stop r old new (outside-octets m at stop r h b is g t e n) f
 
 -- What stands behind another name is laid out as the dialogue is, with the name before it
 
@@ -149,18 +149,18 @@ both-left (bad f) old mid new q e = tt
 -- Behind a name, by its octets
 
 module _ (m : List ℕ) (at stop : ℕ) (n : Text) (old new : List ℕ) where
-  left-outside : (mid : List ℕ) → mid ≡ layName n old → Lays layElse false false m at stop mid new → Leaves layDialogue untold (heldItem deepestLevel n false false) m at stop old new
+  left-outside : (mid : List ℕ) → mid ≡ layName n old → Lays layElse false false m at stop mid new → Leaves layDialogue untold (heldItem the93 n false false) m at stop old new
   unfolding Lays
   left-outside mid z e =
-      both-left _ old mid new (rw z (ask-sound (λ a k. layDialogue a old ≡ layElse a (layName n old)) (front (level 1) FaultKind.Another (heldItem deepestLevel n false false)) (finite stop) at (part m at stop) (λ v e f. let z : _≡_ {A = ℕ} 0 1 = cc in absurd (omega arith)) (λ h i m. then-blamed (λ f. f) (else-named n old (eqb (firstOf h) 160) _ _)))) (e n)
+      both-left _ old mid new (rw z (ask-sound (λ a k. layDialogue a old ≡ layElse a (layName n old)) (front (level 1) FaultKind.Another (heldItem the93 n false false)) (finite stop) at (part m at stop) (λ v e f. let z : _≡_ {A = ℕ} 0 1 = cc in absurd (omega arith)) (λ h i m. then-blamed (λ f. f) (else-named n old (eqb (firstOf h) 160) _ _)))) (e n)
 
-  by-outside : (mid : List ℕ) → mid ≡ layName n old → (s u : Bool) → 0 ≡ kindOf s u → Lays layElse false false m at stop mid new → Leaves layDialogue untold (heldItem deepestLevel n s u) m at stop old new
+  by-outside : (mid : List ℕ) → mid ≡ layName n old → (s u : Bool) → 0 ≡ kindOf s u → Lays layElse false false m at stop mid new → Leaves layDialogue untold (heldItem the93 n s u) m at stop old new
   unfolding kindOf
   by-outside mid z true u e q = absurd (omega (arith, e))
   by-outside mid z false true e q = absurd (omega (arith, e))
   by-outside mid z false false e q = left-outside mid z q
 
-  by-known : (k : ℕ) (s u : Bool) → k ≡ kindOf s u → (k ≡ 0 → ⊥) → Leaves layDialogue untold (aroundItem 160 (onlyBody (level 12) (pduItem (eqb k 1)))) m at stop old new → Leaves layDialogue untold (heldItem deepestLevel n s u) m at stop old new
+  by-known : (k : ℕ) (s u : Bool) → k ≡ kindOf s u → (k ≡ 0 → ⊥) → Leaves layDialogue untold (aroundItem 160 (onlyBody (level 12) (pduItem (eqb k 1)))) m at stop old new → Leaves layDialogue untold (heldItem the93 n s u) m at stop old new
   unfolding kindOf pduItem
   by-known k true u e f q = rw e at q
   by-known k false true e f q = rw e at q
@@ -168,7 +168,7 @@ module _ (m : List ℕ) (at stop : ℕ) (n : Text) (old new : List ℕ) where
 
 module _ (m : List ℕ) (at stop name k : ℕ) (xs : List ℕ) (xs-is : xs ≡ take (at - name) (drop name m)) (told : k ≡ nameKind xs) (old new : List ℕ) where
   abbrev Leaves-behind : Type 0
-  Leaves-behind = Leaves layDialogue untold (heldItem deepestLevel (textAt m name at) (same structured (take (at - name) (drop name m))) (same unstructured (take (at - name) (drop name m)))) m at stop old new
+  Leaves-behind = Leaves layDialogue untold (heldItem the93 (textAt m name at) (same structured (take (at - name) (drop name m))) (same unstructured (take (at - name) (drop name m)))) m at stop old new
 
   pub held-outside-left : k ≡ 0 → at ≤ until stop → until stop ≤ length m → (mid : List ℕ) → mid ≡ layText 24 name (at - name) old → Lays layElse false false m at stop mid new → Leaves-behind
   held-outside-left z g h mid e q = by-outside m at stop (textAt m name at) old new mid (e ∙ span-laid m name at 24 (at - name) old (omega (arith, g, h)) refl) _ _ (sym z ∙ told ∙ ap nameKind xs-is) q
@@ -183,10 +183,10 @@ module _ (m : List ℕ) (at stop r : ℕ) (h : until stop ≤ length m) (e : Rea
   named = textAt m (at + 2) r
 
   abbrev held-by : Text → Item (Dialogue Text)
-  held-by n = heldItem deepestLevel n (same structured (n .1)) (same unstructured (n .1))
+  held-by n = heldItem the93 n (same structured (n .1)) (same unstructured (n .1))
 
   pub external-left : (s : ℕ) → Holds (same structured (take (r - (at + 2)) (drop (at + 2) m))) (same unstructured (take (r - (at + 2)) (drop (at + 2) m))) m r stop s → Near s → (old new : List ℕ)
-      → Leaves layDialogue untold (heldItem deepestLevel (textAt m (at + 2) r) (same structured (take (r - (at + 2)) (drop (at + 2) m))) (same unstructured (take (r - (at + 2)) (drop (at + 2) m)))) m r stop old new → LeavesAll layDialogue untold (externalBody deepestLevel) m at stop old new
+      → Leaves layDialogue untold (heldItem the93 (textAt m (at + 2) r) (same structured (take (r - (at + 2)) (drop (at + 2) m))) (same unstructured (take (r - (at + 2)) (drop (at + 2) m)))) m r stop old new → LeavesAll layDialogue untold (externalBody the93) m at stop old new
   unfolding Holds
   external-left s held found old new q =
       let behind : LeavesAll layDialogue untold (onlyBody (level 13) (held-by named)) m r stop old new =
@@ -200,16 +200,16 @@ module _ (m : List ℕ) (at stop r : ℕ) (h : until stop ≤ length m) (e : Rea
 
 module _ (m : List ℕ) (at stop n : ℕ) (ready : Ready m at stop) (counted : NameCounted m at stop n) (xs : List ℕ) (xs-is : xs ≡ take n (drop (at + 2) m)) (old new : List ℕ) where
   pub known-laid : (k : ℕ) → k ≡ nameKind xs → (k ≡ 0 → ⊥) → (r : ℕ) → Reads (aroundItem 160 (onlyBody (level 12) (pduItem (eqb k 1)))) m (at + 2 + n) stop r → Near r
-      → Leaves layDialogue untold (aroundItem 160 (onlyBody (level 12) (pduItem (eqb k 1)))) m (at + 2 + n) stop old new → LeavesAll layDialogue untold (externalBody deepestLevel) m at stop old new
+      → Leaves layDialogue untold (aroundItem 160 (onlyBody (level 12) (pduItem (eqb k 1)))) m (at + 2 + n) stop old new → LeavesAll layDialogue untold (externalBody the93) m at stop old new
   known-laid k told f r e near q =
       external-left m at stop (at + 2 + n) (ready .0 .1) (known-name m at stop n ready counted xs xs-is k told f) (name-near m at stop n ready counted) r (known-behind m at stop n ready counted xs xs-is k told f r e) near old new
       (held-known-left m (at + 2 + n) stop (at + 2) k xs (piece-is m at stop n ready counted xs xs-is) told old new f q)
 
-  pub other-bad-left : nameKind (take n (drop (at + 2) m)) ≡ 0 → (b : Bool) → b ≡ identifierOk xs → b ≡ false → LeavesAll layDialogue untold (externalBody deepestLevel) m at stop old new
-  other-bad-left other b told t = leaves-all-far layDialogue (externalBody deepestLevel) m at stop (badContents + at) old new (other-bad m at stop n ready counted xs xs-is other b told t) (omega arith)
+  pub other-bad-left : nameKind (take n (drop (at + 2) m)) ≡ 0 → (b : Bool) → b ≡ identifierOk xs → b ≡ false → LeavesAll layDialogue untold (externalBody the93) m at stop old new
+  other-bad-left other b told t = leaves-all-far layDialogue (externalBody the93) m at stop (badContents + at) old new (other-bad m at stop n ready counted xs xs-is other b told t) (omega arith)
 
   pub other-laid : nameKind (take n (drop (at + 2) m)) ≡ 0 → (b : Bool) → b ≡ identifierOk xs → b ≡ true → (r : ℕ) → Holds false false m (at + 2 + n) stop r → Near r → (mid : List ℕ) → mid ≡ layText 24 (at + 2) n old → Lays layElse false false m (at + 2 + n) stop mid new
-      → LeavesAll layDialogue untold (externalBody deepestLevel) m at stop old new
+      → LeavesAll layDialogue untold (externalBody the93) m at stop old new
   other-laid other b told t r e near mid z q =
       let size : at + 2 + n - (at + 2) ≡ n = omega arith in
       external-left m at stop (at + 2 + n) (ready .0 .1) (other-name m at stop n ready counted xs xs-is other b told t) (name-near m at stop n ready counted) r (other-behind m at stop n ready counted xs xs-is other b told t r e) near old new
@@ -218,13 +218,13 @@ module _ (m : List ℕ) (at stop n : ℕ) (ready : Ready m at stop) (counted : N
 -- 28, and 6B around it
 
 module _ (m : List ℕ) (at stop inner : ℕ) (g : at ≤ until stop) (h : until stop ≤ length m) (top : length m ≤ 65535) (near : Near inner) (st : ℕ) (start : st ≡ at + 1 + lengthSize (getD m (at + 1) 0)) (old new : List ℕ) where
-  pub wrapped-left : inner ≡ entryPlace true m at stop 40 → LeavesAll layDialogue untold (externalBody deepestLevel) m st inner old new → Leaves layDialogue untold (aroundItem 40 (externalBody deepestLevel)) m at stop old new
+  pub wrapped-left : inner ≡ entryPlace true m at stop 40 → LeavesAll layDialogue untold (externalBody the93) m st inner old new → Leaves layDialogue untold (aroundItem 40 (externalBody the93)) m at stop old new
   unfolding constructorOf
-  wrapped-left entry e = around-left untold (externalBody deepestLevel) m at stop 40 inner st g h top (omega arith, omega arith, omega arith) refl entry near start layDialogue old new e
+  wrapped-left entry e = around-left untold (externalBody the93) m at stop 40 inner st g h top (omega arith, omega arith, omega arith) refl entry near start layDialogue old new e
 
-  pub dialogue-left : inner ≡ entryPlace true m at stop 107 → (r : ℕ) → Reads (aroundItem 40 (externalBody deepestLevel)) m st inner r → Near r → Leaves layDialogue untold (aroundItem 40 (externalBody deepestLevel)) m st inner old new → Leaves layDialogue untold (dialogueItem deepestLevel) m at stop old new
+  pub dialogue-left : inner ≡ entryPlace true m at stop 107 → (r : ℕ) → Reads (aroundItem 40 (externalBody the93)) m st inner r → Near r → Leaves layDialogue untold (aroundItem 40 (externalBody the93)) m st inner old new → Leaves layDialogue untold (dialogueItem the93) m at stop old new
   unfolding constructorOf
-  dialogue-left entry r e found q = one-left 107 (inside6B deepestLevel) (omega arith, omega arith, omega arith) refl dialogue-keeps refl (aroundItem 40 (externalBody deepestLevel)) layDialogue m at stop inner g h entry top near st start r e found old new q
+  dialogue-left entry r e found q = one-left 107 (inside6B the93) (omega arith, omega arith, omega arith) refl dialogue-keeps refl (aroundItem 40 (externalBody the93)) layDialogue m at stop inner g h entry top near st start r e found old new q
 
 -- 6B where its tag stands
 

@@ -17,7 +17,7 @@ use Rattle.element.specs.Ask.{Got, got, bad, next, check, blamed, definite, ind
 use Rattle.element.specs.Parts.{Item, level, done, aroundItem, onlyBody}
 use Rattle.element.proofs.Reading.{definite-size}
 use Rattle.tcap.specs.Meaning.{Dialogue}
-use Rattle.tcap.specs.WellFormed.{deepestLevel}
+use Rattle.tcap.specs.WellFormed.{the93}
 use Rattle.tcap.specs.Productions.{externalBody, inside6B, dialogueItem}
 use Rattle.read_place.specs.Places.{Far, Near, until, finite, part, front, nothing, Placed, Reads, Finishes, Leads, standsOf, entryPlace, lengthPlace, lengthSize, wrongPlace, Ready, base, endedOf, unfinishedOf}
 use Rattle.read_place.specs.Laying.{layDialogue}
@@ -107,7 +107,7 @@ ownerOf EndRead.More = dialogue
 -- An element inside 6B, and what must not come behind it
 
 module _ {A : Type 0} (d : Bool) (p : ℕ) (part : List ℕ) where
-  owned-length : (x : Item A) (a s : ℕ) (l : LengthRead) → Belongs dialogue (askLength (front (inside6B deepestLevel) FaultKind.Another x) d p part a s l)
+  owned-length : (x : Item A) (a s : ℕ) (l : LengthRead) → Belongs dialogue (askLength (front (inside6B the93) FaultKind.Another x) d p part a s l)
   unfolding askLength
   owned-length x a s (LengthRead.Fault k) = unfold Belongs inDialogue in refl
   owned-length x a s (LengthRead.Definite k n) = inside-belongs (x .contents (head a (s + k) (definite n)) p part)
@@ -118,32 +118,32 @@ module _ {A : Type 0} (d : Bool) (p : ℕ) (part : List ℕ) where
   owned-check true k z e = e
   owned-check false k z e = unfold Belongs inDialogue in refl
 
-  owned-front : (x : Item A) (t : TagRead) → Belongs dialogue (byFront (front (inside6B deepestLevel) FaultKind.Another x) d p part EndRead.More t)
+  owned-front : (x : Item A) (t : TagRead) → Belongs dialogue (byFront (front (inside6B the93) FaultKind.Another x) d p part EndRead.More t)
   unfolding byFront
   owned-front x (TagRead.Fault k) = unfold Belongs inDialogue in refl
   owned-front x (TagRead.Tag a s) = owned-check (x .mine a) FaultKind.Another _ (owned-length x a s (lengthOf (drop s part) (constructorOf a)))
 
-  more-belongs : (x : Item A) → endOf d part ≡ EndRead.More → Belongs dialogue (ask (front (inside6B deepestLevel) FaultKind.Another x) d p part)
-  more-belongs x e = rw (ask-front (front (inside6B deepestLevel) FaultKind.Another x) d p part refl refl, e) (owned-front x (frontOf 1 part))
+  more-belongs : (x : Item A) → endOf d part ≡ EndRead.More → Belongs dialogue (ask (front (inside6B the93) FaultKind.Another x) d p part)
+  more-belongs x e = rw (ask-front (front (inside6B the93) FaultKind.Another x) d p part refl refl, e) (owned-front x (frontOf 1 part))
 
-  done-by : (a : A) (e : EndRead) (t : TagRead) → Belongs (ownerOf e) (byFront (done (inside6B deepestLevel) a) d p part e t)
+  done-by : (a : A) (e : EndRead) (t : TagRead) → Belongs (ownerOf e) (byFront (done (inside6B the93) a) d p part e t)
   unfolding byFront atEnd check ownerOf
   done-by a EndRead.Ended t = unfold Belongs in tt
   done-by a EndRead.Unfinished t = unfold Belongs in refl
   done-by a EndRead.More (TagRead.Fault k) = unfold Belongs inDialogue in refl
   done-by a EndRead.More (TagRead.Tag b s) = unfold Belongs inDialogue in refl
 
-  done-belongs : (a : A) → Belongs (ownerOf (endOf d part)) (ask (done (inside6B deepestLevel) a) d p part)
-  done-belongs a = rw (ask-front (done (inside6B deepestLevel) a) d p part refl refl) (done-by a (endOf d part) (frontOf 1 part))
+  done-belongs : (a : A) → Belongs (ownerOf (endOf d part)) (ask (done (inside6B the93) a) d p part)
+  done-belongs a = rw (ask-front (done (inside6B the93) a) d p part refl refl) (done-by a (endOf d part) (frontOf 1 part))
 
-  only-belongs : (x : Item A) (end r : ℕ) → Placed p end (ask (front (inside6B deepestLevel) FaultKind.Another x) d p part) r → Near end → Far r → Belongs (ownerOf (endOf d part)) (ask (onlyBody (inside6B deepestLevel) x) d p part)
+  only-belongs : (x : Item A) (end r : ℕ) → Placed p end (ask (front (inside6B the93) FaultKind.Another x) d p part) r → Near end → Far r → Belongs (ownerOf (endOf d part)) (ask (onlyBody (inside6B the93) x) d p part)
   unfolding ask askEnd atEnd Belongs ownerOf
   only-belongs x end r e b f = go (endOf d part) refl
     where
-      go : (z : EndRead) → endOf d part ≡ z → Belongs (ownerOf z) (ask (onlyBody (inside6B deepestLevel) x) d p part)
+      go : (z : EndRead) → endOf d part ≡ z → Belongs (ownerOf z) (ask (onlyBody (inside6B the93) x) d p part)
       go EndRead.Ended q = rw q
       go EndRead.Unfinished q = rw q
-      go EndRead.More q = rw (ask-only (inside6B deepestLevel) x d p part) (belongs-far _ _ p end r e dialogue b f (more-belongs x q))
+      go EndRead.More q = rw (ask-only (inside6B the93) x d p part) (belongs-far _ _ p end r e dialogue b f (more-belongs x q))
 
 -- 6B
 
@@ -168,13 +168,13 @@ says-mark l EndRead.Unfinished long = says-portion l long
 says-mark l EndRead.More long = says-dialogue l long
 
 abbrev external : Item (Dialogue Text)
-external = aroundItem 40 (externalBody deepestLevel)
+external = aroundItem 40 (externalBody the93)
 
 abbrev contents : Body (Dialogue Text)
-contents = onlyBody (inside6B deepestLevel) external
+contents = onlyBody (inside6B the93) external
 
 abbrev Told : List ℕ → ℕ → ℕ → List ℕ → List ℕ → Type 0
-Told m at stop old new = Leaves layDialogue Blames (dialogueItem deepestLevel) m at stop old new
+Told m at stop old new = Leaves layDialogue Blames (dialogueItem the93) m at stop old new
 
 module _ (m : List ℕ) (at stop : ℕ) (ready : Ready m at stop) (there : standsOf m at stop 107 ≡ true) (inner : ℕ) (is : inner ≡ lengthPlace at (at + 1) (until stop) (lengthOf (part m (at + 1) stop) true)) (old : List ℕ) where
   g : at ≤ until stop
@@ -195,14 +195,14 @@ module _ (m : List ℕ) (at stop : ℕ) (ready : Ready m at stop) (there : stand
       told-far layDialogue portion _ old (set old 0 0) (entry-belongs 107 (omega arith, omega arith, omega arith) refl contents m at stop inner g h entry f) (says-portion old long) at (until stop) inner (dialogue-entry m at stop inner g h entry f) (omega arith) f
 
   module _ (near : Near inner) (st : ℕ) (start : st ≡ at + 1 + lengthSize (getD m (at + 1) 0)) (r : ℕ) (e : Reads external m st inner r) (mid : List ℕ) where
-    within : (w : Owner) → Belongs w (ask contents (finite inner) st (part m st inner)) → Belongs w (ask (front (level 1) FaultKind.Another (dialogueItem deepestLevel)) (finite stop) at (part m at stop))
+    within : (w : Owner) → Belongs w (ask contents (finite inner) st (part m st inner)) → Belongs w (ask (front (level 1) FaultKind.Another (dialogueItem the93)) (finite stop) at (part m at stop))
     unfolding constructorOf
     within w e = let (size, is) = around-ask contents m at stop 107 inner st g h top (omega arith, omega arith, omega arith) refl entry near start in rw is (rest-belongs w (λ v. v) size _ e)
 
-    here : Placed st (until inner) (ask (front (inside6B deepestLevel) FaultKind.Another external) (finite inner) st (part m st inner)) r
-    here = placed-where external FaultKind.Another (inside6B deepestLevel) dialogue-keeps (finite inner) st (part m st inner) (until inner) r refl e
+    here : Placed st (until inner) (ask (front (inside6B the93) FaultKind.Another external) (finite inner) st (part m st inner)) r
+    here = placed-where external FaultKind.Another (inside6B the93) dialogue-keeps (finite inner) st (part m st inner) (until inner) r refl e
 
-    marked : (z : EndRead) (s b : ℕ) → Reads (dialogueItem deepestLevel) m at stop s → Far s → b ≡ ownerMark z → length mid ≡ 428 → Belongs (ownerOf z) (ask (front (level 1) FaultKind.Another (dialogueItem deepestLevel)) (finite stop) at (part m at stop)) → Told m at stop old (set mid 0 b)
+    marked : (z : EndRead) (s b : ℕ) → Reads (dialogueItem the93) m at stop s → Far s → b ≡ ownerMark z → length mid ≡ 428 → Belongs (ownerOf z) (ask (front (level 1) FaultKind.Another (dialogueItem the93)) (finite stop) at (part m at stop)) → Told m at stop old (set mid 0 b)
     marked z s b q f is long mine = rw is (told-far layDialogue (ownerOf z) _ old (set mid 0 (ownerMark z)) mine (says-mark mid z long) at (until stop) s q (omega arith) f)
 
     pub inside-told : Far r → (b : ℕ) → b ≡ ownerMark (endOf (finite inner) (part m st inner)) → length mid ≡ 428 → Told m at stop old (set mid 0 b)
@@ -210,10 +210,10 @@ module _ (m : List ℕ) (at stop : ℕ) (ready : Ready m at stop) (there : stand
         marked (endOf (finite inner) (part m st inner)) r b (dialogue-far m at stop inner g h entry top near st start r e f) f is long (within _ (only-belongs (finite inner) st (part m st inner) external (until inner) r here (omega arith) f))
 
     module _ (found : Near r) (s : ℕ) (y : Finishes nothing m r inner s) where
-      behind-belongs : (w : Owner) → ((a : Dialogue Text) → Belongs w (ask (done (inside6B deepestLevel) a) (finite inner) r (part m r inner))) → Belongs w (ask contents (finite inner) st (part m st inner))
+      behind-belongs : (w : Owner) → ((a : Dialogue Text) → Belongs w (ask (done (inside6B the93) a) (finite inner) r (part m r inner))) → Belongs w (ask contents (finite inner) st (part m st inner))
       behind-belongs w q =
-          rw (ask-only (inside6B deepestLevel) external (finite inner) st (part m st inner)) (belongs-near _ _ st (until inner) r here w found (λ a n z.
-          rw (span-drop m st (until inner) n) (rest-belongs w (λ b. a) (λ k. n + k) (ask (done (inside6B deepestLevel) a) (finite inner) (st + n) (part m (st + n) inner)) (rw z at (q a)))))
+          rw (ask-only (inside6B the93) external (finite inner) st (part m st inner)) (belongs-near _ _ st (until inner) r here w found (λ a n z.
+          rw (span-drop m st (until inner) n) (rest-belongs w (λ b. a) (λ k. n + k) (ask (done (inside6B the93) a) (finite inner) (st + n) (part m (st + n) inner)) (rw z at (q a)))))
 
       pub behind-told : Far s → (b : ℕ) → b ≡ ownerMark (endOf (finite inner) (part m r inner)) → length mid ≡ 428 → Told m at stop old (set mid 0 b)
       behind-told f b is long = marked (endOf (finite inner) (part m r inner)) s b (dialogue-near m at stop inner g h entry top near st start r e found s y) f is long (within _ (behind-belongs _ (done-belongs (finite inner) r (part m r inner))))

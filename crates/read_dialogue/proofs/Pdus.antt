@@ -19,7 +19,7 @@ use Rattle.element.specs.Ask.{Body, ask}
 use Rattle.element.specs.Parts.{Item, level, aroundItem, mapItem, thenBody, onlyBody, optBody}
 use Rattle.tcap.specs.declared.Diagnostic.{Diagnostic}
 use Rattle.tcap.specs.Meaning.{version, request, unidialogue, response, aborted}
-use Rattle.tcap.specs.WellFormed.{deepestLevel}
+use Rattle.tcap.specs.WellFormed.{the93}
 use Rattle.tcap.specs.Productions.{octetItem, nameItem, versionBody, contextItem, infoBody, numberItem, sourceItem, askedItem, answeredItem, abortedItem}
 use Rattle.read_place.specs.Places.{Far, Near, until, finite, part, front, Placed, nothing, Reads, Finishes, Leads, standsOf, entryPlace, badPlace, countOf, lengthSize, badContents}
 use Rattle.read_place.proofs.Answers.{Keeps}
@@ -145,45 +145,45 @@ module _ {A B : Type 0} (tag : ℕ) (x : Item A) (only : (a : ℕ) → x .mine a
 
 module _ {B : Type 0} (y : Body B) (m : List ℕ) (at stop r : ℕ) (g : at ≤ until stop) (h : until stop ≤ length m) (e : Passes 128 versionItem m at stop r) where
   abbrev behind-it : Body (Text × B)
-  behind-it = thenBody (level 11) (contextItem deepestLevel) y
+  behind-it = thenBody (level 11) (contextItem the93) y
 
   past : (s : ℕ) → Near r → Finishes behind-it m r stop s → Finishes (versionBody behind-it) m at stop s
   past s f q = map-closed (λ v. v .1) (optBody versionItem behind-it) m at stop s (pass-near 128 versionItem (λ a. refl) behind-it refl refl refl (λ f. refl) (omega arith, omega arith, omega arith) m at stop g h r e f s q)
 
-  pub named-version : length m ≤ 65535 → Far r → Finishes (versionBody (thenBody (level 11) (contextItem deepestLevel) y)) m at stop r
+  pub named-version : length m ≤ 65535 → Far r → Finishes (versionBody (thenBody (level 11) (contextItem the93) y)) m at stop r
   named-version top f = map-closed (λ v. v .1) (optBody versionItem behind-it) m at stop r (pass-far 128 versionItem (λ a. refl) behind-it refl refl refl (λ f. refl) (omega arith, omega arith, omega arith) m at stop g h r e top f)
 
-  module _ (near : Near r) (s : ℕ) (c : Reads (contextItem deepestLevel) m r stop s) where
-    context-lifted : Placed r (until stop) (ask (front (level 11) FaultKind.Another (contextItem deepestLevel)) (finite stop) r (part m r stop)) s
-    context-lifted = placed-where (contextItem deepestLevel) FaultKind.Another (level 11) (λ f. refl) (finite stop) r (part m r stop) (until stop) s refl c
+  module _ (near : Near r) (s : ℕ) (c : Reads (contextItem the93) m r stop s) where
+    context-lifted : Placed r (until stop) (ask (front (level 11) FaultKind.Another (contextItem the93)) (finite stop) r (part m r stop)) s
+    context-lifted = placed-where (contextItem the93) FaultKind.Another (level 11) (λ f. refl) (finite stop) r (part m r stop) (until stop) s refl c
 
-    pub named-context : Far s → Finishes (versionBody (thenBody (level 11) (contextItem deepestLevel) y)) m at stop s
-    named-context f = past s near (then-far (level 11) (contextItem deepestLevel) m r stop s context-lifted y f)
+    pub named-context : Far s → Finishes (versionBody (thenBody (level 11) (contextItem the93) y)) m at stop s
+    named-context f = past s near (then-far (level 11) (contextItem the93) m r stop s context-lifted y f)
 
-    pub named-near : Near s → (q : ℕ) → Finishes y m s stop q → Finishes (versionBody (thenBody (level 11) (contextItem deepestLevel) y)) m at stop q
-    named-near f q z = past q near (then-near (level 11) (contextItem deepestLevel) m r stop s context-lifted y q f z)
+    pub named-near : Near s → (q : ℕ) → Finishes y m s stop q → Finishes (versionBody (thenBody (level 11) (contextItem the93) y)) m at stop q
+    named-near f q z = past q near (then-near (level 11) (contextItem the93) m r stop s context-lifted y q f z)
 
 -- What stands behind the context of a response
 
 module _ (m : List ℕ) (at stop r : ℕ) (e : Reads (numberIn 162 1) m at stop r) where
-  result-lifted : Placed at (until stop) (ask (front (level 11) FaultKind.Another (numberItem deepestLevel 162 7 1)) (finite stop) at (part m at stop)) r
-  result-lifted = placed-where (numberItem deepestLevel 162 7 1) FaultKind.Another (level 11) (λ f. refl) (finite stop) at (part m at stop) (until stop) r refl (at-level 10 refl (octetItem 2 1) 162 m at stop r e)
+  result-lifted : Placed at (until stop) (ask (front (level 11) FaultKind.Another (numberItem the93 162 7 1)) (finite stop) at (part m at stop)) r
+  result-lifted = placed-where (numberItem the93 162 7 1) FaultKind.Another (level 11) (λ f. refl) (finite stop) at (part m at stop) (until stop) r refl (at-level 10 refl (octetItem 2 1) 162 m at stop r e)
 
   abbrev then-source : Body (Diagnostic × Option Text)
-  then-source = thenBody (level 11) (sourceItem deepestLevel) (infoBody deepestLevel)
+  then-source = thenBody (level 11) (sourceItem the93) (infoBody the93)
 
   pub accepted-result : Far r → Finishes acceptedBody m at stop r
-  accepted-result f = then-far (level 11) (numberItem deepestLevel 162 7 1) m at stop r result-lifted then-source f
+  accepted-result f = then-far (level 11) (numberItem the93 162 7 1) m at stop r result-lifted then-source f
 
-  module _ (near : Near r) (s : ℕ) (d : Reads (sourceItem deepestLevel) m r stop s) where
-    source-lifted : Placed r (until stop) (ask (front (level 11) FaultKind.Another (sourceItem deepestLevel)) (finite stop) r (part m r stop)) s
-    source-lifted = placed-where (sourceItem deepestLevel) FaultKind.Another (level 11) (λ f. refl) (finite stop) r (part m r stop) (until stop) s refl d
+  module _ (near : Near r) (s : ℕ) (d : Reads (sourceItem the93) m r stop s) where
+    source-lifted : Placed r (until stop) (ask (front (level 11) FaultKind.Another (sourceItem the93)) (finite stop) r (part m r stop)) s
+    source-lifted = placed-where (sourceItem the93) FaultKind.Another (level 11) (λ f. refl) (finite stop) r (part m r stop) (until stop) s refl d
 
     pub accepted-source : Far s → Finishes acceptedBody m at stop s
-    accepted-source f = then-near (level 11) (numberItem deepestLevel 162 7 1) m at stop r result-lifted then-source s near (then-far (level 11) (sourceItem deepestLevel) m r stop s source-lifted (infoBody deepestLevel) f)
+    accepted-source f = then-near (level 11) (numberItem the93 162 7 1) m at stop r result-lifted then-source s near (then-far (level 11) (sourceItem the93) m r stop s source-lifted (infoBody the93) f)
 
-    pub accepted-near : Near s → (q : ℕ) → Finishes (infoBody deepestLevel) m s stop q → Finishes acceptedBody m at stop q
-    accepted-near f q z = then-near (level 11) (numberItem deepestLevel 162 7 1) m at stop r result-lifted then-source q near (then-near (level 11) (sourceItem deepestLevel) m r stop s source-lifted (infoBody deepestLevel) q f z)
+    pub accepted-near : Near s → (q : ℕ) → Finishes (infoBody the93) m s stop q → Finishes acceptedBody m at stop q
+    accepted-near f q z = then-near (level 11) (numberItem the93 162 7 1) m at stop r result-lifted then-source q near (then-near (level 11) (sourceItem the93) m r stop s source-lifted (infoBody the93) q f z)
 
 -- An abort
 
@@ -192,53 +192,53 @@ module _ (m : List ℕ) (at stop r : ℕ) (e : Reads (octetItem 128 1) m at stop
   abort-lifted = placed-where (octetItem 128 1) FaultKind.Another (level 11) (λ f. refl) (finite stop) at (part m at stop) (until stop) r refl e
 
   pub aborted-far : Far r → Finishes abortedBody m at stop r
-  aborted-far f = then-far (level 11) (octetItem 128 1) m at stop r abort-lifted (infoBody deepestLevel) f
+  aborted-far f = then-far (level 11) (octetItem 128 1) m at stop r abort-lifted (infoBody the93) f
 
-  pub aborted-near : Near r → (s : ℕ) → Finishes (infoBody deepestLevel) m r stop s → Finishes abortedBody m at stop s
-  aborted-near f s q = then-near (level 11) (octetItem 128 1) m at stop r abort-lifted (infoBody deepestLevel) s f q
+  pub aborted-near : Near r → (s : ℕ) → Finishes (infoBody the93) m r stop s → Finishes abortedBody m at stop s
+  aborted-near f s q = then-near (level 11) (octetItem 128 1) m at stop r abort-lifted (infoBody the93) s f q
 
 -- A diagnostic
 
 module _ (m : List ℕ) (at stop r : ℕ) (h : until stop ≤ length m) (b : Bool) (is : b ≡ standsOf m at stop 161) where
   abbrev by-user : Item Diagnostic
-  by-user = mapItem Diagnostic.ByUser (numberItem deepestLevel 161 8 2)
+  by-user = mapItem Diagnostic.ByUser (numberItem the93 161 8 2)
 
   abbrev by-provider : Item Diagnostic
-  by-provider = mapItem Diagnostic.ByProvider (numberItem deepestLevel 162 8 2)
+  by-provider = mapItem Diagnostic.ByProvider (numberItem the93 162 8 2)
 
   pub diagnostic-user : b ≡ true → Reads (numberIn 161 2) m at stop r → Reads diagnosticItem m at stop r
-  diagnostic-user t e = first-of by-user by-provider m at stop r (λ a s z. ap (λ (q : ℕ). eqb q 162) (stands-only m at stop 161 h (sym is ∙ t) a s z)) (reads-map Diagnostic.ByUser (numberItem deepestLevel 161 8 2) m at stop r (at-level 9 refl (octetItem 2 2) 161 m at stop r e))
+  diagnostic-user t e = first-of by-user by-provider m at stop r (λ a s z. ap (λ (q : ℕ). eqb q 162) (stands-only m at stop 161 h (sym is ∙ t) a s z)) (reads-map Diagnostic.ByUser (numberItem the93 161 8 2) m at stop r (at-level 9 refl (octetItem 2 2) 161 m at stop r e))
 
   pub diagnostic-provider : b ≡ false → Reads (numberIn 162 2) m at stop r → Reads diagnosticItem m at stop r
-  diagnostic-provider t e = second-of by-user by-provider m at stop r (λ a s z. stands-other m at stop 161 h (sym is ∙ t) a s z) (reads-map Diagnostic.ByProvider (numberItem deepestLevel 162 8 2) m at stop r (at-level 9 refl (octetItem 2 2) 162 m at stop r e))
+  diagnostic-provider t e = second-of by-user by-provider m at stop r (λ a s z. stands-other m at stop 161 h (sym is ∙ t) a s z) (reads-map Diagnostic.ByProvider (numberItem the93 162 8 2) m at stop r (at-level 9 refl (octetItem 2 2) 162 m at stop r e))
 
 -- Constructors around one element
 
 module _ (m : List ℕ) (at stop inner : ℕ) (g : at ≤ until stop) (h : until stop ≤ length m) (entry : inner ≡ entryPlace true m at stop 161) where
-  pub context-entry : Far inner → Reads (contextItem deepestLevel) m at stop inner
+  pub context-entry : Far inner → Reads (contextItem the93) m at stop inner
   unfolding constructorOf
   context-entry f = one-entry 161 (level 10) (omega arith, omega arith, omega arith) refl (λ f. refl) refl nameItem m at stop inner g h entry f
 
   module _ (top : length m ≤ 65535) (near : Near inner) (st : ℕ) (start : st ≡ at + 1 + lengthSize (getD m (at + 1) 0)) (r : ℕ) (e : Reads nameItem m st inner r) where
-    pub context-far : Far r → Reads (contextItem deepestLevel) m at stop r
+    pub context-far : Far r → Reads (contextItem the93) m at stop r
     unfolding constructorOf
     context-far f = one-far 161 (level 10) (omega arith, omega arith, omega arith) refl (λ f. refl) refl nameItem m at stop inner g h entry top near st start r e f
 
-    pub context-near : Near r → (s : ℕ) → Finishes nothing m r inner s → Reads (contextItem deepestLevel) m at stop s
+    pub context-near : Near r → (s : ℕ) → Finishes nothing m r inner s → Reads (contextItem the93) m at stop s
     unfolding constructorOf
     context-near f s q = one-near 161 (level 10) (omega arith, omega arith, omega arith) refl (λ f. refl) refl nameItem m at stop inner g h entry top near st start r e f s q
 
 module _ (m : List ℕ) (at stop inner : ℕ) (g : at ≤ until stop) (h : until stop ≤ length m) (entry : inner ≡ entryPlace true m at stop 163) where
-  pub source-entry : Far inner → Reads (sourceItem deepestLevel) m at stop inner
+  pub source-entry : Far inner → Reads (sourceItem the93) m at stop inner
   unfolding constructorOf
   source-entry f = one-entry 163 (level 10) (omega arith, omega arith, omega arith) refl (λ f. refl) refl diagnosticItem m at stop inner g h entry f
 
   module _ (top : length m ≤ 65535) (near : Near inner) (st : ℕ) (start : st ≡ at + 1 + lengthSize (getD m (at + 1) 0)) (r : ℕ) (e : Reads diagnosticItem m st inner r) where
-    pub source-far : Far r → Reads (sourceItem deepestLevel) m at stop r
+    pub source-far : Far r → Reads (sourceItem the93) m at stop r
     unfolding constructorOf
     source-far f = one-far 163 (level 10) (omega arith, omega arith, omega arith) refl (λ f. refl) refl diagnosticItem m at stop inner g h entry top near st start r e f
 
-    pub source-near : Near r → (s : ℕ) → Finishes nothing m r inner s → Reads (sourceItem deepestLevel) m at stop s
+    pub source-near : Near r → (s : ℕ) → Finishes nothing m r inner s → Reads (sourceItem the93) m at stop s
     unfolding constructorOf
     source-near f s q = one-near 163 (level 10) (omega arith, omega arith, omega arith) refl (λ f. refl) refl diagnosticItem m at stop inner g h entry top near st start r e f s q
 
@@ -312,20 +312,20 @@ module _ (m : List ℕ) (at stop r : ℕ) where
     pub pdu-response : b ≡ true → Reads (aroundItem 97 answeredBody) m at stop r → Reads (pduItem s) m at stop r
     unfolding pduItem
     pdu-response u e =
-        rw t (second-of (askedItem deepestLevel request) _ m at stop r (λ a n z. ap (λ (q : ℕ). eqb q 96) (stands-only m at stop 97 h (sym is ∙ u) a n z))
-        (first-of (answeredItem deepestLevel) (abortedItem deepestLevel) m at stop r (λ a n z. ap (λ (q : ℕ). eqb q 100) (stands-only m at stop 97 h (sym is ∙ u) a n z))
+        rw t (second-of (askedItem the93 request) _ m at stop r (λ a n z. ap (λ (q : ℕ). eqb q 96) (stands-only m at stop 97 h (sym is ∙ u) a n z))
+        (first-of (answeredItem the93) (abortedItem the93) m at stop r (λ a n z. ap (λ (q : ℕ). eqb q 100) (stands-only m at stop 97 h (sym is ∙ u) a n z))
         (around-named (λ v. response (v .0) (v .1 .0) (v .1 .1 .0) (v .1 .1 .1)) answeredBody 97 m at stop r e)))
 
     module _ (no : b ≡ false) (c : Bool) (also : c ≡ standsOf m at stop 100) where
       pub pdu-abort : c ≡ true → Reads (aroundItem 100 abortedBody) m at stop r → Reads (pduItem s) m at stop r
       unfolding pduItem
       pdu-abort u e =
-          rw t (second-of (askedItem deepestLevel request) _ m at stop r (λ a n z. ap (λ (q : ℕ). eqb q 96) (stands-only m at stop 100 h (sym also ∙ u) a n z))
-          (second-of (answeredItem deepestLevel) (abortedItem deepestLevel) m at stop r (λ a n z. ap (λ (q : ℕ). eqb q 97) (stands-only m at stop 100 h (sym also ∙ u) a n z))
+          rw t (second-of (askedItem the93 request) _ m at stop r (λ a n z. ap (λ (q : ℕ). eqb q 96) (stands-only m at stop 100 h (sym also ∙ u) a n z))
+          (second-of (answeredItem the93) (abortedItem the93) m at stop r (λ a n z. ap (λ (q : ℕ). eqb q 97) (stands-only m at stop 100 h (sym also ∙ u) a n z))
           (around-named (λ v. aborted (v .0) (v .1)) abortedBody 100 m at stop r e)))
 
       pub pdu-request : c ≡ false → Reads (aroundItem 96 askedBody) m at stop r → Reads (pduItem s) m at stop r
       unfolding pduItem
       pdu-request u e =
-          rw t (first-of (askedItem deepestLevel request) _ m at stop r (λ a n z. rw (stands-other m at stop 97 h (sym is ∙ no) a n z, stands-other m at stop 100 h (sym also ∙ u) a n z))
+          rw t (first-of (askedItem the93 request) _ m at stop r (λ a n z. rw (stands-other m at stop 97 h (sym is ∙ no) a n z, stands-other m at stop 100 h (sym also ∙ u) a n z))
           (around-named (λ v. request (v .0) (v .1)) askedBody 96 m at stop r e))

@@ -22,7 +22,7 @@ use Rattle.element.proofs.Asking.{Then, fact, void, then-next, then-blamed}
 use Rattle.element.proofs.Reading.{definite-size, indefinite-size}
 use Rattle.primitive.specs.Primitive.{identifierOk}
 use Rattle.tcap.specs.Meaning.{single, octets}
-use Rattle.tcap.specs.WellFormed.{deepestLevel}
+use Rattle.tcap.specs.WellFormed.{the93}
 use Rattle.tcap.specs.Productions.{single?, octetItem, nameItem, contextItem, infoBody, heldItem}
 use Rattle.read_place.specs.Places.{Near, until, finite, part, Placed, Closing, Shut, Reads, Finishes, Leads, endedOf, entryPlace, lengthPlace, lengthSize, opening}
 use Rattle.read_place.proofs.Views.{span-length, span-drop, span-get, span-take, span-cut}
@@ -107,11 +107,11 @@ module _ {A : Type 0} (tag : ℕ) (leads : Leads tag) (kind : constructorOf tag 
 -- User information
 
 module _ (m : List ℕ) (at stop : ℕ) (g : at ≤ until stop) (h : until stop ≤ length m) (b : Bool) (is : b ≡ endedOf (endOf (finite stop) (part m at stop))) where
-  pub info-has-none : b ≡ true → Has (infoBody deepestLevel) m at stop none
+  pub info-has-none : b ≡ true → Has (infoBody the93) m at stop none
   info-has-none t = none-has (level 11) (keptItem 190 externalsBody) m at stop (ended-is (endOf (finite stop) (part m at stop)) b is t)
 
   pub info-has-some : b ≡ false → (inner : ℕ) → inner ≡ entryPlace true m at stop 190 → length m ≤ 65535 → Near inner → (st : ℕ) → st ≡ at + 1 + lengthSize (getD m (at + 1) 0) → (r : ℕ) → Near r → Finishes (externalsBody (length (part m st inner))) m st inner r
-      → Has (infoBody deepestLevel) m at stop (some (textAt m st (contentsEnd inner r)))
+      → Has (infoBody the93) m at stop (some (textAt m st (contentsEnd inner r)))
   unfolding constructorOf
   info-has-some left inner entry top near st start r found e =
       last-has (keptItem 190 externalsBody) m at stop (textAt m st (contentsEnd inner r)) (kept-gives 190 (omega arith, omega arith, omega arith) refl externalsBody m at stop inner g h entry top near st start r found e) r
@@ -125,7 +125,7 @@ module _ {A : Type 0} (tag : ℕ) (w : Where) (leads : Leads tag) (kind : constr
   one-gives keeps = around-gives tag leads kind (onlyBody w x) m at stop inner g h entry top near st start v (only-has x m st inner v given r e found w keeps deep)
 
 module _ (m : List ℕ) (at stop inner : ℕ) (g : at ≤ until stop) (h : until stop ≤ length m) (top : length m ≤ 65535) (near : Near inner) (st : ℕ) (start : st ≡ at + 1 + lengthSize (getD m (at + 1) 0)) (inside-it : until inner ≤ length m) (r : ℕ) (found : Near r) where
-  pub context-gives : inner ≡ entryPlace true m at stop 161 → Reads nameItem m st inner r → Gives (contextItem deepestLevel) m at stop (textAt m (st + 2) r)
+  pub context-gives : inner ≡ entryPlace true m at stop 161 → Reads nameItem m st inner r → Gives (contextItem the93) m at stop (textAt m (st + 2) r)
   unfolding constructorOf
   context-gives entry e = one-gives 161 (level 10) (omega arith, omega arith, omega arith) refl refl nameItem m at stop inner g h entry top near st start r e found (textAt m (st + 2) r) (name-gives m st inner r inside-it found e) (λ f. refl)
 
@@ -150,7 +150,7 @@ module _ (m : List ℕ) (at stop r : ℕ) (g : at ≤ until stop) (h : until sto
       (fact (ap₂ (λ (x : ℕ) (y : List ℕ). (x, y)) (sym from) (span-take m at (until stop) (1 + k) n (omega (arith, room)) h ∙ rw (← from, count)))))
   any-by i LengthRead.Indefinite e = absurd (false≢true (indefinite-size (part m (at + 1) stop) false LengthRead.Indefinite (sym (i .len-is ∙ e)) refl .1))
 
-  pub octets-gives : (n : Text) → Gives (heldItem deepestLevel n false false) m at stop (octets n (textAt m st r))
+  pub octets-gives : (n : Text) → Gives (heldItem the93 n false false) m at stop (octets n (textAt m st r))
   octets-gives n =
       let i = entered false m at stop 129 r g h entry near in
       gives-second (mapItem (octets n) (leafItem 129 (λ c. true))) m at stop (octets n (textAt m st r)) (gives-map (leafItem 129 (λ c. true)) m at stop (textAt m st r) (any-by i (i .len) refl) (octets n))

@@ -5,14 +5,14 @@ use mathlib.Core.{Path._≡_, Bool.Bool, Bool.true, Bool.false, Bool.cond, List.
 use lib.{ListN.getD, ListN.take, ListN.drop, ListN.set}
 use Rattle.base.specs.Value.{same}
 use Rattle.element.specs.{declared.FaultKind.FaultKind, declared.EndRead.EndRead, Fault.Text, Ask.Body, Parts.Item, Parts.level, Parts.leafItem, Parts.aroundItem, Parts.mapItem, Parts.orItem, Parts.thenBody, Parts.onlyBody, Parts.seriesBody, Walk.walkTagItem}
-use Rattle.tcap.specs.{declared.Diagnostic.Diagnostic, Meaning.Dialogue, Meaning.request, Meaning.unidialogue, Meaning.response, Meaning.aborted, Meaning.single, Meaning.octets, Meaning.version, WellFormed.deepestLevel, Productions.octetItem, Productions.levelAt, Productions.versionBody, Productions.contextItem, Productions.infoBody, Productions.numberItem, Productions.sourceItem, Productions.askedItem, Productions.answeredItem, Productions.abortedItem, Productions.heldItem}
+use Rattle.tcap.specs.{declared.Diagnostic.Diagnostic, Meaning.Dialogue, Meaning.request, Meaning.unidialogue, Meaning.response, Meaning.aborted, Meaning.single, Meaning.octets, Meaning.version, WellFormed.the93, Productions.octetItem, Productions.levelAt, Productions.versionBody, Productions.contextItem, Productions.infoBody, Productions.numberItem, Productions.sourceItem, Productions.askedItem, Productions.answeredItem, Productions.abortedItem, Productions.heldItem}
 use Rattle.read_place.specs.Places.{until, finite, countOf, standsOf, Reads}
 use Rattle.read_place.specs.Laying.{laySpan, layName, layInfo, layDiagnostic}
 use Rattle.read_place.specs.Leaves.{Leaves, untold}
 
 -- the elements in BE, of which n may come: as many as there are octets
 abbrev pub externalsBody : ℕ → Body (List Text)
-externalsBody n = seriesBody (λ k. levelAt deepestLevel 7) FaultKind.Another (walkTagItem 0x28 10) (some []) n 0
+externalsBody n = seriesBody (λ k. levelAt the93 7) FaultKind.Another (walkTagItem 0x28 10) (some []) n 0
 
 abbrev pub versionItem : Item Text
 versionItem = leafItem 0x80 (same version)
@@ -30,25 +30,25 @@ abbrev pub numberIn : ℕ → ℕ → Item ℕ
 numberIn tag most = aroundItem tag (onlyBody (level 1) (octetItem 0x02 most))
 
 abbrev pub diagnosticItem : Item Diagnostic
-diagnosticItem = orItem (mapItem Diagnostic.ByUser (numberItem deepestLevel 0xA1 8 2)) (mapItem Diagnostic.ByProvider (numberItem deepestLevel 0xA2 8 2))
+diagnosticItem = orItem (mapItem Diagnostic.ByUser (numberItem the93 0xA1 8 2)) (mapItem Diagnostic.ByProvider (numberItem the93 0xA2 8 2))
 
 -- the contents of 60, 61 and 64
 abbrev pub askedBody : Body (Text × Option Text)
-askedBody = versionBody (thenBody (levelAt deepestLevel 6) (contextItem deepestLevel) (infoBody deepestLevel))
+askedBody = versionBody (thenBody (levelAt the93 6) (contextItem the93) (infoBody the93))
 
 abbrev pub acceptedBody : Body (ℕ × (Diagnostic × Option Text))
-acceptedBody = thenBody (levelAt deepestLevel 6) (numberItem deepestLevel 0xA2 7 1) (thenBody (levelAt deepestLevel 6) (sourceItem deepestLevel) (infoBody deepestLevel))
+acceptedBody = thenBody (levelAt the93 6) (numberItem the93 0xA2 7 1) (thenBody (levelAt the93 6) (sourceItem the93) (infoBody the93))
 
 abbrev pub answeredBody : Body (Text × (ℕ × (Diagnostic × Option Text)))
-answeredBody = versionBody (thenBody (levelAt deepestLevel 6) (contextItem deepestLevel) acceptedBody)
+answeredBody = versionBody (thenBody (levelAt the93 6) (contextItem the93) acceptedBody)
 
 abbrev pub abortedBody : Body (ℕ × Option Text)
-abortedBody = thenBody (levelAt deepestLevel 6) (octetItem 0x80 1) (infoBody deepestLevel)
+abortedBody = thenBody (levelAt the93 6) (octetItem 0x80 1) (infoBody the93)
 
 -- the PDU of the structured dialogue, or of the unstructured
 unfoldable pub pduItem : Bool → Item (Dialogue Text)
-pduItem true = orItem (askedItem deepestLevel request) (orItem (answeredItem deepestLevel) (abortedItem deepestLevel))
-pduItem false = askedItem deepestLevel unidialogue
+pduItem true = orItem (askedItem the93 request) (orItem (answeredItem the93) (abortedItem the93))
+pduItem false = askedItem the93 unidialogue
 
 -- how many octets a name here would have: 1 to 16
 abbrev pub NameCounted : List ℕ → ℕ → ℕ → ℕ → Type 0
@@ -56,7 +56,7 @@ NameCounted m at stop n = (n ≡ countOf (until stop) at (getD m at 0) (getD m (
 
 -- what stands behind a name, whatever its octets were: the structured dialogue, the unstructured, another
 unfoldable pub Holds : Bool → Bool → List ℕ → ℕ → ℕ → ℕ → Type 0
-Holds s u m at stop r = (n : Text) → Reads (heldItem deepestLevel n s u) m at stop r
+Holds s u m at stop r = (n : Text) → Reads (heldItem the93 n s u) m at stop r
 
 -- what is told of whom a fault at a place in the contents of 6B belongs to: the portion (0), where they end or lack their end pair, or the dialogue (1)
 unfoldable pub ownerMark : EndRead → ℕ
@@ -100,4 +100,4 @@ layElse (octets n c) l = laySpan 32 c (set l 3 7)
 
 -- what is laid out of what stands behind a name, whatever its octets were
 unfoldable pub Lays : (Dialogue Text → List ℕ → List ℕ) → Bool → Bool → List ℕ → ℕ → ℕ → List ℕ → List ℕ → Type 0
-Lays lay s u m at stop old new = (n : Text) → Leaves lay untold (heldItem deepestLevel n s u) m at stop old new
+Lays lay s u m at stop old new = (n : Text) → Leaves lay untold (heldItem the93 n s u) m at stop old new

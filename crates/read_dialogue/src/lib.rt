@@ -12,7 +12,7 @@ ghost use Rattle.read_place.specs.Leaves.{Leaves, LeavesAll, untold};
 ghost use Rattle.read_place.specs.Blames.{Blames};
 ghost use Rattle.tcap.specs.Meaning.{version};
 ghost use Rattle.tcap.specs.Names.{nameKind};
-ghost use Rattle.tcap.specs.WellFormed.{deepestLevel};
+ghost use Rattle.tcap.specs.WellFormed.{the93};
 ghost use Rattle.tcap.specs.Productions.{levelAt, contextItem, sourceItem, infoBody, parameterItem, externalBody, dialogueItem};
 ghost use Rattle.read_dialogue.specs.Dialogues.{externalsBody, versionItem, Passes, numberIn, diagnosticItem, askedBody, acceptedBody, answeredBody, abortedBody, pduItem, Holds, NameCounted, ownerMark, contentsEnd, layNumber, layAsked, layResult, layAnswered, layAborted, layElse, Lays};
 use base::piece;
@@ -81,8 +81,8 @@ fn end_before(inner: usize, r: usize) -> usize
 // User information, if any, and nothing more: the place behind the contents.
 fn info_at(m: &[u8], at: usize, stop: usize, out: &mut [u8]) -> usize
     requires { ⌜ Ready (now m) at stop × (length (now out) ≡ 428) ⌝ }
-    ensures { λ r. ⌜ Finishes (infoBody deepestLevel) (now (m .entry)) at stop r ⌝ }
-    ensures { λ r. ⌜ LeavesAll layInfo untold (infoBody deepestLevel) (now (m .entry)) at stop (now (out .entry)) (now (out .exit)) ⌝ }
+    ensures { λ r. ⌜ Finishes (infoBody the93) (now (m .entry)) at stop r ⌝ }
+    ensures { λ r. ⌜ LeavesAll layInfo untold (infoBody the93) (now (m .entry)) at stop (now (out .entry)) (now (out .exit)) ⌝ }
 {
     if ended(m, at, stop) {
         return behind(at, stop);
@@ -136,8 +136,8 @@ fn past_version(m: &[u8], at: usize, stop: usize) -> usize
 // A1 around one name.
 fn context_at(m: &[u8], at: usize, stop: usize, out: &mut [u8]) -> usize
     requires { ⌜ Ready (now m) at stop × (length (now out) ≡ 428) ⌝ }
-    ensures { λ r. ⌜ Reads (contextItem deepestLevel) (now (m .entry)) at stop r ⌝ }
-    ensures { λ r. ⌜ Leaves layName untold (contextItem deepestLevel) (now (m .entry)) at stop (now (out .entry)) (now (out .exit)) ⌝ }
+    ensures { λ r. ⌜ Reads (contextItem the93) (now (m .entry)) at stop r ⌝ }
+    ensures { λ r. ⌜ Leaves layName untold (contextItem the93) (now (m .entry)) at stop (now (out .entry)) (now (out .exit)) ⌝ }
 {
     let inner = entry_at(m, at, stop, 0xA1);
     if inner >= FAULT {
@@ -187,8 +187,8 @@ fn diagnostic_at(m: &[u8], at: usize, stop: usize, out: &mut [u8]) -> usize
 // A3 around a diagnostic.
 fn source_at(m: &[u8], at: usize, stop: usize, out: &mut [u8]) -> usize
     requires { ⌜ Ready (now m) at stop × (length (now out) ≡ 428) ⌝ }
-    ensures { λ r. ⌜ Reads (sourceItem deepestLevel) (now (m .entry)) at stop r ⌝ }
-    ensures { λ r. ⌜ Leaves layDiagnostic untold (sourceItem deepestLevel) (now (m .entry)) at stop (now (out .entry)) (now (out .exit)) ⌝ }
+    ensures { λ r. ⌜ Reads (sourceItem the93) (now (m .entry)) at stop r ⌝ }
+    ensures { λ r. ⌜ Leaves layDiagnostic untold (sourceItem the93) (now (m .entry)) at stop (now (out .entry)) (now (out .exit)) ⌝ }
 {
     let inner = entry_at(m, at, stop, 0xA3);
     if inner >= FAULT {
@@ -330,8 +330,8 @@ fn pdu_at(m: &[u8], at: usize, stop: usize, in_structured: bool, out: &mut [u8])
 // A0 around a PDU.
 fn known_at(m: &[u8], at: usize, stop: usize, in_structured: bool, out: &mut [u8]) -> usize
     requires { ⌜ Ready (now m) at stop × (length (now out) ≡ 428) ⌝ }
-    ensures { λ r. ⌜ Reads (aroundItem 0xA0 (onlyBody (levelAt deepestLevel 5) (pduItem in_structured))) (now (m .entry)) at stop r ⌝ }
-    ensures { λ r. ⌜ Leaves layDialogue untold (aroundItem 0xA0 (onlyBody (levelAt deepestLevel 5) (pduItem in_structured))) (now (m .entry)) at stop (now (out .entry)) (now (out .exit)) ⌝ }
+    ensures { λ r. ⌜ Reads (aroundItem 0xA0 (onlyBody (levelAt the93 5) (pduItem in_structured))) (now (m .entry)) at stop r ⌝ }
+    ensures { λ r. ⌜ Leaves layDialogue untold (aroundItem 0xA0 (onlyBody (levelAt the93 5) (pduItem in_structured))) (now (m .entry)) at stop (now (out .entry)) (now (out .exit)) ⌝ }
 {
     let inner = entry_at(m, at, stop, 0xA0);
     if inner >= FAULT {
@@ -347,8 +347,8 @@ fn known_at(m: &[u8], at: usize, stop: usize, in_structured: bool, out: &mut [u8
 // A0 around one element.
 fn single_at(m: &[u8], at: usize, stop: usize, out: &mut [u8]) -> usize
     requires { ⌜ Ready (now m) at stop × (length (now out) ≡ 428) ⌝ }
-    ensures { λ r. ⌜ Reads (aroundItem 0xA0 (onlyBody (levelAt deepestLevel 5) (parameterItem deepestLevel 5))) (now (m .entry)) at stop r ⌝ }
-    ensures { λ r. ⌜ Leaves (laySpan 32) untold (aroundItem 0xA0 (onlyBody (levelAt deepestLevel 5) (parameterItem deepestLevel 5))) (now (m .entry)) at stop (now (out .entry)) (now (out .exit)) ⌝ }
+    ensures { λ r. ⌜ Reads (aroundItem 0xA0 (onlyBody (levelAt the93 5) (parameterItem the93 5))) (now (m .entry)) at stop r ⌝ }
+    ensures { λ r. ⌜ Leaves (laySpan 32) untold (aroundItem 0xA0 (onlyBody (levelAt the93 5) (parameterItem the93 5))) (now (m .entry)) at stop (now (out .entry)) (now (out .exit)) ⌝ }
 {
     let inner = entry_at(m, at, stop, 0xA0);
     if inner >= FAULT {
@@ -392,8 +392,8 @@ fn encoding_at(m: &[u8], at: usize, stop: usize, out: &mut [u8]) -> usize
 // The contents of 28 where `n` octets are counted of another name, which may yet be none.
 fn outside_at(m: &[u8], at: usize, stop: usize, n: usize, out: &mut [u8]) -> usize
     requires { ⌜ Ready (now m) at stop × NameCounted (now m) at stop n × (nameKind (take n (drop (at + 2) (now m))) ≡ 0) × (length (now out) ≡ 428) ⌝ }
-    ensures { λ r. ⌜ Finishes (externalBody deepestLevel) (now (m .entry)) at stop r ⌝ }
-    ensures { λ r. ⌜ LeavesAll layDialogue untold (externalBody deepestLevel) (now (m .entry)) at stop (now (out .entry)) (now (out .exit)) ⌝ }
+    ensures { λ r. ⌜ Finishes (externalBody the93) (now (m .entry)) at stop r ⌝ }
+    ensures { λ r. ⌜ LeavesAll layDialogue untold (externalBody the93) (now (m .entry)) at stop (now (out .entry)) (now (out .exit)) ⌝ }
 {
     if primitive::identifier_ok(piece(m, at + 2, n)) {
         put_text(out, 24, at + 2, n);
@@ -409,8 +409,8 @@ fn outside_at(m: &[u8], at: usize, stop: usize, n: usize, out: &mut [u8]) -> usi
 // The contents of 28: a name, and what stands behind it.
 fn external_at(m: &[u8], at: usize, stop: usize, out: &mut [u8]) -> usize
     requires { ⌜ Ready (now m) at stop × (length (now out) ≡ 428) ⌝ }
-    ensures { λ r. ⌜ Finishes (externalBody deepestLevel) (now (m .entry)) at stop r ⌝ }
-    ensures { λ r. ⌜ LeavesAll layDialogue untold (externalBody deepestLevel) (now (m .entry)) at stop (now (out .entry)) (now (out .exit)) ⌝ }
+    ensures { λ r. ⌜ Finishes (externalBody the93) (now (m .entry)) at stop r ⌝ }
+    ensures { λ r. ⌜ LeavesAll layDialogue untold (externalBody the93) (now (m .entry)) at stop (now (out .entry)) (now (out .exit)) ⌝ }
 {
     let n = count_at(m, at, stop, 0x06, 16);
     if n == 0 {
@@ -430,8 +430,8 @@ fn external_at(m: &[u8], at: usize, stop: usize, out: &mut [u8]) -> usize
 // 28.
 fn wrapped_at(m: &[u8], at: usize, stop: usize, out: &mut [u8]) -> usize
     requires { ⌜ Ready (now m) at stop × (length (now out) ≡ 428) ⌝ }
-    ensures { λ r. ⌜ Reads (aroundItem 0x28 (externalBody deepestLevel)) (now (m .entry)) at stop r ⌝ }
-    ensures { λ r. ⌜ Leaves layDialogue untold (aroundItem 0x28 (externalBody deepestLevel)) (now (m .entry)) at stop (now (out .entry)) (now (out .exit)) ⌝ }
+    ensures { λ r. ⌜ Reads (aroundItem 0x28 (externalBody the93)) (now (m .entry)) at stop r ⌝ }
+    ensures { λ r. ⌜ Leaves layDialogue untold (aroundItem 0x28 (externalBody the93)) (now (m .entry)) at stop (now (out .entry)) (now (out .exit)) ⌝ }
 {
     let inner = entry_at(m, at, stop, 0x28);
     if inner >= FAULT {
@@ -457,8 +457,8 @@ fn owner_at(m: &[u8], at: usize, stop: usize) -> u8
 // 6B around 28: the dialogue portion, or whom its fault belongs to.
 pub fn dialogue_at(m: &[u8], at: usize, stop: usize, out: &mut [u8]) -> usize
     requires { ⌜ Ready (now m) at stop × (standsOf (now m) at stop 0x6B ≡ true) × (length (now out) ≡ 428) ⌝ }
-    ensures { λ r. ⌜ Reads (dialogueItem deepestLevel) (now (m .entry)) at stop r ⌝ }
-    ensures { λ r. ⌜ Leaves layDialogue Blames (dialogueItem deepestLevel) (now (m .entry)) at stop (now (out .entry)) (now (out .exit)) ⌝ }
+    ensures { λ r. ⌜ Reads (dialogueItem the93) (now (m .entry)) at stop r ⌝ }
+    ensures { λ r. ⌜ Leaves layDialogue Blames (dialogueItem the93) (now (m .entry)) at stop (now (out .entry)) (now (out .exit)) ⌝ }
 {
     let inner = length_at(m, at, at + 1, stop % OPEN, true);
     if inner >= FAULT {

@@ -15,7 +15,7 @@ use Rattle.element.specs.Ask.{Got, got, bad, check, blamed, Body, ask}
 use Rattle.element.specs.Parts.{Item, level, aroundItem, bindBody, thenBody, onlyBody, lastBody, optBody, mapBody}
 use Rattle.element.proofs.Asking.{Then, fact, void, the-fact}
 use Rattle.tcap.specs.Meaning.{Message, silent, unidirectional, begin, finish, continue, abort}
-use Rattle.tcap.specs.WellFormed.{deepestLevel}
+use Rattle.tcap.specs.WellFormed.{the93}
 use Rattle.tcap.specs.Productions.{origItem, destItem, carried, componentsItem, dialogueItem, tailBody, uniBody, beginBody, endBody, continueBody, abortBody}
 use Rattle.tcap.specs.Reading.{learnt, readFirst, locatedUpTo}
 use Rattle.read_place.specs.Places.{Far, Near, until, finite, part, front, Placed, Reads, Finishes, span, lengthPlace, lengthSize}
@@ -45,13 +45,13 @@ module _ (tag : ℕ) (d : Bool) (p : ℕ) (l : List ℕ) where
   by-name f b h = map-value f b d p l (λ a. Unit {0}) (λ v. tagIn v ≡ tag) (λ a q. h a) (any (ask b d p l))
 
   tag-pick : (b x c e a : Bool) → eqb tag 98 ≡ b → eqb tag 101 ≡ x → eqb tag 100 ≡ c → eqb tag 103 ≡ e → eqb tag 97 ≡ a → (a || (b || (c || (x || e)))) ≡ true
-      → Has-tag (cond b (beginBody deepestLevel) (cond x (continueBody deepestLevel) (cond c (endBody deepestLevel) (cond e (abortBody deepestLevel) (uniBody deepestLevel)))))
+      → Has-tag (cond b (beginBody the93) (cond x (continueBody the93) (cond c (endBody the93) (cond e (abortBody the93) (uniBody the93)))))
   unfolding tagIn
-  tag-pick true x c e a i j k y n o = by-name (λ v. begin (v .0) (v .1 .0) (v .1 .1)) (bindBody (level 15) carried origItem (λ o. tailBody deepestLevel)) (λ v. sym (eqb-true tag 98 i))
-  tag-pick false true c e a i j k y n o = by-name (λ v. continue (v .0) (v .1 .0) (v .1 .1 .0) (v .1 .1 .1)) (bindBody (level 15) carried origItem (λ o. thenBody (level 15) destItem (tailBody deepestLevel))) (λ v. sym (eqb-true tag 101 j))
-  tag-pick false false true e a i j k y n o = by-name (λ v. finish (v .0) (v .1 .0) (v .1 .1)) (thenBody (level 15) destItem (tailBody deepestLevel)) (λ v. sym (eqb-true tag 100 k))
+  tag-pick true x c e a i j k y n o = by-name (λ v. begin (v .0) (v .1 .0) (v .1 .1)) (bindBody (level 15) carried origItem (λ o. tailBody the93)) (λ v. sym (eqb-true tag 98 i))
+  tag-pick false true c e a i j k y n o = by-name (λ v. continue (v .0) (v .1 .0) (v .1 .1 .0) (v .1 .1 .1)) (bindBody (level 15) carried origItem (λ o. thenBody (level 15) destItem (tailBody the93))) (λ v. sym (eqb-true tag 101 j))
+  tag-pick false false true e a i j k y n o = by-name (λ v. finish (v .0) (v .1 .0) (v .1 .1)) (thenBody (level 15) destItem (tailBody the93)) (λ v. sym (eqb-true tag 100 k))
   tag-pick false false false true a i j k y n o = by-name (λ v. abort (v .0) (Option·getD (v .1) silent)) (thenBody (level 15) destItem (lastBody (level 15) endingItem)) (λ v. sym (eqb-true tag 103 y))
-  tag-pick false false false false true i j k y n o = by-name (λ v. unidirectional (v .0) (v .1)) (optBody (dialogueItem deepestLevel) (onlyBody (level 15) (componentsItem deepestLevel))) (λ v. sym (eqb-true tag 97 n))
+  tag-pick false false false false true i j k y n o = by-name (λ v. unidirectional (v .0) (v .1)) (optBody (dialogueItem the93) (onlyBody (level 15) (componentsItem the93))) (λ v. sym (eqb-true tag 97 n))
   tag-pick false false false false false i j k y n o = absurd (false≢true o)
 
   tag-had : kinds .mine tag ≡ true → Has-tag (bodyOf tag)
@@ -73,7 +73,7 @@ learnt-stays (abort e s) = λ f l t. t
 -- The message is all there is
 
 module _ (m : List ℕ) (len : ℕ) (is : len ≡ length m) (some : 1 ≤ len) (short : len ≤ 255) where
-  pub other-left : (b : Bool) → b ≡ kinds .mine (getD m 0 0) → b ≡ false → (old new : List ℕ) → length old ≡ 428 → new ≡ set old 0 0 → Left layAccepted Blames (readFirst deepestLevel kinds m) old new
+  pub other-left : (b : Bool) → b ≡ kinds .mine (getD m 0 0) → b ≡ false → (old new : List ℕ) → length old ≡ 428 → new ≡ set old 0 0 → Left layAccepted Blames (readFirst the93 kinds m) old new
   unfolding check Left
   other-left b asked t old new long i = rw (i, first-is m len is some short, ← asked, t) (says-portion old long FaultKind.NoMessage 0 none none)
 
@@ -86,12 +86,12 @@ module _ (m : List ℕ) (len : ℕ) (is : len ≡ length m) (some : 1 ≤ len) (
         let w : Left lay tell (ask (front (level 1) FaultKind.NoMessage kinds) true 0 m) old new = rw (front-is m len is some short b asked told inner stops) q in
         left-where tell lay kinds FaultKind.NoMessage (level 16) (λ f l t. t) true 0 m old new refl w
 
-    far-up : (r : ℕ) → Reads this m 0 len r → Far r → (old new : List ℕ) → Leaves layMessage Blames this m 0 len old new → Left layAccepted Blames (readFirst deepestLevel kinds m) old new
+    far-up : (r : ℕ) → Reads this m 0 len r → Far r → (old new : List ℕ) → Leaves layMessage Blames this m 0 len old new → Left layAccepted Blames (readFirst the93 kinds m) old new
     far-up r e f old new q =
         rw (opened m len is some short b asked told inner stops) (left-far Blames layMessage layAccepted _ (closing m) 0 (length m) r (lifted m len is some short b asked told inner stops r e) old old new (omega (arith, is, short)) f
         (up Blames layMessage old new q))
 
-    pub entry-left : Far inner → (old new : List ℕ) → length old ≡ 428 → new ≡ set old 0 0 → Left layAccepted Blames (readFirst deepestLevel kinds m) old new
+    pub entry-left : Far inner → (old new : List ℕ) → length old ≡ 428 → new ≡ set old 0 0 → Left layAccepted Blames (readFirst the93 kinds m) old new
     entry-left f old new long i =
         let s = sound m len is some short b asked told inner stops in
         let h = inside m len is some short b asked told inner stops in
@@ -108,11 +108,11 @@ module _ (m : List ℕ) (len : ℕ) (is : len ≡ length m) (some : 1 ≤ len) (
       abbrev here : Placed 0 (length m) (ask (front (level 16) FaultKind.NoMessage kinds) true 0 m) r
       here = lifted m len is some short b asked told inner stops r (whole m len is some short b asked told inner stops near st start r e)
 
-      pub far-left : Far r → Left layAccepted Blames (readFirst deepestLevel kinds m) old mid
+      pub far-left : Far r → Left layAccepted Blames (readFirst the93 kinds m) old mid
       far-left f = far-up r (whole m len is some short b asked told inner stops near st start r e) f old mid (around Blames layMessage mid q)
 
       module _ (f : Near r) where
-        pub all-left : r ≡ len → Left layAccepted Blames (readFirst deepestLevel kinds m) old (set mid 0 (getD m 0 0))
+        pub all-left : r ≡ len → Left layAccepted Blames (readFirst the93 kinds m) old (set mid 0 (getD m 0 0))
         unfolding check blamed Left
         all-left t =
             told-near layAccepted _ old (set mid 0 (getD m 0 0)) 0 (length m) r (alone-all m len is some short b asked told inner stops near st start r e f t) f
@@ -120,7 +120,7 @@ module _ (m : List ℕ) (len : ℕ) (is : len ≡ length m) (some : 1 ≤ len) (
             (up untold layAccepted old (set mid 0 (getD m 0 0)) (around untold layAccepted (set mid 0 (getD m 0 0)) (tagged _ (getD m 0 0) old mid q (tag-had (getD m 0 0) (finite inner) st (part m st inner) (sym asked ∙ told)))))
             (λ v n z i. let w : n ≡ length m = omega (arith, z, t, is) in rw (eq-eqb n (length m) w) i)))
 
-        pub after-left : (r ≡ len → ⊥) → length mid ≡ 428 → (new : List ℕ) → new ≡ set mid 0 0 → Left layAccepted Blames (readFirst deepestLevel kinds m) old new
+        pub after-left : (r ≡ len → ⊥) → length mid ≡ 428 → (new : List ℕ) → new ≡ set mid 0 0 → Left layAccepted Blames (readFirst the93 kinds m) old new
         unfolding check Left
         after-left t long new i =
             rw (i, opened m len is some short b asked told inner stops) (left-near Blames layMessage layAccepted _ (closing m) 0 (length m) r here old mid (set mid 0 0) f (up Blames layMessage old mid (around Blames layMessage mid q))
@@ -129,19 +129,19 @@ module _ (m : List ℕ) (len : ℕ) (is : len ≡ length m) (some : 1 ≤ len) (
 -- Any octets
 
 module _ (m : List ℕ) (len : ℕ) (is : len ≡ length m) (old new : List ℕ) where
-  pub long-left : 255 < len → length old ≡ 428 → new ≡ set old 0 0 → Left layAccepted Blames (locatedUpTo deepestLevel m) old new
+  pub long-left : 255 < len → length old ≡ 428 → new ≡ set old 0 0 → Left layAccepted Blames (locatedUpTo the93 m) old new
   unfolding locatedUpTo check Left
   long-left l long i = rw (i, lt-leb (length m) 255 (omega (arith, l, is))) (says-portion old long FaultKind.Overlong 255 none none)
 
   module _ (short : len ≤ 255) where
-    pub none-left : len ≡ 0 → length old ≡ 428 → new ≡ set old 0 0 → Left layAccepted Blames (locatedUpTo deepestLevel m) old new
+    pub none-left : len ≡ 0 → length old ≡ 428 → new ≡ set old 0 0 → Left layAccepted Blames (locatedUpTo the93 m) old new
     unfolding locatedUpTo readFirst check Left
     none-left z long i = rw i (go m (sym is ∙ z))
       where
-        go : (l : List ℕ) → length l ≡ 0 → Left layAccepted Blames (check (leb (length l) 255) (at FaultKind.Overlong 255) (readFirst deepestLevel kinds l)) old (set old 0 0)
+        go : (l : List ℕ) → length l ≡ 0 → Left layAccepted Blames (check (leb (length l) 255) (at FaultKind.Overlong 255) (readFirst the93 kinds l)) old (set old 0 0)
         go [] e = says-portion old long FaultKind.CutOff 0 none none
         go (a ∷ r) e = absurd (omega (arith, e))
 
-    pub first-left : Left layAccepted Blames (readFirst deepestLevel kinds m) old new → Left layAccepted Blames (locatedUpTo deepestLevel m) old new
+    pub first-left : Left layAccepted Blames (readFirst the93 kinds m) old new → Left layAccepted Blames (locatedUpTo the93 m) old new
     unfolding locatedUpTo check
     first-left e = rw (le-leb (length m) 255 (omega (arith, short, is))) e

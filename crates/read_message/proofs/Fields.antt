@@ -14,7 +14,7 @@ use Rattle.element.specs.Ask.{Got, got, bad, next, blamed, Head, Body, ask}
 use Rattle.element.specs.Parts.{Item, level, leafItem, mapItem, place}
 use Rattle.element.proofs.Asking.{Then, fact, then-next, then-blamed, ask-sound}
 use Rattle.tcap.specs.Meaning.{orig, dest, cause, says}
-use Rattle.tcap.specs.WellFormed.{deepestLevel, idOk}
+use Rattle.tcap.specs.WellFormed.{the93, idOk}
 use Rattle.tcap.specs.Productions.{single?, octetItem, origItem, destItem, dialogueItem}
 use Rattle.read_place.specs.Places.{Far, Near, until, finite, part, front, Reads, Finishes, Leads, standsOf}
 use Rattle.read_place.specs.Leaves.{Left, Leaves}
@@ -140,7 +140,7 @@ module _ (m : List ℕ) (at stop r : ℕ) (h : until stop ≤ length m) (b : Boo
     by-cause : Leaves layCause Blames (octetItem 74 4) m at stop old new → Leaves layEnding Blames endingItem m at stop old new
     unfolding layEnding
     by-cause q =
-        rw (or-left (level 1) FaultKind.Another (mapItem cause (octetItem 74 4)) (mapItem says (dialogueItem deepestLevel)) (finite stop) at (part m at stop) refl (λ a s z. stands-other m at stop 107 h (sym is ∙ t) a s z))
+        rw (or-left (level 1) FaultKind.Another (mapItem cause (octetItem 74 4)) (mapItem says (dialogueItem the93)) (finite stop) at (part m at stop) refl (λ a s z. stands-other m at stop 107 h (sym is ∙ t) a s z))
         (leaves-map cause (octetItem 74 4) layCause layEnding m at stop old new (λ n. refl) q)
 
     pub cause-told : Far r → length old ≡ 428 → new ≡ set old 0 0 → Leaves layEnding Blames endingItem m at stop old new
@@ -154,11 +154,11 @@ module _ (m : List ℕ) (at stop r : ℕ) (h : until stop ≤ length m) (b : Boo
         layCause′ : List ℕ → ℕ → List ℕ
         layCause′ l n = layCause n l
 
-  pub says-laid : b ≡ true → (old new : List ℕ) → Leaves layDialogue Blames (dialogueItem deepestLevel) m at stop old new → Leaves layEnding Blames endingItem m at stop old new
+  pub says-laid : b ≡ true → (old new : List ℕ) → Leaves layDialogue Blames (dialogueItem the93) m at stop old new → Leaves layEnding Blames endingItem m at stop old new
   unfolding layEnding
   says-laid t old new q =
-      rw (or-right (level 1) FaultKind.Another (mapItem cause (octetItem 74 4)) (mapItem says (dialogueItem deepestLevel)) (finite stop) at (part m at stop) refl (λ a s z. ap (λ (q : ℕ). eqb q 74) (stands-only m at stop 107 h (sym is ∙ t) a s z)))
-      (leaves-map says (dialogueItem deepestLevel) layDialogue layEnding m at stop old new (λ d. refl) q)
+      rw (or-right (level 1) FaultKind.Another (mapItem cause (octetItem 74 4)) (mapItem says (dialogueItem the93)) (finite stop) at (part m at stop) refl (λ a s z. ap (λ (q : ℕ). eqb q 74) (stands-only m at stop 107 h (sym is ∙ t) a s z)))
+      (leaves-map says (dialogueItem the93) layDialogue layEnding m at stop old new (λ d. refl) q)
 
 pub cause-room : (m : List ℕ) (at stop r : ℕ) → Reads (octetItem 74 4) m at stop r → Near r → until stop ≤ length m → at + 2 < length m
 cause-room m at stop r e near h =

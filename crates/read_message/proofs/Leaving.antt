@@ -14,7 +14,7 @@ use Rattle.element.specs.Head.{endOf}
 use Rattle.element.specs.Ask.{Got, got, bad, Body, ask}
 use Rattle.element.specs.Parts.{Item, level, bindBody, thenBody, onlyBody, lastBody, optBody, mapBody}
 use Rattle.tcap.specs.Meaning.{Originating, Destination, Component, Dialogue, Ending, Message, silent, unidirectional, begin, finish, continue, abort}
-use Rattle.tcap.specs.WellFormed.{deepestLevel}
+use Rattle.tcap.specs.WellFormed.{the93}
 use Rattle.tcap.specs.Productions.{origItem, destItem, carried, componentsItem, dialogueItem, tailBody, uniBody, beginBody, endBody, continueBody, abortBody}
 use Rattle.read_place.specs.Places.{Far, Near, until, finite, part, front, Placed, Closing, nothing, Reads, Finishes, endedOf, standsOf, entryPlace, lengthSize}
 use Rattle.read_place.specs.Leaves.{Left, Leaves, LeavesAll, unlaid}
@@ -81,31 +81,31 @@ module _ {A : Type 0} (x : Item A) (lay : A → List ℕ → List ℕ) (m : List
 -- 6C, and nothing more
 
 module _ (m : List ℕ) (at stop inner : ℕ) (g : at ≤ until stop) (h : until stop ≤ length m) (entry : inner ≡ entryPlace true m at stop 108) (old : List ℕ) where
-  pub components-told : Far inner → length old ≡ 428 → (new : List ℕ) → new ≡ set old 0 0 → Leaves layComponents Blames (componentsItem deepestLevel) m at stop old new
+  pub components-told : Far inner → length old ≡ 428 → (new : List ℕ) → new ≡ set old 0 0 → Leaves layComponents Blames (componentsItem the93) m at stop old new
   unfolding constructorOf endsAt
   components-told f long new i =
       rw i (told-far layComponents portion _ old (set old 0 0) (entry-belongs 108 (omega arith, omega arith, omega arith) refl (rowsBody 16 0) m at stop inner g h entry f) (says-portion old long) at (until stop) inner (components-entry m at stop inner g h entry f) (omega arith) f)
 
-  pub components-laid : length m ≤ 65535 → Near inner → (st : ℕ) → st ≡ at + 1 + lengthSize (getD m (at + 1) 0) → (new : List ℕ) → LeavesAll layComponents Blames (rowsBody 16 0) m st inner old new → Leaves layComponents Blames (componentsItem deepestLevel) m at stop old new
+  pub components-laid : length m ≤ 65535 → Near inner → (st : ℕ) → st ≡ at + 1 + lengthSize (getD m (at + 1) 0) → (new : List ℕ) → LeavesAll layComponents Blames (rowsBody 16 0) m st inner old new → Leaves layComponents Blames (componentsItem the93) m at stop old new
   unfolding constructorOf endsAt
   components-laid top near st start new q = around-left Blames (rowsBody 16 0) m at stop 108 inner st g h top (omega arith, omega arith, omega arith) refl entry near start layComponents old new q
 
 module _ (m : List ℕ) (at stop : ℕ) (b : Bool) (is : b ≡ endedOf (endOf (finite stop) (part m at stop))) where
   pub listed-none : b ≡ true → (old : List ℕ) → LeavesAll layListed Blames componentsBody m at stop old old
   unfolding layListed
-  listed-none t old = last-left-none Blames (level 15) (componentsItem deepestLevel) layListed m at stop old (λ l. refl) (ended-is (endOf (finite stop) (part m at stop)) b is t)
+  listed-none t old = last-left-none Blames (level 15) (componentsItem the93) layListed m at stop old (λ l. refl) (ended-is (endOf (finite stop) (part m at stop)) b is t)
 
-  module _ (no : b ≡ false) (r : ℕ) (e : Reads (componentsItem deepestLevel) m at stop r) (old mid : List ℕ) (q : Leaves layComponents Blames (componentsItem deepestLevel) m at stop old mid) where
+  module _ (no : b ≡ false) (r : ℕ) (e : Reads (componentsItem the93) m at stop r) (old mid : List ℕ) (q : Leaves layComponents Blames (componentsItem the93) m at stop old mid) where
     pub listed-far : Far r → LeavesAll layListed Blames componentsBody m at stop old mid
-    listed-far f = end-far-left (componentsItem deepestLevel) layComponents m at stop r e old mid q b is no layListed f
+    listed-far f = end-far-left (componentsItem the93) layComponents m at stop r e old mid q b is no layListed f
 
     module _ (near : Near r) (s : ℕ) (z : Finishes nothing m r stop s) where
       pub listed-near : Near s → LeavesAll layListed Blames componentsBody m at stop old mid
       unfolding layListed
-      listed-near f = end-near-left (componentsItem deepestLevel) layComponents m at stop r e old mid q near s z b is no layListed (λ a l. refl) f
+      listed-near f = end-near-left (componentsItem the93) layComponents m at stop r e old mid q near s z b is no layListed (λ a l. refl) f
 
       pub listed-after : Far s → length mid ≡ 428 → (new : List ℕ) → new ≡ set mid 0 0 → LeavesAll layListed Blames componentsBody m at stop old new
-      listed-after f long new i = rw i (end-after (componentsItem deepestLevel) layComponents m at stop r e old mid q near s z f long b is no layListed)
+      listed-after f long new i = rw i (end-after (componentsItem the93) layComponents m at stop r e old mid q near s z f long b is no layListed)
 
   -- what an Abort ends with
   pub ending-none : b ≡ true → (old : List ℕ) → LeavesAll layLast Blames (lastBody (level 15) endingItem) m at stop old old
@@ -126,7 +126,7 @@ module _ (m : List ℕ) (at stop : ℕ) (b : Bool) (is : b ≡ endedOf (endOf (f
 
 -- 6B or none, and then the rest
 
-pub lays-there : (m : List ℕ) (at stop : ℕ) (b : Bool) → b ≡ standsOf m at stop 107 → b ≡ true → (old new : List ℕ) → Leaves layDialogue Blames (dialogueItem deepestLevel) m at stop old new → LaysPast m at stop old new
+pub lays-there : (m : List ℕ) (at stop : ℕ) (b : Bool) → b ≡ standsOf m at stop 107 → b ≡ true → (old new : List ℕ) → Leaves layDialogue Blames (dialogueItem the93) m at stop old new → LaysPast m at stop old new
 unfolding Lays
 lays-there m at stop b is t old new q = rw (← is, t) q
 
@@ -135,30 +135,30 @@ unfolding Lays
 lays-not m at stop b is t old = rw (← is, t)
 
 module _ {B : Type 0} (y : Body B) (full : y .full ≡ false) (deep : ltb 0 (y .left) ≡ true) (another : y .other ≡ FaultKind.Another) (keeps : Keeps (y .owner)) (stays : Stays Blames (y .owner)) (put : B → List ℕ → List ℕ)
-    (m : List ℕ) (at stop r : ℕ) (g : at ≤ until stop) (h : until stop ≤ length m) (e : Passes 107 (dialogueItem deepestLevel) m at stop r) (old mid : List ℕ) (q : LaysPast m at stop old mid) where
+    (m : List ℕ) (at stop r : ℕ) (g : at ≤ until stop) (h : until stop ≤ length m) (e : Passes 107 (dialogueItem the93) m at stop r) (old mid : List ℕ) (q : LaysPast m at stop old mid) where
   abbrev layBoth : Option (Dialogue Text) × B → List ℕ → List ℕ
   layBoth v l = put (v .1) (layPortion (v .0) l)
 
   abbrev opened : Body (Option (Dialogue Text) × B)
-  opened = optBody (dialogueItem deepestLevel) y
+  opened = optBody (dialogueItem the93) y
 
   pass-left-far : length m ≤ 65535 → Far r → LeavesAll layBoth Blames opened m at stop old mid
   unfolding Passed Lays
   pass-left-far top f = go (standsOf m at stop 107) refl e q
     where
-      go : (b : Bool) → standsOf m at stop 107 ≡ b → Passed b (dialogueItem deepestLevel) m at stop r → Lays b m at stop old mid → LeavesAll layBoth Blames opened m at stop old mid
-      go true t e q = opt-left-far Blames 107 (dialogueItem deepestLevel) (λ a. refl) y full deep another keeps (omega arith, omega arith, omega arith) m at stop g h true (sym t) layDialogue put layBoth old refl r e stays mid f q
+      go : (b : Bool) → standsOf m at stop 107 ≡ b → Passed b (dialogueItem the93) m at stop r → Lays b m at stop old mid → LeavesAll layBoth Blames opened m at stop old mid
+      go true t e q = opt-left-far Blames 107 (dialogueItem the93) (λ a. refl) y full deep another keeps (omega arith, omega arith, omega arith) m at stop g h true (sym t) layDialogue put layBoth old refl r e stays mid f q
       go false t e q = absurd (omega (arith, e, g, h, top, f))
 
   pass-left : Near r → (new : List ℕ) → LeavesAll put Blames y m r stop mid new → LeavesAll layBoth Blames opened m at stop old new
   unfolding Passed Lays layPortion
   pass-left f new w = go (standsOf m at stop 107) refl e q
     where
-      go : (b : Bool) → standsOf m at stop 107 ≡ b → Passed b (dialogueItem deepestLevel) m at stop r → Lays b m at stop old mid → LeavesAll layBoth Blames opened m at stop old new
-      go true t e q = opt-left Blames 107 (dialogueItem deepestLevel) (λ a. refl) y full deep another keeps (omega arith, omega arith, omega arith) m at stop g h true (sym t) layDialogue put layBoth old refl r e stays (λ a v l. refl) mid new f q w
-      go false t e q = opt-left-none Blames 107 (dialogueItem deepestLevel) (λ a. refl) y full deep another keeps (omega arith, omega arith, omega arith) m at stop g h false (sym t) layDialogue put layBoth old refl (λ v l. refl) new (rw (e, q) at w)
+      go : (b : Bool) → standsOf m at stop 107 ≡ b → Passed b (dialogueItem the93) m at stop r → Lays b m at stop old mid → LeavesAll layBoth Blames opened m at stop old new
+      go true t e q = opt-left Blames 107 (dialogueItem the93) (λ a. refl) y full deep another keeps (omega arith, omega arith, omega arith) m at stop g h true (sym t) layDialogue put layBoth old refl r e stays (λ a v l. refl) mid new f q w
+      go false t e q = opt-left-none Blames 107 (dialogueItem the93) (λ a. refl) y full deep another keeps (omega arith, omega arith, omega arith) m at stop g h false (sym t) layDialogue put layBoth old refl (λ v l. refl) new (rw (e, q) at w)
 
-module _ (m : List ℕ) (at stop r : ℕ) (g : at ≤ until stop) (h : until stop ≤ length m) (e : Passes 107 (dialogueItem deepestLevel) m at stop r) (old mid : List ℕ) (q : LaysPast m at stop old mid) where
+module _ (m : List ℕ) (at stop r : ℕ) (g : at ≤ until stop) (h : until stop ≤ length m) (e : Passes 107 (dialogueItem the93) m at stop r) (old mid : List ℕ) (q : LaysPast m at stop old mid) where
   abbrev listed : Body (List (Component Text))
   listed = mapBody (λ v. Option·getD v []) componentsBody
 
@@ -167,38 +167,38 @@ module _ (m : List ℕ) (at stop r : ℕ) (g : at ≤ until stop) (h : until sto
   listing none l = refl
   listing (some cs) l = refl
 
-  pub tail-left-far : length m ≤ 65535 → Far r → LeavesAll layTail Blames (tailBody deepestLevel) m at stop old mid
+  pub tail-left-far : length m ≤ 65535 → Far r → LeavesAll layTail Blames (tailBody the93) m at stop old mid
   tail-left-far top f = pass-left-far listed refl refl refl (λ f. refl) (λ f l t. t) layComponents m at stop r g h e old mid q top f
 
-  pub tail-left : Near r → (new : List ℕ) → LeavesAll layListed Blames componentsBody m r stop mid new → LeavesAll layTail Blames (tailBody deepestLevel) m at stop old new
+  pub tail-left : Near r → (new : List ℕ) → LeavesAll layListed Blames componentsBody m r stop mid new → LeavesAll layTail Blames (tailBody the93) m at stop old new
   tail-left f new w = pass-left listed refl refl refl (λ f. refl) (λ f l t. t) layComponents m at stop r g h e old mid q f new (map-left Blames (λ v. Option·getD v []) componentsBody layListed layComponents m r stop mid new listing w)
 
   abbrev must-come : Body (List (Component Text))
-  must-come = onlyBody (level 15) (componentsItem deepestLevel)
+  must-come = onlyBody (level 15) (componentsItem the93)
 
   abbrev to-uni : Option (Dialogue Text) × List (Component Text) → Message Text
   to-uni v = unidirectional (v .0) (v .1)
 
-  uni-named : (new : List ℕ) → LeavesAll layTail Blames (optBody (dialogueItem deepestLevel) must-come) m at stop old new → LeavesAll layMessage Blames (uniBody deepestLevel) m at stop old new
+  uni-named : (new : List ℕ) → LeavesAll layTail Blames (optBody (dialogueItem the93) must-come) m at stop old new → LeavesAll layMessage Blames (uniBody the93) m at stop old new
   unfolding layMessage
-  uni-named new w = map-left Blames to-uni (optBody (dialogueItem deepestLevel) must-come) layTail layMessage m at stop old new (λ v l. refl) w
+  uni-named new w = map-left Blames to-uni (optBody (dialogueItem the93) must-come) layTail layMessage m at stop old new (λ v l. refl) w
 
-  pub uni-left-far : length m ≤ 65535 → Far r → LeavesAll layMessage Blames (uniBody deepestLevel) m at stop old mid
+  pub uni-left-far : length m ≤ 65535 → Far r → LeavesAll layMessage Blames (uniBody the93) m at stop old mid
   uni-left-far top f = uni-named mid (pass-left-far must-come refl refl refl (λ f. refl) (λ f l t. t) layComponents m at stop r g h e old mid q top f)
 
-  module _ (near : Near r) (s : ℕ) (c : Reads (componentsItem deepestLevel) m r stop s) (laid : List ℕ) (w : Leaves layComponents Blames (componentsItem deepestLevel) m r stop mid laid) where
-    uni-rest : (new : List ℕ) → LeavesAll layComponents Blames must-come m r stop mid new → LeavesAll layMessage Blames (uniBody deepestLevel) m at stop old new
+  module _ (near : Near r) (s : ℕ) (c : Reads (componentsItem the93) m r stop s) (laid : List ℕ) (w : Leaves layComponents Blames (componentsItem the93) m r stop mid laid) where
+    uni-rest : (new : List ℕ) → LeavesAll layComponents Blames must-come m r stop mid new → LeavesAll layMessage Blames (uniBody the93) m at stop old new
     uni-rest new u = uni-named new (pass-left must-come refl refl refl (λ f. refl) (λ f l t. t) layComponents m at stop r g h e old mid q near new u)
 
-    pub uni-left-components : Far s → LeavesAll layMessage Blames (uniBody deepestLevel) m at stop old laid
-    uni-left-components f = uni-rest laid (only-far-left (componentsItem deepestLevel) layComponents m r stop s c mid laid w f)
+    pub uni-left-components : Far s → LeavesAll layMessage Blames (uniBody the93) m at stop old laid
+    uni-left-components f = uni-rest laid (only-far-left (componentsItem the93) layComponents m r stop s c mid laid w f)
 
     module _ (found : Near s) (u : ℕ) (z : Finishes nothing m s stop u) where
-      pub uni-left : Near u → LeavesAll layMessage Blames (uniBody deepestLevel) m at stop old laid
-      uni-left f = uni-rest laid (only-near-left (componentsItem deepestLevel) layComponents m r stop s c mid laid w found u z f)
+      pub uni-left : Near u → LeavesAll layMessage Blames (uniBody the93) m at stop old laid
+      uni-left f = uni-rest laid (only-near-left (componentsItem the93) layComponents m r stop s c mid laid w found u z f)
 
-      pub uni-left-after : Far u → length laid ≡ 428 → (new : List ℕ) → new ≡ set laid 0 0 → LeavesAll layMessage Blames (uniBody deepestLevel) m at stop old new
-      uni-left-after f long new i = rw i (uni-rest (set laid 0 0) (only-after (componentsItem deepestLevel) layComponents m r stop s c mid laid w found u z f long))
+      pub uni-left-after : Far u → length laid ≡ 428 → (new : List ℕ) → new ≡ set laid 0 0 → LeavesAll layMessage Blames (uniBody the93) m at stop old new
+      uni-left-after f long new i = rw i (uni-rest (set laid 0 0) (only-after (componentsItem the93) layComponents m r stop s c mid laid w found u z f long))
 
 -- The IDs, and then the rest
 
@@ -241,48 +241,48 @@ abbrev to-continue : Originating Text × (Destination Text × Tail) → Message 
 to-continue v = continue (v .0) (v .1 .0) (v .1 .1 .0) (v .1 .1 .1)
 
 module _ (m : List ℕ) (at stop r : ℕ) (e : Reads origItem m at stop r) (old mid : List ℕ) (q : Leaves layOrig Blames origItem m at stop old mid) where
-  begin-named : (new : List ℕ) → LeavesAll (λ v l. layTail (v .1) (layOrig (v .0) l)) Blames (bindBody (level 15) carried origItem (λ o. tailBody deepestLevel)) m at stop old new → LeavesAll layMessage Blames (beginBody deepestLevel) m at stop old new
+  begin-named : (new : List ℕ) → LeavesAll (λ v l. layTail (v .1) (layOrig (v .0) l)) Blames (bindBody (level 15) carried origItem (λ o. tailBody the93)) m at stop old new → LeavesAll layMessage Blames (beginBody the93) m at stop old new
   unfolding layMessage
-  begin-named new w = map-left Blames to-begin (bindBody (level 15) carried origItem (λ o. tailBody deepestLevel)) (λ v l. layTail (v .1) (layOrig (v .0) l)) layMessage m at stop old new (λ v l. refl) w
+  begin-named new w = map-left Blames to-begin (bindBody (level 15) carried origItem (λ o. tailBody the93)) (λ v l. layTail (v .1) (layOrig (v .0) l)) layMessage m at stop old new (λ v l. refl) w
 
-  pub begin-left-far : Far r → LeavesAll layMessage Blames (beginBody deepestLevel) m at stop old mid
-  begin-left-far f = begin-named mid (orig-left-far (tailBody deepestLevel) layTail m at stop r old mid e q f)
+  pub begin-left-far : Far r → LeavesAll layMessage Blames (beginBody the93) m at stop old mid
+  begin-left-far f = begin-named mid (orig-left-far (tailBody the93) layTail m at stop r old mid e q f)
 
-  pub begin-left : Near r → (new : List ℕ) → LeavesAll layTail Blames (tailBody deepestLevel) m r stop mid new → LeavesAll layMessage Blames (beginBody deepestLevel) m at stop old new
-  begin-left f new w = begin-named new (orig-left (tailBody deepestLevel) layTail m at stop r old mid e q f new w)
+  pub begin-left : Near r → (new : List ℕ) → LeavesAll layTail Blames (tailBody the93) m r stop mid new → LeavesAll layMessage Blames (beginBody the93) m at stop old new
+  begin-left f new w = begin-named new (orig-left (tailBody the93) layTail m at stop r old mid e q f new w)
 
   abbrev from-dest : Body (Destination Text × Tail)
-  from-dest = thenBody (level 15) destItem (tailBody deepestLevel)
+  from-dest = thenBody (level 15) destItem (tailBody the93)
 
   abbrev layRest : Destination Text × Tail → List ℕ → List ℕ
   layRest v l = layTail (v .1) (layDest (v .0) l)
 
-  continue-named : (new : List ℕ) → LeavesAll (λ v l. layRest (v .1) (layOrig (v .0) l)) Blames (bindBody (level 15) carried origItem (λ o. from-dest)) m at stop old new → LeavesAll layMessage Blames (continueBody deepestLevel) m at stop old new
+  continue-named : (new : List ℕ) → LeavesAll (λ v l. layRest (v .1) (layOrig (v .0) l)) Blames (bindBody (level 15) carried origItem (λ o. from-dest)) m at stop old new → LeavesAll layMessage Blames (continueBody the93) m at stop old new
   unfolding layMessage
   continue-named new w = map-left Blames to-continue (bindBody (level 15) carried origItem (λ o. from-dest)) (λ v l. layRest (v .1) (layOrig (v .0) l)) layMessage m at stop old new (λ v l. refl) w
 
-  pub continue-left-orig : Far r → LeavesAll layMessage Blames (continueBody deepestLevel) m at stop old mid
+  pub continue-left-orig : Far r → LeavesAll layMessage Blames (continueBody the93) m at stop old mid
   continue-left-orig f = continue-named mid (orig-left-far from-dest layRest m at stop r old mid e q f)
 
   module _ (near : Near r) (s : ℕ) (d : Reads destItem m r stop s) (laid : List ℕ) (u : Leaves layDest Blames destItem m r stop mid laid) where
-    pub continue-left-dest : Far s → LeavesAll layMessage Blames (continueBody deepestLevel) m at stop old laid
-    continue-left-dest f = continue-named laid (orig-left from-dest layRest m at stop r old mid e q near laid (dest-left-far (tailBody deepestLevel) layTail m r stop s mid laid d u f))
+    pub continue-left-dest : Far s → LeavesAll layMessage Blames (continueBody the93) m at stop old laid
+    continue-left-dest f = continue-named laid (orig-left from-dest layRest m at stop r old mid e q near laid (dest-left-far (tailBody the93) layTail m r stop s mid laid d u f))
 
-    pub continue-left : Near s → (new : List ℕ) → LeavesAll layTail Blames (tailBody deepestLevel) m s stop laid new → LeavesAll layMessage Blames (continueBody deepestLevel) m at stop old new
-    continue-left f new w = continue-named new (orig-left from-dest layRest m at stop r old mid e q near new (dest-left (tailBody deepestLevel) layTail m r stop s mid laid d u f new w))
+    pub continue-left : Near s → (new : List ℕ) → LeavesAll layTail Blames (tailBody the93) m s stop laid new → LeavesAll layMessage Blames (continueBody the93) m at stop old new
+    continue-left f new w = continue-named new (orig-left from-dest layRest m at stop r old mid e q near new (dest-left (tailBody the93) layTail m r stop s mid laid d u f new w))
 
 -- End and Abort
 
 module _ (m : List ℕ) (at stop r : ℕ) (e : Reads destItem m at stop r) (old mid : List ℕ) (q : Leaves layDest Blames destItem m at stop old mid) where
-  finish-named : (new : List ℕ) → LeavesAll (λ v l. layTail (v .1) (layDest (v .0) l)) Blames (thenBody (level 15) destItem (tailBody deepestLevel)) m at stop old new → LeavesAll layMessage Blames (endBody deepestLevel) m at stop old new
+  finish-named : (new : List ℕ) → LeavesAll (λ v l. layTail (v .1) (layDest (v .0) l)) Blames (thenBody (level 15) destItem (tailBody the93)) m at stop old new → LeavesAll layMessage Blames (endBody the93) m at stop old new
   unfolding layMessage
-  finish-named new w = map-left Blames (λ v. finish (v .0) (v .1 .0) (v .1 .1)) (thenBody (level 15) destItem (tailBody deepestLevel)) (λ v l. layTail (v .1) (layDest (v .0) l)) layMessage m at stop old new (λ v l. refl) w
+  finish-named new w = map-left Blames (λ v. finish (v .0) (v .1 .0) (v .1 .1)) (thenBody (level 15) destItem (tailBody the93)) (λ v l. layTail (v .1) (layDest (v .0) l)) layMessage m at stop old new (λ v l. refl) w
 
-  pub finish-left-far : Far r → LeavesAll layMessage Blames (endBody deepestLevel) m at stop old mid
-  finish-left-far f = finish-named mid (dest-left-far (tailBody deepestLevel) layTail m at stop r old mid e q f)
+  pub finish-left-far : Far r → LeavesAll layMessage Blames (endBody the93) m at stop old mid
+  finish-left-far f = finish-named mid (dest-left-far (tailBody the93) layTail m at stop r old mid e q f)
 
-  pub finish-left : Near r → (new : List ℕ) → LeavesAll layTail Blames (tailBody deepestLevel) m r stop mid new → LeavesAll layMessage Blames (endBody deepestLevel) m at stop old new
-  finish-left f new w = finish-named new (dest-left (tailBody deepestLevel) layTail m at stop r old mid e q f new w)
+  pub finish-left : Near r → (new : List ℕ) → LeavesAll layTail Blames (tailBody the93) m r stop mid new → LeavesAll layMessage Blames (endBody the93) m at stop old new
+  finish-left f new w = finish-named new (dest-left (tailBody the93) layTail m at stop r old mid e q f new w)
 
   abbrev ending : Body (Option (Ending Text))
   ending = lastBody (level 15) endingItem
@@ -292,12 +292,12 @@ module _ (m : List ℕ) (at stop r : ℕ) (e : Reads destItem m at stop r) (old 
   lasting none l = refl
   lasting (some s) l = refl
 
-  abort-named : (new : List ℕ) → LeavesAll (λ v l. layLast (v .1) (layDest (v .0) l)) Blames (thenBody (level 15) destItem ending) m at stop old new → LeavesAll layMessage Blames (abortBody deepestLevel) m at stop old new
+  abort-named : (new : List ℕ) → LeavesAll (λ v l. layLast (v .1) (layDest (v .0) l)) Blames (thenBody (level 15) destItem ending) m at stop old new → LeavesAll layMessage Blames (abortBody the93) m at stop old new
   unfolding layMessage
   abort-named new w = map-left Blames (λ v. abort (v .0) (Option·getD (v .1) silent)) (thenBody (level 15) destItem ending) (λ v l. layLast (v .1) (layDest (v .0) l)) layMessage m at stop old new (λ v l. lasting (v .1) (layDest (v .0) l)) w
 
-  pub abort-left-far : Far r → LeavesAll layMessage Blames (abortBody deepestLevel) m at stop old mid
+  pub abort-left-far : Far r → LeavesAll layMessage Blames (abortBody the93) m at stop old mid
   abort-left-far f = abort-named mid (dest-left-far ending layLast m at stop r old mid e q f)
 
-  pub abort-left : Near r → (new : List ℕ) → LeavesAll layLast Blames ending m r stop mid new → LeavesAll layMessage Blames (abortBody deepestLevel) m at stop old new
+  pub abort-left : Near r → (new : List ℕ) → LeavesAll layLast Blames ending m r stop mid new → LeavesAll layMessage Blames (abortBody the93) m at stop old new
   abort-left f new w = abort-named new (dest-left ending layLast m at stop r old mid e q f new w)

@@ -18,7 +18,7 @@ use Rattle.element.specs.Answers.{frontOf}
 use Rattle.element.specs.Ask.{Got, got, next, check, blamed, Head, Body, ask}
 use Rattle.element.specs.Parts.{Item, level, place, aroundItem, orItem}
 use Rattle.tcap.specs.Meaning.{Message, unidirectional, begin, finish, continue, abort}
-use Rattle.tcap.specs.WellFormed.{deepestLevel}
+use Rattle.tcap.specs.WellFormed.{the93}
 use Rattle.tcap.specs.Productions.{uniBody, beginBody, endBody, continueBody, abortBody, messageItem}
 use Rattle.tcap.specs.Reading.{learnt, aloneBody, readFirst, locatedUpTo}
 use Rattle.read_place.specs.Places.{Far, Near, until, finite, span, part, base, faultPlace, front, Placed, Reads, Finishes, Leads, standsOf, entryPlace, lengthPlace, lengthSize, octetsAfter, noMessage, overlong, cutOff, opening}
@@ -37,26 +37,26 @@ use Rattle.read_message.proofs.Portions.{carried-keeps}
 -- The contents by the tag
 
 module _ (tag : ℕ) where
-  pub body-begin : tag ≡ 98 → bodyOf tag ≡ beginBody deepestLevel
+  pub body-begin : tag ≡ 98 → bodyOf tag ≡ beginBody the93
   unfolding bodyOf
   body-begin e = rw (eq-eqb tag 98 e)
 
   module _ (a : tag ≡ 98 → ⊥) where
-    pub body-continue : tag ≡ 101 → bodyOf tag ≡ continueBody deepestLevel
+    pub body-continue : tag ≡ 101 → bodyOf tag ≡ continueBody the93
     unfolding bodyOf
     body-continue e = rw (ne-eqb tag 98 a, eq-eqb tag 101 e)
 
     module _ (b : tag ≡ 101 → ⊥) where
-      pub body-end : tag ≡ 100 → bodyOf tag ≡ endBody deepestLevel
+      pub body-end : tag ≡ 100 → bodyOf tag ≡ endBody the93
       unfolding bodyOf
       body-end e = rw (ne-eqb tag 98 a, ne-eqb tag 101 b, eq-eqb tag 100 e)
 
       module _ (c : tag ≡ 100 → ⊥) where
-        pub body-abort : tag ≡ 103 → bodyOf tag ≡ abortBody deepestLevel
+        pub body-abort : tag ≡ 103 → bodyOf tag ≡ abortBody the93
         unfolding bodyOf
         body-abort e = rw (ne-eqb tag 98 a, ne-eqb tag 101 b, ne-eqb tag 100 c, eq-eqb tag 103 e)
 
-        pub body-uni : (tag ≡ 103 → ⊥) → bodyOf tag ≡ uniBody deepestLevel
+        pub body-uni : (tag ≡ 103 → ⊥) → bodyOf tag ≡ uniBody the93
         unfolding bodyOf
         body-uni d = rw (ne-eqb tag 98 a, ne-eqb tag 101 b, ne-eqb tag 100 c, ne-eqb tag 103 d)
 
@@ -73,22 +73,22 @@ abbrev pub Lead : ℕ → Type 0
 Lead tag = Leads tag × (constructorOf tag ≡ true)
 
 abbrev pub kinds : Item (Message Text)
-kinds = messageItem deepestLevel
+kinds = messageItem the93
 
 abbrev a-uni : Item (Message Text)
-a-uni = aroundItem 97 (uniBody deepestLevel)
+a-uni = aroundItem 97 (uniBody the93)
 
 abbrev a-begin : Item (Message Text)
-a-begin = aroundItem 98 (beginBody deepestLevel)
+a-begin = aroundItem 98 (beginBody the93)
 
 abbrev an-end : Item (Message Text)
-an-end = aroundItem 100 (endBody deepestLevel)
+an-end = aroundItem 100 (endBody the93)
 
 abbrev a-continue : Item (Message Text)
-a-continue = aroundItem 101 (continueBody deepestLevel)
+a-continue = aroundItem 101 (continueBody the93)
 
 abbrev an-abort : Item (Message Text)
-an-abort = aroundItem 103 (abortBody deepestLevel)
+an-abort = aroundItem 103 (abortBody the93)
 
 abbrev from-continue : Item (Message Text)
 from-continue = orItem a-continue an-abort
@@ -132,21 +132,21 @@ module _ (m : List ℕ) (at stop : ℕ) (h : until stop ≤ length m) (here : at
   later x y t e q = or-right (level 1) FaultKind.Another x y (finite stop) at (part m at stop) refl (only-tag t e (x .mine) q)
 
   abbrev picked : Bool → Bool → Bool → Bool → Body (Message Text)
-  picked b d c e = cond b (beginBody deepestLevel) (cond d (continueBody deepestLevel) (cond c (endBody deepestLevel) (cond e (abortBody deepestLevel) (uniBody deepestLevel))))
+  picked b d c e = cond b (beginBody the93) (cond d (continueBody the93) (cond c (endBody the93) (cond e (abortBody the93) (uniBody the93))))
 
   named : (t : ℕ) → tag ≡ t → (b : Body (Message Text)) → asked (aroundItem t b) ≡ asked (aroundItem tag b)
   named t e b = rw e
 
   pick : (b d c e a : Bool) → eqb tag 98 ≡ b → eqb tag 101 ≡ d → eqb tag 100 ≡ c → eqb tag 103 ≡ e → eqb tag 97 ≡ a → (a || (b || (c || (d || e)))) ≡ true → asked kinds ≡ asked (aroundItem tag (picked b d c e))
-  pick true d c e a i j k l n o = let t : tag ≡ 98 = eqb-true tag 98 i in later a-uni from-begin 98 t refl ∙ this a-begin from-end 98 t refl ∙ named 98 t (beginBody deepestLevel)
+  pick true d c e a i j k l n o = let t : tag ≡ 98 = eqb-true tag 98 i in later a-uni from-begin 98 t refl ∙ this a-begin from-end 98 t refl ∙ named 98 t (beginBody the93)
   pick false true c e a i j k l n o =
       let t : tag ≡ 101 = eqb-true tag 101 j in
-      later a-uni from-begin 101 t refl ∙ later a-begin from-end 101 t refl ∙ later an-end from-continue 101 t refl ∙ this a-continue an-abort 101 t refl ∙ named 101 t (continueBody deepestLevel)
-  pick false false true e a i j k l n o = let t : tag ≡ 100 = eqb-true tag 100 k in later a-uni from-begin 100 t refl ∙ later a-begin from-end 100 t refl ∙ this an-end from-continue 100 t refl ∙ named 100 t (endBody deepestLevel)
+      later a-uni from-begin 101 t refl ∙ later a-begin from-end 101 t refl ∙ later an-end from-continue 101 t refl ∙ this a-continue an-abort 101 t refl ∙ named 101 t (continueBody the93)
+  pick false false true e a i j k l n o = let t : tag ≡ 100 = eqb-true tag 100 k in later a-uni from-begin 100 t refl ∙ later a-begin from-end 100 t refl ∙ this an-end from-continue 100 t refl ∙ named 100 t (endBody the93)
   pick false false false true a i j k l n o =
       let t : tag ≡ 103 = eqb-true tag 103 l in
-      later a-uni from-begin 103 t refl ∙ later a-begin from-end 103 t refl ∙ later an-end from-continue 103 t refl ∙ later a-continue an-abort 103 t refl ∙ named 103 t (abortBody deepestLevel)
-  pick false false false false true i j k l n o = let t : tag ≡ 97 = eqb-true tag 97 n in this a-uni from-begin 97 t refl ∙ named 97 t (uniBody deepestLevel)
+      later a-uni from-begin 103 t refl ∙ later a-begin from-end 103 t refl ∙ later an-end from-continue 103 t refl ∙ later a-continue an-abort 103 t refl ∙ named 103 t (abortBody the93)
+  pick false false false false true i j k l n o = let t : tag ≡ 97 = eqb-true tag 97 n in this a-uni from-begin 97 t refl ∙ named 97 t (uniBody the93)
   pick false false false false false i j k l n o = absurd (false≢true o)
 
   -- where the tag of a message stands, another fault of another tag does not matter
@@ -190,7 +190,7 @@ module _ (m : List ℕ) where
   plain-is : front (level 16) FaultKind.NoMessage kinds ≡ plain
   plain-is = ap (λ (g : Bool → Head → ℕ → List ℕ → Got (Message Text)). place (level 16) none (kinds .mine) FaultKind.NoMessage g) (fun-ext λ d. fun-ext λ h. fun-ext λ p. fun-ext λ part. blamed-same (kinds .contents h p part))
 
-  pub alone-is : ask (aloneBody deepestLevel kinds) true 0 m ≡ next (ask (front (level 16) FaultKind.NoMessage kinds) true 0 m) closing
+  pub alone-is : ask (aloneBody the93 kinds) true 0 m ≡ next (ask (front (level 16) FaultKind.NoMessage kinds) true 0 m) closing
   alone-is =
       ask-onto plain none (λ d p part v n. blamed (learnt v) (check (eqb n (length part)) (at FaultKind.OctetsAfter (p + n)) (got v n))) true 0 m (λ e. missing-both plain _ true 0 m _)
       ∙ ap (λ (b : Body (Message Text)). next (ask b true 0 m) closing) (sym plain-is)
@@ -199,15 +199,15 @@ module _ (m : List ℕ) where
     pub all-of-it : drop 0 (take (length m) m) ≡ m
     all-of-it = take-all (length m) m (omega arith)
 
-    pub first-is : readFirst deepestLevel kinds m ≡ check (kinds .mine (getD m 0 0)) (at FaultKind.NoMessage 0) (ask (aloneBody deepestLevel kinds) true 0 m)
+    pub first-is : readFirst the93 kinds m ≡ check (kinds .mine (getD m 0 0)) (at FaultKind.NoMessage 0) (ask (aloneBody the93 kinds) true 0 m)
     unfolding readFirst
     first-is = go m is
       where
-        go : (l : List ℕ) → len ≡ length l → readFirst deepestLevel kinds l ≡ check (kinds .mine (getD l 0 0)) (at FaultKind.NoMessage 0) (ask (aloneBody deepestLevel kinds) true 0 l)
+        go : (l : List ℕ) → len ≡ length l → readFirst the93 kinds l ≡ check (kinds .mine (getD l 0 0)) (at FaultKind.NoMessage 0) (ask (aloneBody the93 kinds) true 0 l)
         go [] e = absurd (omega (arith, e, some))
         go (a ∷ r) e = refl
 
-    pub alone-other : (b : Bool) → b ≡ kinds .mine (getD m 0 0) → b ≡ false → Answers m (readFirst deepestLevel kinds m) noMessage
+    pub alone-other : (b : Bool) → b ≡ kinds .mine (getD m 0 0) → b ≡ false → Answers m (readFirst the93 kinds m) noMessage
     unfolding check Placed faultPlace base
     alone-other b asked t = rw (first-is, ← asked, t)
 
@@ -229,7 +229,7 @@ module _ (m : List ℕ) where
           refl-finite : finite len ≡ true
           refl-finite = lt-ltb len opening (omega (arith, short))
 
-      pub opened : readFirst deepestLevel kinds m ≡ next (ask (front (level 16) FaultKind.NoMessage kinds) true 0 m) closing
+      pub opened : readFirst the93 kinds m ≡ next (ask (front (level 16) FaultKind.NoMessage kinds) true 0 m) closing
       unfolding check
       opened = first-is ∙ rw (← asked, told) alone-is
 
@@ -246,45 +246,45 @@ module _ (m : List ℕ) where
           let w : Placed 0 (length m) (ask (front (level 1) FaultKind.NoMessage kinds) true 0 m) r = rw (front-is, ← z) e in
           placed-where kinds FaultKind.NoMessage (level 16) (λ f. refl) true 0 m (length m) r refl w
 
-      far-on : (r : ℕ) → Reads (aroundItem (getD m 0 0) (bodyOf (getD m 0 0))) m 0 len r → Far r → Answers m (readFirst deepestLevel kinds m) r
+      far-on : (r : ℕ) → Reads (aroundItem (getD m 0 0) (bodyOf (getD m 0 0))) m 0 len r → Far r → Answers m (readFirst the93 kinds m) r
       far-on r e f = rw opened (next-far _ closing 0 (length m) r (lifted r e) 0 (length m) (omega (arith, is, short)) f)
 
-      pub alone-entry : Far inner → Answers m (readFirst deepestLevel kinds m) inner
+      pub alone-entry : Far inner → Answers m (readFirst the93 kinds m) inner
       alone-entry f = far-on inner (around-entry (getD m 0 0) (sound .0) (sound .1) (bodyOf (getD m 0 0)) m 0 len inner (omega arith) (inside .0) entry f) f
 
       module _ (near : Near inner) (st : ℕ) (start : st ≡ 1 + lengthSize (getD m 1 0)) (r : ℕ) (e : Finishes (bodyOf (getD m 0 0)) m st inner r) where
         pub whole : Reads (aroundItem (getD m 0 0) (bodyOf (getD m 0 0))) m 0 len r
         whole = around-read (getD m 0 0) (sound .0) (sound .1) (bodyOf (getD m 0 0)) m 0 len inner (omega arith) (inside .0) entry (omega (arith, is, short)) near st start r e
 
-        pub alone-far : Far r → Answers m (readFirst deepestLevel kinds m) r
+        pub alone-far : Far r → Answers m (readFirst the93 kinds m) r
         alone-far f = far-on r whole f
 
         module _ (f : Near r) where
-          pub alone-all : r ≡ len → Answers m (readFirst deepestLevel kinds m) r
+          pub alone-all : r ≡ len → Answers m (readFirst the93 kinds m) r
           unfolding check Placed
           alone-all t = rw opened (next-near _ closing 0 (length m) r (lifted r whole) 0 (length m) r f (λ v n i z.
               placed-blamed (learnt v) (learnt-keeps v) _ 0 (length m) r (let q : n ≡ length m = omega (arith, z, t, is) in rw (eq-eqb n (length m) q) (omega (arith, z), omega (arith, t, is)))))
 
-          pub alone-after : (r ≡ len → ⊥) → Answers m (readFirst deepestLevel kinds m) (octetsAfter + r)
+          pub alone-after : (r ≡ len → ⊥) → Answers m (readFirst the93 kinds m) (octetsAfter + r)
           unfolding check Placed faultPlace base
           alone-after t = rw opened (next-near _ closing 0 (length m) r (lifted r whole) 0 (length m) (octetsAfter + r) f (λ v n i z.
               placed-blamed (learnt v) (learnt-keeps v) _ 0 (length m) (octetsAfter + r) (rw (ne-eqb n (length m) (λ q. t (omega (arith, q, z, is)))) (omega (arith, z)))))
 
   -- any octets
   module _ (len : ℕ) (is : len ≡ length m) where
-    pub message-long : 255 < len → Answers m (locatedUpTo deepestLevel m) (overlong + 255)
+    pub message-long : 255 < len → Answers m (locatedUpTo the93 m) (overlong + 255)
     unfolding locatedUpTo check Placed faultPlace base
     message-long l = rw (lt-leb (length m) 255 (omega (arith, l, is)))
 
     module _ (short : len ≤ 255) where
-      pub message-none : len ≡ 0 → Answers m (locatedUpTo deepestLevel m) cutOff
+      pub message-none : len ≡ 0 → Answers m (locatedUpTo the93 m) cutOff
       unfolding locatedUpTo readFirst check Placed faultPlace base
       message-none z = go m (sym is ∙ z)
         where
-          go : (l : List ℕ) → length l ≡ 0 → Placed 0 (length m) (check (leb (length l) 255) (at FaultKind.Overlong 255) (readFirst deepestLevel kinds l)) cutOff
+          go : (l : List ℕ) → length l ≡ 0 → Placed 0 (length m) (check (leb (length l) 255) (at FaultKind.Overlong 255) (readFirst the93 kinds l)) cutOff
           go [] e = refl
           go (a ∷ r) e = absurd (omega (arith, e))
 
-      pub message-first : (r : ℕ) → Answers m (readFirst deepestLevel kinds m) r → Answers m (locatedUpTo deepestLevel m) r
+      pub message-first : (r : ℕ) → Answers m (readFirst the93 kinds m) r → Answers m (locatedUpTo the93 m) r
       unfolding locatedUpTo check
       message-first r e = rw (le-leb (length m) 255 (omega (arith, short, is))) e

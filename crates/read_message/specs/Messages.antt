@@ -4,24 +4,24 @@ use Prim.Native.Nat.{ℕ}
 use mathlib.Core.{Path._≡_, Bool.Bool, Bool.true, Bool.false, Bool.cond, List.List, Option.Option, Option.none, Option.some}
 use lib.{ListN.length, Dec.eqb}
 use Rattle.element.specs.{Fault.Text, Ask.Got, Ask.Body, Parts.Item, Parts.lastBody, Parts.mapItem, Parts.orItem}
-use Rattle.tcap.specs.{Meaning.Ending, Meaning.cause, Meaning.says, Meaning.Component, Meaning.Dialogue, Meaning.Message, WellFormed.deepestLevel, Productions.octetItem, Productions.levelAt, Productions.componentsItem, Productions.dialogueItem, Productions.uniBody, Productions.beginBody, Productions.endBody, Productions.continueBody, Productions.abortBody}
+use Rattle.tcap.specs.{Meaning.Ending, Meaning.cause, Meaning.says, Meaning.Component, Meaning.Dialogue, Meaning.Message, WellFormed.the93, Productions.octetItem, Productions.levelAt, Productions.componentsItem, Productions.dialogueItem, Productions.uniBody, Productions.beginBody, Productions.endBody, Productions.continueBody, Productions.abortBody}
 use Rattle.read_place.specs.{Places.Placed, Places.standsOf, Leaves.Leaves, Laying.layComponents, Laying.layDialogue, Laying.layPortion, Laying.layEnding, Blames.Blames}
 
 -- 6C or nothing, to the end of the contents
 abbrev pub componentsBody : Body (Option (List (Component Text)))
-componentsBody = lastBody (levelAt deepestLevel 2) (componentsItem deepestLevel)
+componentsBody = lastBody (levelAt the93 2) (componentsItem the93)
 
 -- what an Abort ends with, if anything: 4A or 6B
 abbrev pub endingItem : Item (Ending Text)
-endingItem = orItem (mapItem cause (octetItem 0x4A 4)) (mapItem says (dialogueItem deepestLevel))
+endingItem = orItem (mapItem cause (octetItem 0x4A 4)) (mapItem says (dialogueItem the93))
 
 -- the contents of a message by its tag
 unfoldable pub bodyOf : ℕ → Body (Message Text)
 bodyOf a =
-    cond (eqb a 0x62) (beginBody deepestLevel)
-    (cond (eqb a 0x65) (continueBody deepestLevel)
-    (cond (eqb a 0x64) (endBody deepestLevel)
-    (cond (eqb a 0x67) (abortBody deepestLevel) (uniBody deepestLevel))))
+    cond (eqb a 0x62) (beginBody the93)
+    (cond (eqb a 0x65) (continueBody the93)
+    (cond (eqb a 0x64) (endBody the93)
+    (cond (eqb a 0x67) (abortBody the93) (uniBody the93))))
 
 -- a message that is all there is: how many octets, or the first fault
 abbrev pub Answers : List ℕ → Got (Message Text) → ℕ → Type 0
@@ -42,7 +42,7 @@ layLast (some e) l = layEnding e l
 
 -- 6B where it stands; where it does not, the octets are as they were
 unfoldable pub Lays : Bool → List ℕ → ℕ → ℕ → List ℕ → List ℕ → Type 0
-Lays true m at stop old new = Leaves layDialogue Blames (dialogueItem deepestLevel) m at stop old new
+Lays true m at stop old new = Leaves layDialogue Blames (dialogueItem the93) m at stop old new
 Lays false m at stop old new = new ≡ old
 
 abbrev pub LaysPast : List ℕ → ℕ → ℕ → List ℕ → List ℕ → Type 0

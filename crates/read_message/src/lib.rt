@@ -9,7 +9,7 @@ ghost use Rattle.read_place.specs.Leaves.{Left, Leaves, LeavesAll};
 ghost use Rattle.read_place.specs.Laying.{layOrig, layDest, layComponents, layEnding, layMessage, layAccepted};
 ghost use Rattle.read_place.specs.Blames.{Blames};
 ghost use Rattle.read_dialogue.specs.Dialogues.{Passes};
-ghost use Rattle.tcap.specs.WellFormed.{deepestLevel};
+ghost use Rattle.tcap.specs.WellFormed.{the93};
 ghost use Rattle.tcap.specs.Reading.{readFirst, locatedUpTo};
 ghost use Rattle.tcap.specs.Productions.{levelAt, origItem, destItem, componentsItem, dialogueItem, tailBody, uniBody, beginBody, endBody, continueBody, abortBody, messageItem};
 ghost use Rattle.read_message.specs.Messages.{componentsBody, endingItem, bodyOf, Answers, layListed, layTail, layLast, LaysPast};
@@ -75,8 +75,8 @@ fn dest_at(m: &[u8], at: usize, stop: usize, out: &mut [u8]) -> usize
 // 6C around components.
 fn components_at(m: &[u8], at: usize, stop: usize, out: &mut [u8]) -> usize
     requires { ⌜ Ready (now m) at stop × (length (now out) ≡ 428) ⌝ }
-    ensures { λ r. ⌜ Reads (componentsItem deepestLevel) (now (m .entry)) at stop r ⌝ }
-    ensures { λ _. ⌜ Leaves layComponents Blames (componentsItem deepestLevel) (now (m .entry)) at stop (now (out .entry)) (now (out .exit)) ⌝ }
+    ensures { λ r. ⌜ Reads (componentsItem the93) (now (m .entry)) at stop r ⌝ }
+    ensures { λ _. ⌜ Leaves layComponents Blames (componentsItem the93) (now (m .entry)) at stop (now (out .entry)) (now (out .exit)) ⌝ }
 {
     let inner = entry_at(m, at, stop, 0x6C);
     if inner >= FAULT {
@@ -108,7 +108,7 @@ fn last_components_at(m: &[u8], at: usize, stop: usize, out: &mut [u8]) -> usize
 // The place behind 6B, if it stands here.
 fn past_dialogue(m: &[u8], at: usize, stop: usize, out: &mut [u8]) -> usize
     requires { ⌜ Ready (now m) at stop × (length (now out) ≡ 428) ⌝ }
-    ensures { λ r. ⌜ Passes 0x6B (dialogueItem deepestLevel) (now (m .entry)) at stop r ⌝ }
+    ensures { λ r. ⌜ Passes 0x6B (dialogueItem the93) (now (m .entry)) at stop r ⌝ }
     ensures { λ _. ⌜ LaysPast (now (m .entry)) at stop (now (out .entry)) (now (out .exit)) ⌝ }
 {
     if stands(m, at, stop, 0x6B) {
@@ -120,8 +120,8 @@ fn past_dialogue(m: &[u8], at: usize, stop: usize, out: &mut [u8]) -> usize
 // What follows the IDs: 6B or none, 6C or none.
 fn tail_at(m: &[u8], at: usize, stop: usize, out: &mut [u8]) -> usize
     requires { ⌜ Ready (now m) at stop × (length (now out) ≡ 428) ⌝ }
-    ensures { λ r. ⌜ Finishes (tailBody deepestLevel) (now (m .entry)) at stop r ⌝ }
-    ensures { λ _. ⌜ LeavesAll layTail Blames (tailBody deepestLevel) (now (m .entry)) at stop (now (out .entry)) (now (out .exit)) ⌝ }
+    ensures { λ r. ⌜ Finishes (tailBody the93) (now (m .entry)) at stop r ⌝ }
+    ensures { λ _. ⌜ LeavesAll layTail Blames (tailBody the93) (now (m .entry)) at stop (now (out .entry)) (now (out .exit)) ⌝ }
 {
     let r = past_dialogue(m, at, stop, out);
     if r >= FAULT {
@@ -133,8 +133,8 @@ fn tail_at(m: &[u8], at: usize, stop: usize, out: &mut [u8]) -> usize
 // The contents of a Unidirectional.
 fn uni_at(m: &[u8], at: usize, stop: usize, out: &mut [u8]) -> usize
     requires { ⌜ Ready (now m) at stop × (length (now out) ≡ 428) ⌝ }
-    ensures { λ r. ⌜ Finishes (uniBody deepestLevel) (now (m .entry)) at stop r ⌝ }
-    ensures { λ _. ⌜ LeavesAll layMessage Blames (uniBody deepestLevel) (now (m .entry)) at stop (now (out .entry)) (now (out .exit)) ⌝ }
+    ensures { λ r. ⌜ Finishes (uniBody the93) (now (m .entry)) at stop r ⌝ }
+    ensures { λ _. ⌜ LeavesAll layMessage Blames (uniBody the93) (now (m .entry)) at stop (now (out .entry)) (now (out .exit)) ⌝ }
 {
     let r = past_dialogue(m, at, stop, out);
     if r >= FAULT {
@@ -154,8 +154,8 @@ fn uni_at(m: &[u8], at: usize, stop: usize, out: &mut [u8]) -> usize
 // The contents of a Begin.
 fn begin_at(m: &[u8], at: usize, stop: usize, out: &mut [u8]) -> usize
     requires { ⌜ Ready (now m) at stop × (length (now out) ≡ 428) ⌝ }
-    ensures { λ r. ⌜ Finishes (beginBody deepestLevel) (now (m .entry)) at stop r ⌝ }
-    ensures { λ _. ⌜ LeavesAll layMessage Blames (beginBody deepestLevel) (now (m .entry)) at stop (now (out .entry)) (now (out .exit)) ⌝ }
+    ensures { λ r. ⌜ Finishes (beginBody the93) (now (m .entry)) at stop r ⌝ }
+    ensures { λ _. ⌜ LeavesAll layMessage Blames (beginBody the93) (now (m .entry)) at stop (now (out .entry)) (now (out .exit)) ⌝ }
 {
     let r = orig_at(m, at, stop, out);
     if r >= FAULT {
@@ -167,8 +167,8 @@ fn begin_at(m: &[u8], at: usize, stop: usize, out: &mut [u8]) -> usize
 // The contents of an End.
 fn end_at(m: &[u8], at: usize, stop: usize, out: &mut [u8]) -> usize
     requires { ⌜ Ready (now m) at stop × (length (now out) ≡ 428) ⌝ }
-    ensures { λ r. ⌜ Finishes (endBody deepestLevel) (now (m .entry)) at stop r ⌝ }
-    ensures { λ _. ⌜ LeavesAll layMessage Blames (endBody deepestLevel) (now (m .entry)) at stop (now (out .entry)) (now (out .exit)) ⌝ }
+    ensures { λ r. ⌜ Finishes (endBody the93) (now (m .entry)) at stop r ⌝ }
+    ensures { λ _. ⌜ LeavesAll layMessage Blames (endBody the93) (now (m .entry)) at stop (now (out .entry)) (now (out .exit)) ⌝ }
 {
     let r = dest_at(m, at, stop, out);
     if r >= FAULT {
@@ -180,8 +180,8 @@ fn end_at(m: &[u8], at: usize, stop: usize, out: &mut [u8]) -> usize
 // The contents of a Continue.
 fn continue_at(m: &[u8], at: usize, stop: usize, out: &mut [u8]) -> usize
     requires { ⌜ Ready (now m) at stop × (length (now out) ≡ 428) ⌝ }
-    ensures { λ r. ⌜ Finishes (continueBody deepestLevel) (now (m .entry)) at stop r ⌝ }
-    ensures { λ _. ⌜ LeavesAll layMessage Blames (continueBody deepestLevel) (now (m .entry)) at stop (now (out .entry)) (now (out .exit)) ⌝ }
+    ensures { λ r. ⌜ Finishes (continueBody the93) (now (m .entry)) at stop r ⌝ }
+    ensures { λ _. ⌜ LeavesAll layMessage Blames (continueBody the93) (now (m .entry)) at stop (now (out .entry)) (now (out .exit)) ⌝ }
 {
     let r = orig_at(m, at, stop, out);
     if r >= FAULT {
@@ -215,8 +215,8 @@ fn ending_at(m: &[u8], at: usize, stop: usize, out: &mut [u8]) -> usize
 // The same or nothing, and nothing more: the place behind the contents.
 fn last_ending_at(m: &[u8], at: usize, stop: usize, out: &mut [u8]) -> usize
     requires { ⌜ Ready (now m) at stop × (length (now out) ≡ 428) ⌝ }
-    ensures { λ r. ⌜ Finishes (lastBody (levelAt deepestLevel 2) endingItem) (now (m .entry)) at stop r ⌝ }
-    ensures { λ _. ⌜ LeavesAll layLast Blames (lastBody (levelAt deepestLevel 2) endingItem) (now (m .entry)) at stop (now (out .entry)) (now (out .exit)) ⌝ }
+    ensures { λ r. ⌜ Finishes (lastBody (levelAt the93 2) endingItem) (now (m .entry)) at stop r ⌝ }
+    ensures { λ _. ⌜ LeavesAll layLast Blames (lastBody (levelAt the93 2) endingItem) (now (m .entry)) at stop (now (out .entry)) (now (out .exit)) ⌝ }
 {
     if ended(m, at, stop) {
         return behind(at, stop);
@@ -235,8 +235,8 @@ fn last_ending_at(m: &[u8], at: usize, stop: usize, out: &mut [u8]) -> usize
 // The contents of an Abort.
 fn abort_at(m: &[u8], at: usize, stop: usize, out: &mut [u8]) -> usize
     requires { ⌜ Ready (now m) at stop × (length (now out) ≡ 428) ⌝ }
-    ensures { λ r. ⌜ Finishes (abortBody deepestLevel) (now (m .entry)) at stop r ⌝ }
-    ensures { λ _. ⌜ LeavesAll layMessage Blames (abortBody deepestLevel) (now (m .entry)) at stop (now (out .entry)) (now (out .exit)) ⌝ }
+    ensures { λ r. ⌜ Finishes (abortBody the93) (now (m .entry)) at stop r ⌝ }
+    ensures { λ _. ⌜ LeavesAll layMessage Blames (abortBody the93) (now (m .entry)) at stop (now (out .entry)) (now (out .exit)) ⌝ }
 {
     let r = dest_at(m, at, stop, out);
     if r >= FAULT {
@@ -268,7 +268,7 @@ fn contents_at(m: &[u8], at: usize, stop: usize, tag: u8, out: &mut [u8]) -> usi
 
 // Whether a first octet is the tag of a message.
 fn is_message(first: u8) -> bool
-    ensures { λ r. ⌜ r ≡ messageItem deepestLevel .mine first ⌝ }
+    ensures { λ r. ⌜ r ≡ messageItem the93 .mine first ⌝ }
 {
     if first == 0x61 {
         return true;
@@ -288,8 +288,8 @@ fn is_message(first: u8) -> bool
 // A message that is all there is: how many octets, or the first fault.
 fn alone_at(m: &[u8], len: usize, out: &mut [u8]) -> usize
     requires { ⌜ (len ≡ length (now m)) × (1 ≤ len) × (len ≤ 255) × (length (now out) ≡ 428) ⌝ }
-    ensures { λ r. ⌜ Answers (now (m .entry)) (readFirst deepestLevel (messageItem deepestLevel) (now (m .entry))) r ⌝ }
-    ensures { λ _. ⌜ Left layAccepted Blames (readFirst deepestLevel (messageItem deepestLevel) (now (m .entry))) (now (out .entry)) (now (out .exit)) ⌝ }
+    ensures { λ r. ⌜ Answers (now (m .entry)) (readFirst the93 (messageItem the93) (now (m .entry))) r ⌝ }
+    ensures { λ _. ⌜ Left layAccepted Blames (readFirst the93 (messageItem the93) (now (m .entry))) (now (out .entry)) (now (out .exit)) ⌝ }
 {
     let tag = m[0];
     if is_message(tag) {
@@ -313,8 +313,8 @@ fn alone_at(m: &[u8], len: usize, out: &mut [u8]) -> usize
 // The same of any octets.
 pub fn message_at(m: &[u8], out: &mut [u8]) -> usize
     requires { ⌜ length (now out) ≡ 428 ⌝ }
-    ensures { λ r. ⌜ Answers (now (m .entry)) (locatedUpTo deepestLevel (now (m .entry))) r ⌝ }
-    ensures { λ _. ⌜ Left layAccepted Blames (locatedUpTo deepestLevel (now (m .entry))) (now (out .entry)) (now (out .exit)) ⌝ }
+    ensures { λ r. ⌜ Answers (now (m .entry)) (locatedUpTo the93 (now (m .entry))) r ⌝ }
+    ensures { λ _. ⌜ Left layAccepted Blames (locatedUpTo the93 (now (m .entry))) (now (out .entry)) (now (out .exit)) ⌝ }
 {
     let len = m.len();
     if len > 255 {

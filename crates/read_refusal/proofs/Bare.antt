@@ -21,7 +21,7 @@ use Rattle.element.specs.Parts.{Item, Where, level, firstOf, leafContents, leaf
 use Rattle.element.specs.Walk.{walkPick, walkContents, anyTag, elementOf}
 use Rattle.tcap.specs.declared.{Problem.Problem, Diagnostic.Diagnostic}
 use Rattle.tcap.specs.Meaning.{dest, Code, local, global, Component, invoke, last, notLast, error, reject, Dialogue, request, unidialogue, response, aborted, single, octets, structured, unstructured, version, cause, says}
-use Rattle.tcap.specs.WellFormed.{mostComponents, leftAt, idOk}
+use Rattle.tcap.specs.WellFormed.{Rules, mostComponents, leftAt, idOk}
 use Rattle.tcap.specs.Productions.{single?, octetItem, idItem, nameItem, codeItem, problemItem, destItem, noted, versionBody, levelAt, parameterItem, codeBody, resultBody, rejectBody, componentItem, componentAt, componentsItem, infoBody, contextItem, askedItem, numberItem, sourceItem, answeredItem, abortedItem, heldItem, externalBody, inside6B, dialogueItem, tailBody}
 use Rattle.tcap.proofs.Places.{origOf}
 
@@ -221,83 +221,83 @@ version-bare s = named-bare (λ v. v .1) (opt-bare (leaf-bare 0x80 (same version
 noted-bare : {B : Type 0} {y : Body B} (l : ℕ) → Bare y → Bare (bindBody (level l) noted idItem (λ i. y))
 noted-bare l t = bind-bare (level l) noted (λ f e. e) (λ a. spares-invoke (some a)) (integer-bare 0x02 1) (λ i. t)
 
-module _ (limit : ℕ) where
-  parameter-bare : (n : ℕ) → BareItem (parameterItem limit n)
-  parameter-bare n = walk-bare _ (leftAt limit n)
+module _ (rules : Rules) where
+  parameter-bare : (n : ℕ) → BareItem (parameterItem rules n)
+  parameter-bare n = walk-bare _ (leftAt rules n)
 
-  code-body-bare : Bare (codeBody limit)
-  code-body-bare = then-bare (leftAt limit 4) code-bare (last-bare (leftAt limit 4) (parameter-bare 4))
+  code-body-bare : Bare (codeBody rules)
+  code-body-bare = then-bare (leftAt rules 4) code-bare (last-bare (leftAt rules 4) (parameter-bare 4))
 
-  result-bare : (f : ℤ → Option (Code Text × Text) → Component Text) → Bare (resultBody limit f)
+  result-bare : (f : ℤ → Option (Code Text × Text) → Component Text) → Bare (resultBody rules f)
   result-bare f =
-      named-bare (λ v. f (v .0) (v .1)) (noted-bare (leftAt limit 4) (last-bare (leftAt limit 4)
-      (around-bare 0x30 (then-bare (leftAt limit 5) code-bare (only-bare (levelAt limit 5) (λ f e. e) (parameter-bare 5))))))
+      named-bare (λ v. f (v .0) (v .1)) (noted-bare (leftAt rules 4) (last-bare (leftAt rules 4)
+      (around-bare 0x30 (then-bare (leftAt rules 5) code-bare (only-bare (levelAt rules 5) (λ f e. e) (parameter-bare 5))))))
 
-  reject-bare : Bare (rejectBody limit)
+  reject-bare : Bare (rejectBody rules)
   reject-bare =
       named-bare (λ v. reject (v .0) (v .1))
-      (bind-bare (levelAt limit 4) withInvokeId (λ f e. e) spares-invoke (or-bare (map-bare some (integer-bare 0x02 1)) (map-bare (λ v. none) (leaf-bare 0x05 (same []))))
-      (λ i. only-bare (levelAt limit 4) (λ f e. e) problem-bare))
+      (bind-bare (levelAt rules 4) withInvokeId (λ f e. e) spares-invoke (or-bare (map-bare some (integer-bare 0x02 1)) (map-bare (λ v. none) (leaf-bare 0x05 (same []))))
+      (λ i. only-bare (levelAt rules 4) (λ f e. e) problem-bare))
 
-  component-bare : BareItem (componentItem limit)
+  component-bare : BareItem (componentItem rules)
   component-bare =
-      or-bare (around-bare 0xA1 (named-bare (λ v. invoke (v .0) (v .1 .0) (v .1 .1 .0) (v .1 .1 .1)) (noted-bare (leftAt limit 4) (opt-bare (integer-bare 0x80 1) code-body-bare))))
+      or-bare (around-bare 0xA1 (named-bare (λ v. invoke (v .0) (v .1 .0) (v .1 .1 .0) (v .1 .1 .1)) (noted-bare (leftAt rules 4) (opt-bare (integer-bare 0x80 1) code-body-bare))))
       (or-bare (around-bare 0xA2 (result-bare last))
-      (or-bare (around-bare 0xA3 (named-bare (λ v. error (v .0) (v .1 .0) (v .1 .1)) (noted-bare (leftAt limit 4) code-body-bare)))
+      (or-bare (around-bare 0xA3 (named-bare (λ v. error (v .0) (v .1 .0) (v .1 .1)) (noted-bare (leftAt rules 4) code-body-bare)))
       (or-bare (around-bare 0xA4 reject-bare)
       (around-bare 0xA7 (result-bare notLast)))))
 
-  pub components-bare : BareItem (componentsItem limit)
-  components-bare = around-bare 0x6C (series-bare (componentAt limit) FaultKind.UnknownComponent spares-component component-bare none mostComponents 0)
+  pub components-bare : BareItem (componentsItem rules)
+  components-bare = around-bare 0x6C (series-bare (componentAt rules) FaultKind.UnknownComponent spares-component component-bare none mostComponents 0)
 
-  info-bare : Bare (infoBody limit)
-  info-bare = last-bare (leftAt limit 6) (kept-bare 0xBE (λ n. series-bare (λ k. levelAt limit 7) FaultKind.Another (λ k f e. e) (walk-bare _ (leftAt limit 7)) (some []) n 0))
+  info-bare : Bare (infoBody rules)
+  info-bare = last-bare (leftAt rules 6) (kept-bare 0xBE (λ n. series-bare (λ k. levelAt rules 7) FaultKind.Another (λ k f e. e) (walk-bare _ (leftAt rules 7)) (some []) n 0))
 
-  context-bare : BareItem (contextItem limit)
-  context-bare = around-bare 0xA1 (only-bare (levelAt limit 7) (λ f e. e) name-bare)
+  context-bare : BareItem (contextItem rules)
+  context-bare = around-bare 0xA1 (only-bare (levelAt rules 7) (λ f e. e) name-bare)
 
-  asked-bare : (f : Text → Option Text → Dialogue Text) → BareItem (askedItem limit f)
-  asked-bare f = around-bare 0x60 (named-bare (λ v. f (v .0) (v .1)) (version-bare (then-bare (leftAt limit 6) context-bare info-bare)))
+  asked-bare : (f : Text → Option Text → Dialogue Text) → BareItem (askedItem rules f)
+  asked-bare f = around-bare 0x60 (named-bare (λ v. f (v .0) (v .1)) (version-bare (then-bare (leftAt rules 6) context-bare info-bare)))
 
-  number-bare : (t n most : ℕ) → BareItem (numberItem limit t n most)
-  number-bare t n most = around-bare t (only-bare (levelAt limit n) (λ f e. e) (octet-bare 0x02 most))
+  number-bare : (t n most : ℕ) → BareItem (numberItem rules t n most)
+  number-bare t n most = around-bare t (only-bare (levelAt rules n) (λ f e. e) (octet-bare 0x02 most))
 
-  source-bare : BareItem (sourceItem limit)
-  source-bare = around-bare 0xA3 (only-bare (levelAt limit 7) (λ f e. e) (or-bare (map-bare Diagnostic.ByUser (number-bare 0xA1 8 2)) (map-bare Diagnostic.ByProvider (number-bare 0xA2 8 2))))
+  source-bare : BareItem (sourceItem rules)
+  source-bare = around-bare 0xA3 (only-bare (levelAt rules 7) (λ f e. e) (or-bare (map-bare Diagnostic.ByUser (number-bare 0xA1 8 2)) (map-bare Diagnostic.ByProvider (number-bare 0xA2 8 2))))
 
-  answered-bare : BareItem (answeredItem limit)
+  answered-bare : BareItem (answeredItem rules)
   answered-bare =
       around-bare 0x61
       (named-bare (λ v. response (v .0) (v .1 .0) (v .1 .1 .0) (v .1 .1 .1))
-      (version-bare (then-bare (leftAt limit 6) context-bare (then-bare (leftAt limit 6) (number-bare 0xA2 7 1) (then-bare (leftAt limit 6) source-bare info-bare)))))
+      (version-bare (then-bare (leftAt rules 6) context-bare (then-bare (leftAt rules 6) (number-bare 0xA2 7 1) (then-bare (leftAt rules 6) source-bare info-bare)))))
 
-  aborted-bare : BareItem (abortedItem limit)
-  aborted-bare = around-bare 0x64 (named-bare (λ v. aborted (v .0) (v .1)) (then-bare (leftAt limit 6) (octet-bare 0x80 1) info-bare))
+  aborted-bare : BareItem (abortedItem rules)
+  aborted-bare = around-bare 0x64 (named-bare (λ v. aborted (v .0) (v .1)) (then-bare (leftAt rules 6) (octet-bare 0x80 1) info-bare))
 
-  held-bare : (n : Text) (s u : Bool) → BareItem (heldItem limit n s u)
-  held-bare n true u = around-bare 0xA0 (only-bare (levelAt limit 5) (λ f e. e) (or-bare (asked-bare request) (or-bare answered-bare aborted-bare)))
-  held-bare n false true = around-bare 0xA0 (only-bare (levelAt limit 5) (λ f e. e) (asked-bare unidialogue))
+  held-bare : (n : Text) (s u : Bool) → BareItem (heldItem rules n s u)
+  held-bare n true u = around-bare 0xA0 (only-bare (levelAt rules 5) (λ f e. e) (or-bare (asked-bare request) (or-bare answered-bare aborted-bare)))
+  held-bare n false true = around-bare 0xA0 (only-bare (levelAt rules 5) (λ f e. e) (asked-bare unidialogue))
   held-bare n false false =
-      or-bare (map-bare (single n) (around-bare 0xA0 (only-bare (levelAt limit 5) (λ f e. e) (parameter-bare 5)))) (map-bare (octets n) (leaf-bare 0x81 (λ c. true)))
+      or-bare (map-bare (single n) (around-bare 0xA0 (only-bare (levelAt rules 5) (λ f e. e) (parameter-bare 5)))) (map-bare (octets n) (leaf-bare 0x81 (λ c. true)))
 
-  external-bare : Bare (externalBody limit)
+  external-bare : Bare (externalBody rules)
   external-bare =
       named-bare (λ v. v .1)
-      (bind-bare (levelAt limit 4) silently (λ f e. e) (λ a f e. e) name-bare (λ n. only-bare (levelAt limit 4) (λ f e. e) (held-bare n (same structured (n .1)) (same unstructured (n .1)))))
+      (bind-bare (levelAt rules 4) silently (λ f e. e) (λ a f e. e) name-bare (λ n. only-bare (levelAt rules 4) (λ f e. e) (held-bare n (same structured (n .1)) (same unstructured (n .1)))))
 
-  pub dialogue-bare : BareItem (dialogueItem limit)
-  dialogue-bare = around-bare 0x6B (only-bare (inside6B limit) spares-dialogue (around-bare 0x28 external-bare))
+  pub dialogue-bare : BareItem (dialogueItem rules)
+  dialogue-bare = around-bare 0x6B (only-bare (inside6B rules) spares-dialogue (around-bare 0x28 external-bare))
 
-  pub tail-bare : Bare (tailBody limit)
-  tail-bare = opt-bare dialogue-bare (named-bare (λ v. Option·getD v []) (last-bare (leftAt limit 2) components-bare))
+  pub tail-bare : Bare (tailBody rules)
+  tail-bare = opt-bare dialogue-bare (named-bare (λ v. Option·getD v []) (last-bare (leftAt rules 2) components-bare))
 
   -- the parts of the messages that have no originating ID
 
-  pub uni-bare : Bare (optBody (dialogueItem limit) (onlyBody (levelAt limit 2) (componentsItem limit)))
-  uni-bare = opt-bare dialogue-bare (only-bare (levelAt limit 2) (λ f e. e) components-bare)
+  pub uni-bare : Bare (optBody (dialogueItem rules) (onlyBody (levelAt rules 2) (componentsItem rules)))
+  uni-bare = opt-bare dialogue-bare (only-bare (levelAt rules 2) (λ f e. e) components-bare)
 
-  pub end-bare : Bare (thenBody (levelAt limit 2) destItem (tailBody limit))
-  end-bare = then-bare (leftAt limit 2) (map-bare dest (leaf-bare 0x49 idOk)) tail-bare
+  pub end-bare : Bare (thenBody (levelAt rules 2) destItem (tailBody rules))
+  end-bare = then-bare (leftAt rules 2) (map-bare dest (leaf-bare 0x49 idOk)) tail-bare
 
-  pub abort-bare : Bare (thenBody (levelAt limit 2) destItem (lastBody (levelAt limit 2) (orItem (mapItem cause (octetItem 0x4A 4)) (mapItem says (dialogueItem limit)))))
-  abort-bare = then-bare (leftAt limit 2) (map-bare dest (leaf-bare 0x49 idOk)) (last-bare (leftAt limit 2) (or-bare (map-bare cause (octet-bare 0x4A 4)) (map-bare says dialogue-bare)))
+  pub abort-bare : Bare (thenBody (levelAt rules 2) destItem (lastBody (levelAt rules 2) (orItem (mapItem cause (octetItem 0x4A 4)) (mapItem says (dialogueItem rules)))))
+  abort-bare = then-bare (leftAt rules 2) (map-bare dest (leaf-bare 0x49 idOk)) (last-bare (leftAt rules 2) (or-bare (map-bare cause (octet-bare 0x4A 4)) (map-bare says dialogue-bare)))

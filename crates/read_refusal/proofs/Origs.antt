@@ -23,7 +23,7 @@ use Rattle.element.proofs.Asking.{Then, the-fact, fact, then-next, then-blamed,
 use Rattle.element.proofs.Reading.{definite-size}
 use Rattle.tcap.specs.declared.OptionalOrig.{OptionalOrig}
 use Rattle.tcap.specs.Meaning.{Originating, orig, Message, unidirectional, begin, finish, continue, abort, silent}
-use Rattle.tcap.specs.WellFormed.{deepestLevel, idOk}
+use Rattle.tcap.specs.WellFormed.{the93, idOk}
 use Rattle.tcap.specs.Productions.{origItem, destItem, carried, tailBody, uniBody, beginBody, endBody, continueBody, abortBody, messageItem}
 use Rattle.tcap.specs.Record.{origField}
 use Rattle.tcap.specs.Reading.{learnt, readFirst, locatedUpTo}
@@ -43,22 +43,22 @@ use Rattle.read_refusal.specs.Told.{Ided, OrigTold}
 use Rattle.read_refusal.proofs.Bare.{Said, Any, said-got, said-next, said-check, said-blamed, ask-said, Bare, bare-ask, map-bare, leaf-bare, uni-bare, end-bare, abort-bare}
 
 abbrev kinds : Item (Message Text)
-kinds = messageItem deepestLevel
+kinds = messageItem the93
 
 abbrev unis : Item (Message Text)
-unis = aroundItem 97 (uniBody deepestLevel)
+unis = aroundItem 97 (uniBody the93)
 
 abbrev begins : Item (Message Text)
-begins = aroundItem 98 (beginBody deepestLevel)
+begins = aroundItem 98 (beginBody the93)
 
 abbrev ends : Item (Message Text)
-ends = aroundItem 100 (endBody deepestLevel)
+ends = aroundItem 100 (endBody the93)
 
 abbrev continues : Item (Message Text)
-continues = aroundItem 101 (continueBody deepestLevel)
+continues = aroundItem 101 (continueBody the93)
 
 abbrev aborts : Item (Message Text)
-aborts = aroundItem 103 (abortBody deepestLevel)
+aborts = aroundItem 103 (abortBody the93)
 
 -- the last two, the last three, all but the first
 abbrev continuers : Item (Message Text)
@@ -209,7 +209,7 @@ module _ (m : List ℕ) (len : ℕ) (is : len ≡ length m) (any : 1 ≤ len) (s
   only : (tag : ℕ) → getD m 0 0 ≡ tag → (a s : ℕ) → frontOf 1 (part m 0 len) ≡ TagRead.Tag a s → a ≡ tag
   only tag e a s z = sym (front-octet m 0 (until len) a s (inside-it .0) z .1) ∙ e
 
-  opened-as : (t : Option Text) → kinds .mine (getD m 0 0) ≡ true → Here t → Said Any t (locatedUpTo deepestLevel m)
+  opened-as : (t : Option Text) → kinds .mine (getD m 0 0) ≡ true → Here t → Said Any t (locatedUpTo the93 m)
   unfolding locatedUpTo check
   opened-as t mine e =
       let z : until len ≡ length m = omega (arith, is, short) in
@@ -217,7 +217,7 @@ module _ (m : List ℕ) (len : ℕ) (is : len ≡ length m) (any : 1 ≤ len) (s
       rw (le-leb (length m) 255 (omega (arith, is, short)), first-is m len is any short, mine, alone-is m)
       (said-next (Learnt t) Any t _ _ g (λ v n k. said-blamed Any t (learnt v) _ k (said-check Any none (eqb n (length m)) _ _ refl (said-got Any none v n tt))))
 
-  other-said : kinds .mine (getD m 0 0) ≡ false → Said Any none (locatedUpTo deepestLevel m)
+  other-said : kinds .mine (getD m 0 0) ≡ false → Said Any none (locatedUpTo the93 m)
   unfolding locatedUpTo check Said
   other-said mine = rw (le-leb (length m) 255 (omega (arith, is, short)), first-is m len is any short, mine)
 
@@ -236,17 +236,17 @@ module _ (m : List ℕ) (len : ℕ) (is : len ≡ length m) (any : 1 ≤ len) (s
     plain-of x e q = rw (plain-ask x (finite len) 0 (part m 0 len) (λ a s z. ap (λ (v : ℕ). x .mine v) (only tag stands a s z) ∙ e)) q
 
   uni-said : getD m 0 0 ≡ 97 → Here none
-  uni-said e = first-of 97 e none unis others refl (front-said (Learnt none) (λ v. unidirectional (v .0) (v .1)) _ (uni-bare deepestLevel) (λ v f g. g) FaultKind.NoMessage 16 97 (finite len) 0 (part m 0 len))
+  uni-said e = first-of 97 e none unis others refl (front-said (Learnt none) (λ v. unidirectional (v .0) (v .1)) _ (uni-bare the93) (λ v f g. g) FaultKind.NoMessage 16 97 (finite len) 0 (part m 0 len))
 
   end-said : getD m 0 0 ≡ 100 → Here none
   end-said e =
       second-of 100 e none unis others refl (second-of 100 e none begins enders refl
-      (first-of 100 e none ends continuers refl (front-said (Learnt none) (λ v. finish (v .0) (v .1 .0) (v .1 .1)) _ (end-bare deepestLevel) (λ v f g. g) FaultKind.NoMessage 16 100 (finite len) 0 (part m 0 len))))
+      (first-of 100 e none ends continuers refl (front-said (Learnt none) (λ v. finish (v .0) (v .1 .0) (v .1 .1)) _ (end-bare the93) (λ v f g. g) FaultKind.NoMessage 16 100 (finite len) 0 (part m 0 len))))
 
   abort-said : getD m 0 0 ≡ 103 → Here none
   abort-said e =
       second-of 103 e none unis others refl (second-of 103 e none begins enders refl (second-of 103 e none ends continuers refl
-      (second-of 103 e none continues aborts refl (front-said (Learnt none) (λ v. abort (v .0) (Option·getD (v .1) silent)) _ (abort-bare deepestLevel) (λ v f g. g) FaultKind.NoMessage 16 103 (finite len) 0 (part m 0 len)))))
+      (second-of 103 e none continues aborts refl (front-said (Learnt none) (λ v. abort (v .0) (Option·getD (v .1) silent)) _ (abort-bare the93) (λ v f g. g) FaultKind.NoMessage 16 103 (finite len) 0 (part m 0 len)))))
 
   begin-said : getD m 0 0 ≡ 98 → (t : Option Text) → Said (Learnt t) t (ask (front (level 1) FaultKind.Another begins) (finite len) 0 (part m 0 len)) → Here t
   begin-said e t q = second-of 98 e t unis others refl (first-of 98 e t begins enders refl (plain-of 98 e t begins refl q))
@@ -294,27 +294,27 @@ told-by t (got v n) e = tt
 told-by t (bad (fault k p o i u)) e = ap (λ (w : Option Text). Option·getD (Option·map (λ s. origField (orig s)) w) OptionalOrig.NoOrig) (sym e)
 
 module _ (m : List ℕ) (len : ℕ) (is : len ≡ length m) where
-  pub orig-long : 255 < len → OrigTold OptionalOrig.NoOrig (locatedUpTo deepestLevel m)
+  pub orig-long : 255 < len → OrigTold OptionalOrig.NoOrig (locatedUpTo the93 m)
   unfolding locatedUpTo check Said
-  orig-long l = told-by none (locatedUpTo deepestLevel m) (rw (lt-leb (length m) 255 (omega (arith, l, is))))
+  orig-long l = told-by none (locatedUpTo the93 m) (rw (lt-leb (length m) 255 (omega (arith, l, is))))
 
-  pub orig-empty : len ≡ 0 → OrigTold OptionalOrig.NoOrig (locatedUpTo deepestLevel m)
-  orig-empty l = told-by none (locatedUpTo deepestLevel m) (go m (omega (arith, is, l)))
+  pub orig-empty : len ≡ 0 → OrigTold OptionalOrig.NoOrig (locatedUpTo the93 m)
+  orig-empty l = told-by none (locatedUpTo the93 m) (go m (omega (arith, is, l)))
     where
-      go : (l : List ℕ) → length l ≡ 0 → Said Any none (locatedUpTo deepestLevel l)
+      go : (l : List ℕ) → length l ≡ 0 → Said Any none (locatedUpTo the93 l)
       go [] e = unfold locatedUpTo readFirst check Said in refl
       go (a ∷ r) e = absurd (omega (arith, e))
 
-  pub orig-other : len ≤ 255 → (len ≡ 0 → ⊥) → (getD m 0 0 ≡ 98 → ⊥) → (getD m 0 0 ≡ 101 → ⊥) → OrigTold OptionalOrig.NoOrig (locatedUpTo deepestLevel m)
-  orig-other short any begin? continue? = told-by none (locatedUpTo deepestLevel m) (go (eqb (getD m 0 0) 97) (eqb (getD m 0 0) 100) (eqb (getD m 0 0) 103) refl refl refl)
+  pub orig-other : len ≤ 255 → (len ≡ 0 → ⊥) → (getD m 0 0 ≡ 98 → ⊥) → (getD m 0 0 ≡ 101 → ⊥) → OrigTold OptionalOrig.NoOrig (locatedUpTo the93 m)
+  orig-other short any begin? continue? = told-by none (locatedUpTo the93 m) (go (eqb (getD m 0 0) 97) (eqb (getD m 0 0) 100) (eqb (getD m 0 0) 103) refl refl refl)
     where
       some-octet : 1 ≤ len
       some-octet = omega (arith, any)
 
-      stood : (t : ℕ) → kinds .mine t ≡ true → getD m 0 0 ≡ t → Here m len is some-octet short none → Said Any none (locatedUpTo deepestLevel m)
+      stood : (t : ℕ) → kinds .mine t ≡ true → getD m 0 0 ≡ t → Here m len is some-octet short none → Said Any none (locatedUpTo the93 m)
       stood t i e q = opened-as m len is some-octet short none (rw e i) q
 
-      go : (a b c : Bool) → eqb (getD m 0 0) 97 ≡ a → eqb (getD m 0 0) 100 ≡ b → eqb (getD m 0 0) 103 ≡ c → Said Any none (locatedUpTo deepestLevel m)
+      go : (a b c : Bool) → eqb (getD m 0 0) 97 ≡ a → eqb (getD m 0 0) 100 ≡ b → eqb (getD m 0 0) 103 ≡ c → Said Any none (locatedUpTo the93 m)
       go true b c i j k = stood 97 refl (eqb-true (getD m 0 0) 97 i) (uni-said m len is some-octet short (eqb-true (getD m 0 0) 97 i))
       go false true c i j k = stood 100 refl (eqb-true (getD m 0 0) 100 j) (end-said m len is some-octet short (eqb-true (getD m 0 0) 100 j))
       go false false true i j k = stood 103 refl (eqb-true (getD m 0 0) 103 k) (abort-said m len is some-octet short (eqb-true (getD m 0 0) 103 k))
@@ -329,31 +329,31 @@ module _ (m : List ℕ) (len : ℕ) (is : len ≡ length m) where
         go true i e = f (eqb-true tag 98 i)
         go false i e = g (eqb-true tag 101 e)
 
-    begun : tag ≡ 98 → (t : Option Text) → Said (Learnt t) t (ask (front (level 1) FaultKind.Another begins) (finite len) 0 (part m 0 len)) → Said Any t (locatedUpTo deepestLevel m)
+    begun : tag ≡ 98 → (t : Option Text) → Said (Learnt t) t (ask (front (level 1) FaultKind.Another begins) (finite len) 0 (part m 0 len)) → Said Any t (locatedUpTo the93 m)
     begun e t q = opened-as m len is any short t (rw (← first, e)) (begin-said m len is any short (sym first ∙ e) t q)
 
-    continued : tag ≡ 101 → (t : Option Text) → Said (Learnt t) t (ask (front (level 1) FaultKind.Another continues) (finite len) 0 (part m 0 len)) → Said Any t (locatedUpTo deepestLevel m)
+    continued : tag ≡ 101 → (t : Option Text) → Said (Learnt t) t (ask (front (level 1) FaultKind.Another continues) (finite len) 0 (part m 0 len)) → Said Any t (locatedUpTo the93 m)
     continued e t q = opened-as m len is any short t (rw (← first, e)) (continue-said m len is any short (sym first ∙ e) t q)
 
-    pub orig-entry : Far inner → OrigTold OptionalOrig.NoOrig (locatedUpTo deepestLevel m)
+    pub orig-entry : Far inner → OrigTold OptionalOrig.NoOrig (locatedUpTo the93 m)
     unfolding constructorOf
     orig-entry f =
-        told-by none (locatedUpTo deepestLevel m) (by-tag
-        (λ e. begun e none (entry-said m len is any short (beginBody deepestLevel) 98 (omega arith, omega arith, omega arith) refl (sym first ∙ e) inner (rw e at entry) f))
-        (λ e. continued e none (entry-said m len is any short (continueBody deepestLevel) 101 (omega arith, omega arith, omega arith) refl (sym first ∙ e) inner (rw e at entry) f)))
+        told-by none (locatedUpTo the93 m) (by-tag
+        (λ e. begun e none (entry-said m len is any short (beginBody the93) 98 (omega arith, omega arith, omega arith) refl (sym first ∙ e) inner (rw e at entry) f))
+        (λ e. continued e none (entry-said m len is any short (continueBody the93) 101 (omega arith, omega arith, omega arith) refl (sym first ∙ e) inner (rw e at entry) f)))
 
     module _ (near : Near inner) (st : ℕ) (start : st ≡ 1 + lengthSize (getD m 1 0)) (r : ℕ) (e : Reads (leafItem 0x48 idOk) m st inner r) where
       to : until inner ≤ length m
       to = alone-to m len tag inner is short entry near st start
 
-      pub orig-unread : Far r → OrigTold OptionalOrig.NoOrig (locatedUpTo deepestLevel m)
+      pub orig-unread : Far r → OrigTold OptionalOrig.NoOrig (locatedUpTo the93 m)
       unfolding constructorOf
       orig-unread f =
-          told-by none (locatedUpTo deepestLevel m) (by-tag
-          (λ i. begun i none (far-said m len is any short (beginBody deepestLevel) 98 (omega arith, omega arith, omega arith) refl (sym first ∙ i) inner (rw i at entry)
-          (λ v. begin (v .0) (v .1 .0) (v .1 .1)) (λ o. tailBody deepestLevel) (λ v. refl) refl near st start to r e f))
-          (λ i. continued i none (far-said m len is any short (continueBody deepestLevel) 101 (omega arith, omega arith, omega arith) refl (sym first ∙ i) inner (rw i at entry)
-          (λ v. continue (v .0) (v .1 .0) (v .1 .1 .0) (v .1 .1 .1)) (λ o. thenBody (level 15) destItem (tailBody deepestLevel)) (λ v. refl) refl near st start to r e f)))
+          told-by none (locatedUpTo the93 m) (by-tag
+          (λ i. begun i none (far-said m len is any short (beginBody the93) 98 (omega arith, omega arith, omega arith) refl (sym first ∙ i) inner (rw i at entry)
+          (λ v. begin (v .0) (v .1 .0) (v .1 .1)) (λ o. tailBody the93) (λ v. refl) refl near st start to r e f))
+          (λ i. continued i none (far-said m len is any short (continueBody the93) 101 (omega arith, omega arith, omega arith) refl (sym first ∙ i) inner (rw i at entry)
+          (λ v. continue (v .0) (v .1 .0) (v .1 .1 .0) (v .1 .1 .1)) (λ o. thenBody (level 15) destItem (tailBody the93)) (λ v. refl) refl near st start to r e f)))
 
       abbrev text : Text
       text = (st + 2, take (r - (st + 2)) (drop (st + 2) m))
@@ -361,13 +361,13 @@ module _ (m : List ℕ) (len : ℕ) (is : len ≡ length m) where
       pub orig-within : Near r → (st + 3 ≤ r) × (r ≤ 255)
       orig-within f = let l = id-long m st inner r to e f in (omega (arith, l), omega (arith, l, to, is, short))
 
-      pub orig-read : Near r → OrigTold (OptionalOrig.Orig (record { 0 = record { octets = record { place = st + 2; len = r - (st + 2) } } })) (locatedUpTo deepestLevel m)
+      pub orig-read : Near r → OrigTold (OptionalOrig.Orig (record { 0 = record { octets = record { place = st + 2; len = r - (st + 2) } } })) (locatedUpTo the93 m)
       unfolding constructorOf
       orig-read f =
           let l = orig-within f in
           let long : length (take (r - (st + 2)) (drop (st + 2) m)) ≡ r - (st + 2) = length-take-le (r - (st + 2)) (drop (st + 2) m) (omega (arith, length-drop (st + 2) m, l, id-long m st inner r to e f, to)) in
-          rw long at (told-by (some text) (locatedUpTo deepestLevel m) (by-tag
-          (λ i. begun i (some text) (near-said m len is any short (beginBody deepestLevel) 98 (omega arith, omega arith, omega arith) refl (sym first ∙ i) inner (rw i at entry)
-          (λ v. begin (v .0) (v .1 .0) (v .1 .1)) (λ o. tailBody deepestLevel) (λ v. refl) refl near st start to r e f))
-          (λ i. continued i (some text) (near-said m len is any short (continueBody deepestLevel) 101 (omega arith, omega arith, omega arith) refl (sym first ∙ i) inner (rw i at entry)
-          (λ v. continue (v .0) (v .1 .0) (v .1 .1 .0) (v .1 .1 .1)) (λ o. thenBody (level 15) destItem (tailBody deepestLevel)) (λ v. refl) refl near st start to r e f))))
+          rw long at (told-by (some text) (locatedUpTo the93 m) (by-tag
+          (λ i. begun i (some text) (near-said m len is any short (beginBody the93) 98 (omega arith, omega arith, omega arith) refl (sym first ∙ i) inner (rw i at entry)
+          (λ v. begin (v .0) (v .1 .0) (v .1 .1)) (λ o. tailBody the93) (λ v. refl) refl near st start to r e f))
+          (λ i. continued i (some text) (near-said m len is any short (continueBody the93) 101 (omega arith, omega arith, omega arith) refl (sym first ∙ i) inner (rw i at entry)
+          (λ v. continue (v .0) (v .1 .0) (v .1 .1 .0) (v .1 .1 .1)) (λ o. thenBody (level 15) destItem (tailBody the93)) (λ v. refl) refl near st start to r e f))))

@@ -16,7 +16,7 @@ use Rattle.element.specs.Fault.{Text, Owner, Fault, fault}
 use Rattle.element.specs.Ask.{Got, got, bad, check}
 use Rattle.tcap.specs.declared.{InvokeId.InvokeId, Answer.Answer, Ground.Ground, OptionalOrig.OptionalOrig}
 use Rattle.tcap.specs.Meaning.{Message}
-use Rattle.tcap.specs.WellFormed.{deepestLevel}
+use Rattle.tcap.specs.WellFormed.{the93}
 use Rattle.tcap.specs.Record.{idField}
 use Rattle.tcap.specs.Reading.{locatedUpTo, groundOf, byOwner, answerFor, refusalOf}
 use Rattle.tcap.proofs.Places.{placeOf, fault-placed}
@@ -55,20 +55,20 @@ module _ (l : List ℕ) (problem cause : ℕ) where
 -- The refusal
 
 module _ (m : List ℕ) where
-  place-low : (f : Fault) → locatedUpTo deepestLevel m ≡ bad f → placeOf f ≤ 65535
+  place-low : (f : Fault) → locatedUpTo the93 m ≡ bad f → placeOf f ≤ 65535
   place-low f e = go (leb (length m) 255) refl
     where
       go : (b : Bool) → leb (length m) 255 ≡ b → placeOf f ≤ 65535
-      go true q = let p = fault-placed deepestLevel (omega arith) m f e .place in omega (arith, p, leb-true (length m) 255 q)
+      go true q = let p = fault-placed the93 (omega arith) m f e .place in omega (arith, p, leb-true (length m) 255 q)
       go false q = unfold locatedUpTo check in (let z : fault FaultKind.Overlong 255 Owner.portion none none ≡ f = cc in rw (← z) (omega arith))
 
-  module _ (out : List ℕ) (r : ℕ) (number : Answers m (locatedUpTo deepestLevel m) r) (told : Blamed (locatedUpTo deepestLevel m) out) where
-    pub refused-as : (k : FaultKind) → k ≡ kindFrom r → (o : OptionalOrig) → OrigTold o (locatedUpTo deepestLevel m) → (g : Ground) → g ≡ groundOf k → (a : Answer) → a ≡ answerFor g (ownerIn out) (idIn out)
-        → RefusedAs (record { kind = k; place = r % opening; orig = o; answer = a }) (locatedUpTo deepestLevel m)
+  module _ (out : List ℕ) (r : ℕ) (number : Answers m (locatedUpTo the93 m) r) (told : Blamed (locatedUpTo the93 m) out) where
+    pub refused-as : (k : FaultKind) → k ≡ kindFrom r → (o : OptionalOrig) → OrigTold o (locatedUpTo the93 m) → (g : Ground) → g ≡ groundOf k → (a : Answer) → a ≡ answerFor g (ownerIn out) (idIn out)
+        → RefusedAs (record { kind = k; place = r % opening; orig = o; answer = a }) (locatedUpTo the93 m)
     unfolding Placed Blamed Blames OrigTold RefusedAs refusalOf
-    refused-as k is o carries g ground a answer = go (locatedUpTo deepestLevel m) refl number told carries
+    refused-as k is o carries g ground a answer = go (locatedUpTo the93 m) refl number told carries
       where
-        go : (x : Got (Message Text)) → locatedUpTo deepestLevel m ≡ x → Answers m x r → Blamed x out → OrigTold o x → RefusedAs (record { kind = k; place = r % opening; orig = o; answer = a }) x
+        go : (x : Got (Message Text)) → locatedUpTo the93 m ≡ x → Answers m x r → Blamed x out → OrigTold o x → RefusedAs (record { kind = k; place = r % opening; orig = o; answer = a }) x
         go (got v n) e number told carries = tt
         go (bad (fault j p w i t)) e number told carries =
             let low = place-low (fault j p w i t) e in

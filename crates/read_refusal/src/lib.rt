@@ -2,7 +2,7 @@
 ghost use mathlib.Core.Path.{_≡_};
 ghost use Prim.Native.Nat.{_≤_};
 ghost use lib.ListN.{length, getD};
-ghost use Rattle.tcap.specs.WellFormed.{deepestLevel};
+ghost use Rattle.tcap.specs.WellFormed.{the93};
 ghost use Rattle.tcap.specs.Record.{idField};
 ghost use Rattle.tcap.specs.Reading.{locatedUpTo, groundOf, byOwner, answerFor};
 ghost use Rattle.read_place.specs.Places.{Far};
@@ -95,7 +95,7 @@ fn answer_of(ground: Ground, out: &[u8]) -> Answer
 // The originating ID of a Begin or a Continue, if it can be read.
 fn orig_at(m: &[u8], len: usize, tag: u8) -> OptionalOrig
     requires { ⌜ (len ≡ length (now m)) × (1 ≤ len) × (len ≤ 255) × (tag ≡ getD (now m) 0 0) × Ided tag ⌝ }
-    ensures { λ r. ⌜ OrigTold r (locatedUpTo deepestLevel (now (m .entry))) ⌝ }
+    ensures { λ r. ⌜ OrigTold r (locatedUpTo the93 (now (m .entry))) ⌝ }
 {
     let inner = entry_asked(m, 0, len, tag);
     if inner >= FAULT {
@@ -118,7 +118,7 @@ fn orig_at(m: &[u8], len: usize, tag: u8) -> OptionalOrig
 
 // The originating ID that goes with a fault: a second look at the message.
 fn orig_of(m: &[u8]) -> OptionalOrig
-    ensures { λ r. ⌜ OrigTold r (locatedUpTo deepestLevel (now (m .entry))) ⌝ }
+    ensures { λ r. ⌜ OrigTold r (locatedUpTo the93 (now (m .entry))) ⌝ }
 {
     let len = m.len();
     if len > 255 {
@@ -140,8 +140,8 @@ fn orig_of(m: &[u8]) -> OptionalOrig
 // The refusal of a fault, by its number and what is told in the octets lent to the reader.
 pub fn refusal_of(m: &[u8], fault: usize, out: &[u8]) -> Refusal
     requires { ⌜ (4 ≤ length (now out)) × Far fault ⌝ }
-    requires { ⌜ Answers (now m) (locatedUpTo deepestLevel (now m)) fault × Blamed (locatedUpTo deepestLevel (now m)) (now out) ⌝ }
-    ensures { λ r. ⌜ RefusedAs r (locatedUpTo deepestLevel (now (m .entry))) ⌝ }
+    requires { ⌜ Answers (now m) (locatedUpTo the93 (now m)) fault × Blamed (locatedUpTo the93 (now m)) (now out) ⌝ }
+    ensures { λ r. ⌜ RefusedAs r (locatedUpTo the93 (now (m .entry))) ⌝ }
 {
     let kind = kind_from(fault);
     let orig = orig_of(m);

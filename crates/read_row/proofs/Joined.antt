@@ -20,7 +20,7 @@ use Rattle.element.specs.Walk.{walkItem}
 use Rattle.element.specs.Ask.{Body, ask}
 use Rattle.element.specs.Parts.{Item, level, integerItem, bindBody, onlyBody, lastBody, mapBody}
 use Rattle.tcap.specs.Meaning.{Code, Component, invoke, last, notLast, error, reject}
-use Rattle.tcap.specs.WellFormed.{deepestLevel}
+use Rattle.tcap.specs.WellFormed.{the93}
 use Rattle.tcap.specs.Productions.{idItem, idOrNullItem, problemItem, codeItem, codeBody, bothItem, levelAt, noted, resultBody, componentItem}
 use Rattle.read_place.specs.Places.{Far, Near, until, finite, part, front, Placed, Reads, Finishes, standsOf, entryPlace, lengthPlace, lengthSize, endedOf, askedPlace, wrongPlace, base, unknownComponent}
 use Rattle.read_place.specs.Leaves.{Left, Leaves, LeavesAll, untold}
@@ -47,7 +47,7 @@ module _ {A : Type 0} (x : Item A) (l : ℕ) (deep : ltb 0 l ≡ true) (m : List
 -- A code and what stands behind it
 
 module _ (m : List ℕ) (at stop r : ℕ) (e : Reads codeItem m at stop r) (near : Near r) (old mid new : List ℕ) (first : Leaves layCode untold codeItem m at stop old mid) where
-  pub coded-left : LeavesAll layParameter untold (lastBody (level 13) (walkItem 13)) m r stop mid new → LeavesAll layCoded untold (codeBody deepestLevel) m at stop old new
+  pub coded-left : LeavesAll layParameter untold (lastBody (level 13) (walkItem 13)) m r stop mid new → LeavesAll layCoded untold (codeBody the93) m at stop old new
   coded-left q = then-left untold (level 13) codeItem m at stop r (at-level codeItem 13 refl m at stop r e) layCode old (lastBody (level 13) (walkItem 13)) layParameter mid new near (left-level codeItem 13 refl m at stop layCode old mid first) q
 
   pub both-left : LeavesAll layElement untold (onlyBody (level 12) (walkItem 12)) m r stop mid new → LeavesAll (layBoth layCode layElement) untold bothBody m at stop old new
@@ -56,16 +56,16 @@ module _ (m : List ℕ) (at stop r : ℕ) (e : Reads codeItem m at stop r) (near
 -- A linked ID or none
 
 module _ (m : List ℕ) (at stop : ℕ) (g : at ≤ until stop) (h : until stop ≤ length m) (b : Bool) (is : b ≡ standsOf m at stop 128) (old new : List ℕ) where
-  pub unlinked-left : b ≡ false → LeavesAll layCoded untold (codeBody deepestLevel) m at stop old new → LeavesAll (layBoth layLinked layCoded) untold linkedBody m at stop old new
+  pub unlinked-left : b ≡ false → LeavesAll layCoded untold (codeBody the93) m at stop old new → LeavesAll (layBoth layLinked layCoded) untold linkedBody m at stop old new
   unfolding layLinked
   unlinked-left t e =
-      opt-left-none untold 128 (integerItem 128 1) (λ a. refl) (codeBody deepestLevel) refl refl refl (λ f. refl) (omega arith, omega arith, omega arith) m at stop g h b is (λ i l. set (set l 3 1) 4 (bitsAt (topOf 1) i)) layCoded (layBoth layLinked layCoded) old t (λ v l. refl) new e
+      opt-left-none untold 128 (integerItem 128 1) (λ a. refl) (codeBody the93) refl refl refl (λ f. refl) (omega arith, omega arith, omega arith) m at stop g h b is (λ i l. set (set l 3 1) 4 (bitsAt (topOf 1) i)) layCoded (layBoth layLinked layCoded) old t (λ v l. refl) new e
 
-  pub linked-on-left : b ≡ true → (r : ℕ) → Reads (integerItem 128 1) m at stop r → Near r → ((i : ℕ) → getD m i 0 < 256) → LeavesAll layCoded untold (codeBody deepestLevel) m r stop (set (set old 3 1) 4 (getD m (at + 2) 0)) new
+  pub linked-on-left : b ≡ true → (r : ℕ) → Reads (integerItem 128 1) m at stop r → Near r → ((i : ℕ) → getD m i 0 < 256) → LeavesAll layCoded untold (codeBody the93) m r stop (set (set old 3 1) 4 (getD m (at + 2) 0)) new
       → LeavesAll (layBoth layLinked layCoded) untold linkedBody m at stop old new
   unfolding layLinked
   linked-on-left t r e near low q =
-      opt-left untold 128 (integerItem 128 1) (λ a. refl) (codeBody deepestLevel) refl refl refl (λ f. refl) (omega arith, omega arith, omega arith) m at stop g h b is (λ i l. set (set l 3 1) 4 (bitsAt (topOf 1) i)) layCoded (layBoth layLinked layCoded) old t r e (λ f l u. u)
+      opt-left untold 128 (integerItem 128 1) (λ a. refl) (codeBody the93) refl refl refl (λ f. refl) (omega arith, omega arith, omega arith) m at stop g h b is (λ i l. set (set l 3 1) 4 (bitsAt (topOf 1) i)) layCoded (layBoth layLinked layCoded) old t r e (λ f l u. u)
       (λ a v l. refl) (set (set old 3 1) 4 (getD m (at + 2) 0)) new near (linked-left m at stop r h 128 (omega arith, omega arith, omega arith) e near low old) q
 
 -- An invoke ID and the rest
@@ -82,20 +82,20 @@ module _ (m : List ℕ) (at stop r : ℕ) (e : Reads idItem m at stop r) (old mi
   invoke-left-far f = with-id-far linkedBody (layBoth layLinked layCoded) m at stop r e old f mid first
 
   pub error-left-far : Far r → LeavesAll (layBoth layId layCoded) untold erredBody m at stop old mid
-  error-left-far f = with-id-far (codeBody deepestLevel) layCoded m at stop r e old f mid first
+  error-left-far f = with-id-far (codeBody the93) layCoded m at stop r e old f mid first
 
   pub returned-left-far : Far r → LeavesAll (layBoth layId layReturned) untold returnedBody m at stop old mid
-  returned-left-far f = with-id-far (lastBody (level 13) (bothItem deepestLevel)) layReturned m at stop r e old f mid first
+  returned-left-far f = with-id-far (lastBody (level 13) (bothItem the93)) layReturned m at stop r e old f mid first
 
   module _ (f : Near r) (new : List ℕ) where
     pub invoke-left : LeavesAll (layBoth layLinked layCoded) untold linkedBody m r stop mid new → LeavesAll layInvoked untold invokedBody m at stop old new
     invoke-left q = with-id linkedBody (layBoth layLinked layCoded) m at stop r e old f mid new first q
 
-    pub error-left : LeavesAll layCoded untold (codeBody deepestLevel) m r stop mid new → LeavesAll (layBoth layId layCoded) untold erredBody m at stop old new
-    error-left q = with-id (codeBody deepestLevel) layCoded m at stop r e old f mid new first q
+    pub error-left : LeavesAll layCoded untold (codeBody the93) m r stop mid new → LeavesAll (layBoth layId layCoded) untold erredBody m at stop old new
+    error-left q = with-id (codeBody the93) layCoded m at stop r e old f mid new first q
 
-    pub returned-left : LeavesAll layReturned untold (lastBody (levelAt deepestLevel 4) (bothItem deepestLevel)) m r stop mid new → LeavesAll (layBoth layId layReturned) untold returnedBody m at stop old new
-    returned-left q = with-id (lastBody (level 13) (bothItem deepestLevel)) layReturned m at stop r e old f mid new first q
+    pub returned-left : LeavesAll layReturned untold (lastBody (levelAt the93 4) (bothItem the93)) m r stop mid new → LeavesAll (layBoth layId layReturned) untold returnedBody m at stop old new
+    returned-left q = with-id (lastBody (level 13) (bothItem the93)) layReturned m at stop r e old f mid new first q
 
 -- 30, or nothing
 
@@ -104,17 +104,17 @@ unfolding layReturned
 same-returned (c, t) l = refl
 
 module _ (m : List ℕ) (at stop : ℕ) (g : at ≤ until stop) (h : until stop ≤ length m) (b : Bool) (is : b ≡ endedOf (endOf (finite stop) (part m at stop))) (old : List ℕ) where
-  pub result-left-none : b ≡ true → LeavesAll layReturned untold (lastBody (levelAt deepestLevel 4) (bothItem deepestLevel)) m at stop old old
+  pub result-left-none : b ≡ true → LeavesAll layReturned untold (lastBody (levelAt the93 4) (bothItem the93)) m at stop old old
   unfolding layReturned
-  result-left-none t = last-left-none untold (level 13) (bothItem deepestLevel) layReturned m at stop old (λ l. refl) (ended-is (endOf (finite stop) (part m at stop)) b is t)
+  result-left-none t = last-left-none untold (level 13) (bothItem the93) layReturned m at stop old (λ l. refl) (ended-is (endOf (finite stop) (part m at stop)) b is t)
 
   pub result-left : b ≡ false → (inner : ℕ) → inner ≡ entryPlace true m at stop 48 → length m ≤ 65535 → Near inner → (st : ℕ) → st ≡ at + 1 + lengthSize (getD m (at + 1) 0) → (r : ℕ) → Finishes bothBody m st inner r → Near r → (new : List ℕ)
-      → LeavesAll (layBoth layCode layElement) untold bothBody m st inner old new → LeavesAll layReturned untold (lastBody (levelAt deepestLevel 4) (bothItem deepestLevel)) m at stop old new
+      → LeavesAll (layBoth layCode layElement) untold bothBody m st inner old new → LeavesAll layReturned untold (lastBody (levelAt the93 4) (bothItem the93)) m at stop old new
   unfolding constructorOf
   result-left more inner entry top near st start r e f new q =
-      last-left untold (level 13) (bothItem deepestLevel) m at stop r (at-level (bothItem deepestLevel) 13 refl m at stop r (around-near bothBody m at stop 48 inner st r g h top (omega arith, omega arith, omega arith) refl entry near start e)) (layBoth layCode layElement) old
+      last-left untold (level 13) (bothItem the93) m at stop r (at-level (bothItem the93) 13 refl m at stop r (around-near bothBody m at stop 48 inner st r g h top (omega arith, omega arith, omega arith) refl entry near start e)) (layBoth layCode layElement) old
       (λ f l u. u) refl (not-ended (endOf (finite stop) (part m at stop)) b is more) layReturned same-returned new f
-      (left-level (bothItem deepestLevel) 13 refl m at stop (layBoth layCode layElement) old new (around-left untold bothBody m at stop 48 inner st g h top (omega arith, omega arith, omega arith) refl entry near start (layBoth layCode layElement) old new q)) (quiet _ new)
+      (left-level (bothItem the93) 13 refl m at stop (layBoth layCode layElement) old new (around-left untold bothBody m at stop 48 inner st g h top (omega arith, omega arith, omega arith) refl entry near start (layBoth layCode layElement) old new q)) (quiet _ new)
 
 -- A Reject
 
@@ -155,11 +155,11 @@ module _ (tag : ℕ) (m : List ℕ) (at stop : ℕ) (old new : List ℕ) where
       unfolding bodyOf layComponent
       contents-left-reject e q = rw (ne-eqb tag 161 a, ne-eqb tag 163 b, eq-eqb tag 164 e) (by-name (λ v. reject (v .0) (v .1)) rejectedBody (layBoth layRejectId layProblem) (λ v. ap (λ (t : ℕ). layBoth layRejectId layProblem v (set old 0 t)) e) q)
 
-      pub contents-left-returned : (tag ≡ 164 → ⊥) → componentItem deepestLevel .mine tag ≡ true → LeavesAll (layBoth layId layReturned) untold returnedBody m at stop (set old 0 tag) new → LeavesAll layComponent untold (bodyOf tag) m at stop old new
+      pub contents-left-returned : (tag ≡ 164 → ⊥) → componentItem the93 .mine tag ≡ true → LeavesAll (layBoth layId layReturned) untold returnedBody m at stop (set old 0 tag) new → LeavesAll layComponent untold (bodyOf tag) m at stop old new
       unfolding bodyOf layComponent
       contents-left-returned c mine q = rw (ne-eqb tag 161 a, ne-eqb tag 163 b, ne-eqb tag 164 c) (go (eqb tag 162) refl (rw (ne-eqb tag 161 a, ne-eqb tag 163 b, ne-eqb tag 164 c) at mine))
         where
-          go : (d : Bool) → eqb tag 162 ≡ d → (d || eqb tag 167) ≡ true → LeavesAll layComponent untold (cond d (resultBody deepestLevel last) (resultBody deepestLevel notLast)) m at stop old new
+          go : (d : Bool) → eqb tag 162 ≡ d → (d || eqb tag 167) ≡ true → LeavesAll layComponent untold (cond d (resultBody the93 last) (resultBody the93 notLast)) m at stop old new
           go true i o = by-name (λ v. last (v .0) (v .1)) returnedBody (layBoth layId layReturned) (λ v. ap (λ (t : ℕ). layBoth layId layReturned v (set old 0 t)) (eqb-true tag 162 i)) q
           go false i o = by-name (λ v. notLast (v .0) (v .1)) returnedBody (layBoth layId layReturned) (λ v. ap (λ (t : ℕ). layBoth layId layReturned v (set old 0 t)) (eqb-true tag 167 o)) q
 
@@ -192,7 +192,7 @@ module _ (m : List ℕ) (at stop : ℕ) (h : until stop ≤ length m) (here : at
     pub start-to : until inner ≤ length m
     start-to = entry-to m at stop (getD m at 0) inner (omega (arith, here)) h entry near top st start
 
-  module _ (b : Bool) (asked : b ≡ componentItem deepestLevel .mine (getD m at 0)) (told : b ≡ true) where
+  module _ (b : Bool) (asked : b ≡ componentItem the93 .mine (getD m at 0)) (told : b ≡ true) where
     pub component-stops : Far inner → ReadsComponent m at stop inner
     component-stops f = component-far m at stop h here b asked told inner entry f
 

@@ -4,7 +4,7 @@ use Prim.Native.Nat.{ℕ}
 use mathlib.Core.{Bool.cond, List.List, Option.Option}
 use lib.{Dec.eqb, IntN.ℤ}
 use Rattle.element.specs.{declared.FaultKind.FaultKind, Fault.Text, Fault.withInvokeId, Ask.Body, Ask.ask, Parts.level, Parts.integerItem, Parts.bindBody, Parts.thenBody, Parts.onlyBody, Parts.lastBody, Parts.optBody, Walk.walkItem}
-use Rattle.tcap.specs.{declared.Problem.Problem, Meaning.Code, Meaning.Component, Meaning.last, Meaning.notLast, WellFormed.deepestLevel, Productions.idItem, Productions.idOrNullItem, Productions.problemItem, Productions.codeItem, Productions.noted, Productions.levelAt, Productions.codeBody, Productions.bothItem, Productions.invokeBody, Productions.resultBody, Productions.errorBody, Productions.rejectBody, Productions.componentItem}
+use Rattle.tcap.specs.{declared.Problem.Problem, Meaning.Code, Meaning.Component, Meaning.last, Meaning.notLast, WellFormed.the93, Productions.idItem, Productions.idOrNullItem, Productions.problemItem, Productions.codeItem, Productions.noted, Productions.levelAt, Productions.codeBody, Productions.bothItem, Productions.invokeBody, Productions.resultBody, Productions.errorBody, Productions.rejectBody, Productions.componentItem}
 use Rattle.read_place.specs.Places.{until, finite, part, front, Placed}
 use Rattle.read_place.specs.Leaves.{Left, untold}
 use Rattle.read_place.specs.Laying.{layId, layLinked, layCode, layParameter, layComponent}
@@ -12,30 +12,30 @@ use Rattle.read_place.specs.Laying.{layId, layLinked, layCode, layParameter, la
 -- the contents of each kind, not yet under the component's name
 
 abbrev pub bothBody : Body (Code Text × Text)
-bothBody = thenBody (levelAt deepestLevel 5) codeItem (onlyBody (levelAt deepestLevel 5) (walkItem 12))
+bothBody = thenBody (levelAt the93 5) codeItem (onlyBody (levelAt the93 5) (walkItem 12))
 
 abbrev pub linkedBody : Body (Option ℤ × (Code Text × Option Text))
-linkedBody = optBody (integerItem 0x80 1) (codeBody deepestLevel)
+linkedBody = optBody (integerItem 0x80 1) (codeBody the93)
 
 abbrev pub invokedBody : Body (ℤ × (Option ℤ × (Code Text × Option Text)))
-invokedBody = bindBody (levelAt deepestLevel 4) noted idItem (λ i. linkedBody)
+invokedBody = bindBody (levelAt the93 4) noted idItem (λ i. linkedBody)
 
 abbrev pub erredBody : Body (ℤ × (Code Text × Option Text))
-erredBody = bindBody (levelAt deepestLevel 4) noted idItem (λ i. codeBody deepestLevel)
+erredBody = bindBody (levelAt the93 4) noted idItem (λ i. codeBody the93)
 
 abbrev pub returnedBody : Body (ℤ × Option (Code Text × Text))
-returnedBody = bindBody (levelAt deepestLevel 4) noted idItem (λ i. lastBody (levelAt deepestLevel 4) (bothItem deepestLevel))
+returnedBody = bindBody (levelAt the93 4) noted idItem (λ i. lastBody (levelAt the93 4) (bothItem the93))
 
 abbrev pub rejectedBody : Body (Option ℤ × Problem)
-rejectedBody = bindBody (levelAt deepestLevel 4) withInvokeId idOrNullItem (λ i. onlyBody (levelAt deepestLevel 4) problemItem)
+rejectedBody = bindBody (levelAt the93 4) withInvokeId idOrNullItem (λ i. onlyBody (levelAt the93 4) problemItem)
 
 -- the contents of a component by its tag
 unfoldable pub bodyOf : ℕ → Body (Component Text)
 bodyOf a =
-    cond (eqb a 0xA1) (invokeBody deepestLevel)
-    (cond (eqb a 0xA3) (errorBody deepestLevel)
-    (cond (eqb a 0xA4) (rejectBody deepestLevel)
-    (cond (eqb a 0xA2) (resultBody deepestLevel last) (resultBody deepestLevel notLast))))
+    cond (eqb a 0xA1) (invokeBody the93)
+    (cond (eqb a 0xA3) (errorBody the93)
+    (cond (eqb a 0xA4) (rejectBody the93)
+    (cond (eqb a 0xA2) (resultBody the93 last) (resultBody the93 notLast))))
 
 -- one value is laid out, and then another
 abbrev pub layBoth : {A B : Type 0} → (A → List ℕ → List ℕ) → (B → List ℕ → List ℕ) → A × B → List ℕ → List ℕ
@@ -49,7 +49,7 @@ layInvoked = layBoth layId (layBoth layLinked layCoded)
 
 -- a component that must stand at a place, and what it leaves in its row
 abbrev pub ReadsComponent : List ℕ → ℕ → ℕ → ℕ → Type 0
-ReadsComponent m at stop r = Placed at (until stop) (ask (front (level 1) FaultKind.UnknownComponent (componentItem deepestLevel)) (finite stop) at (part m at stop)) r
+ReadsComponent m at stop r = Placed at (until stop) (ask (front (level 1) FaultKind.UnknownComponent (componentItem the93)) (finite stop) at (part m at stop)) r
 
 abbrev pub LeavesComponent : List ℕ → ℕ → ℕ → List ℕ → List ℕ → Type 0
-LeavesComponent m at stop old new = Left layComponent untold (ask (front (level 1) FaultKind.UnknownComponent (componentItem deepestLevel)) (finite stop) at (part m at stop)) old new
+LeavesComponent m at stop old new = Left layComponent untold (ask (front (level 1) FaultKind.UnknownComponent (componentItem the93)) (finite stop) at (part m at stop)) old new

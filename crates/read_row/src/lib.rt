@@ -9,7 +9,7 @@ ghost use Rattle.read_place.specs.Laying.{layId, layRejectId, layLinked, layCod
 ghost use Rattle.read_row.specs.Component.{bothBody, linkedBody, invokedBody, erredBody, returnedBody, rejectedBody, bodyOf, layBoth, layCoded, layInvoked, ReadsComponent, LeavesComponent};
 ghost use Rattle.tcap.specs.Productions.{componentItem, rejectBody, codeBody, bothItem, invokeBody, errorBody, levelAt};
 ghost use Rattle.element.specs.Parts.{lastBody};
-ghost use Rattle.tcap.specs.WellFormed.{deepestLevel};
+ghost use Rattle.tcap.specs.WellFormed.{the93};
 use read_field::octet_at;
 use read_part::code_at;
 use read_part::id_at;
@@ -32,8 +32,8 @@ use read_place::wrong_at;
 // A code, and a parameter or none.
 fn coded_at(m: &[u8], at: usize, stop: usize, row: &mut [u8]) -> usize
     requires { ⌜ Ready (now m) at stop × (length (now row) ≡ 24) ⌝ }
-    ensures { λ r. ⌜ Finishes (codeBody deepestLevel) (now (m .entry)) at stop r ⌝ }
-    ensures { λ r. ⌜ LeavesAll layCoded untold (codeBody deepestLevel) (now (m .entry)) at stop (now (row .entry)) (now (row .exit)) ⌝ }
+    ensures { λ r. ⌜ Finishes (codeBody the93) (now (m .entry)) at stop r ⌝ }
+    ensures { λ r. ⌜ LeavesAll layCoded untold (codeBody the93) (now (m .entry)) at stop (now (row .entry)) (now (row .exit)) ⌝ }
 {
     let r = code_at(m, at, stop, row);
     if r >= FAULT {
@@ -76,7 +76,7 @@ fn linked_at(m: &[u8], at: usize, stop: usize, row: &mut [u8]) -> usize
 // The contents of an Invoke.
 fn invoke_at(m: &[u8], at: usize, stop: usize, row: &mut [u8]) -> usize
     requires { ⌜ Ready (now m) at stop × (length (now row) ≡ 24) ⌝ }
-    ensures { λ r. ⌜ Finishes (invokeBody deepestLevel) (now (m .entry)) at stop r ⌝ }
+    ensures { λ r. ⌜ Finishes (invokeBody the93) (now (m .entry)) at stop r ⌝ }
     ensures { λ r. ⌜ LeavesAll layInvoked untold invokedBody (now (m .entry)) at stop (now (row .entry)) (now (row .exit)) ⌝ }
 {
     let r = id_at(m, at, stop, row);
@@ -89,7 +89,7 @@ fn invoke_at(m: &[u8], at: usize, stop: usize, row: &mut [u8]) -> usize
 // The contents of a Return Error.
 fn error_at(m: &[u8], at: usize, stop: usize, row: &mut [u8]) -> usize
     requires { ⌜ Ready (now m) at stop × (length (now row) ≡ 24) ⌝ }
-    ensures { λ r. ⌜ Finishes (errorBody deepestLevel) (now (m .entry)) at stop r ⌝ }
+    ensures { λ r. ⌜ Finishes (errorBody the93) (now (m .entry)) at stop r ⌝ }
     ensures { λ r. ⌜ LeavesAll (layBoth layId layCoded) untold erredBody (now (m .entry)) at stop (now (row .entry)) (now (row .exit)) ⌝ }
 {
     let r = id_at(m, at, stop, row);
@@ -102,8 +102,8 @@ fn error_at(m: &[u8], at: usize, stop: usize, row: &mut [u8]) -> usize
 // Code and parameter in 30, or nothing: what stands behind the invoke ID of a result.
 fn result_at(m: &[u8], at: usize, stop: usize, row: &mut [u8]) -> usize
     requires { ⌜ Ready (now m) at stop × (length (now row) ≡ 24) ⌝ }
-    ensures { λ r. ⌜ Finishes (lastBody (levelAt deepestLevel 4) (bothItem deepestLevel)) (now (m .entry)) at stop r ⌝ }
-    ensures { λ r. ⌜ LeavesAll layReturned untold (lastBody (levelAt deepestLevel 4) (bothItem deepestLevel)) (now (m .entry)) at stop (now (row .entry)) (now (row .exit)) ⌝ }
+    ensures { λ r. ⌜ Finishes (lastBody (levelAt the93 4) (bothItem the93)) (now (m .entry)) at stop r ⌝ }
+    ensures { λ r. ⌜ LeavesAll layReturned untold (lastBody (levelAt the93 4) (bothItem the93)) (now (m .entry)) at stop (now (row .entry)) (now (row .exit)) ⌝ }
 {
     if ended(m, at, stop) {
         return behind(at, stop);
@@ -135,7 +135,7 @@ fn returned_at(m: &[u8], at: usize, stop: usize, row: &mut [u8]) -> usize
 // The contents of a Reject.
 fn reject_at(m: &[u8], at: usize, stop: usize, row: &mut [u8]) -> usize
     requires { ⌜ Ready (now m) at stop × (length (now row) ≡ 24) ⌝ }
-    ensures { λ r. ⌜ Finishes (rejectBody deepestLevel) (now (m .entry)) at stop r ⌝ }
+    ensures { λ r. ⌜ Finishes (rejectBody the93) (now (m .entry)) at stop r ⌝ }
     ensures { λ r. ⌜ LeavesAll (layBoth layRejectId layProblem) untold rejectedBody (now (m .entry)) at stop (now (row .entry)) (now (row .exit)) ⌝ }
 {
     let r = reject_id_at(m, at, stop, row);
@@ -151,7 +151,7 @@ fn reject_at(m: &[u8], at: usize, stop: usize, row: &mut [u8]) -> usize
 
 // The contents of a component by its tag.
 fn contents_at(m: &[u8], at: usize, stop: usize, tag: u8, row: &mut [u8]) -> usize
-    requires { ⌜ Ready (now m) at stop × (componentItem deepestLevel .mine tag ≡ true) × (length (now row) ≡ 24) ⌝ }
+    requires { ⌜ Ready (now m) at stop × (componentItem the93 .mine tag ≡ true) × (length (now row) ≡ 24) ⌝ }
     ensures { λ r. ⌜ Finishes (bodyOf tag) (now (m .entry)) at stop r ⌝ }
     ensures { λ r. ⌜ LeavesAll layComponent untold (bodyOf tag) (now (m .entry)) at stop (now (row .entry)) (now (row .exit)) ⌝ }
 {
@@ -170,7 +170,7 @@ fn contents_at(m: &[u8], at: usize, stop: usize, tag: u8, row: &mut [u8]) -> usi
 
 // Whether a first octet is the tag of a component.
 pub fn is_component(first: u8) -> bool
-    ensures { λ r. ⌜ r ≡ componentItem deepestLevel .mine first ⌝ }
+    ensures { λ r. ⌜ r ≡ componentItem the93 .mine first ⌝ }
 {
     if first == 0xA1 {
         return true;

@@ -14,7 +14,7 @@ use Rattle.element.specs.Fault.{Text}
 use Rattle.element.specs.Ask.{got}
 use Rattle.tcap.specs.declared.{MessageKind.MessageKind, Refusal.Refusal, Outcome.Outcome, Record.Record, Reading.Reading}
 use Rattle.tcap.specs.Meaning.{local, global, Component, invoke, last, notLast, error, reject, Message, unidirectional, begin, finish, continue, abort, Meaning}
-use Rattle.tcap.specs.WellFormed.{deepestLevel, Reads}
+use Rattle.tcap.specs.WellFormed.{the93, Reads}
 use Rattle.tcap.specs.Record.{rowOf, blankRow, recordOf, messageTag}
 use Rattle.tcap.specs.Reading.{locatedUpTo, answered as answeredAs, readingUpTo, reading}
 use Rattle.tcap.proofs.Strings.{octetsOf, componentAs, forget}
@@ -181,12 +181,12 @@ first-kept (finish e d cs) = codes-kept cs
 first-kept (continue o e d cs) = codes-kept cs
 first-kept (abort e s) = refl
 
-read-is : (m : List ℕ) (v : Message Text) (n : ℕ) → locatedUpTo deepestLevel m ≡ got v n → reading m ≡ read-as v
+read-is : (m : List ℕ) (v : Message Text) (n : ℕ) → locatedUpTo the93 m ≡ got v n → reading m ≡ read-as v
 unfolding reading readingUpTo answeredAs
 read-is m v n e = rw e
 
 pub steered-by-meaning : (m : List ℕ) (μ : Meaning) → Reads m μ → (rules : List Rule) → steering m rules ≡ chosen (firstFit rules (tagMeant μ) (firstMeant μ))
 unfolding steering steeredBy answered
 steered-by-meaning m μ r rules =
-    let (v, e, f) = reads-located deepestLevel (omega arith) m μ r in
+    let (v, e, f) = reads-located the93 (omega arith) m μ r in
     rw (read-is m v (length m) e, key-meant v, tag-kept v, first-kept v, f)

@@ -12,6 +12,7 @@ use Rattle.element.specs.Fault.{numberOf, Text, Owner, Fault, fault}
 use Rattle.element.specs.declared.FaultKind.{FaultKind}
 use Rattle.element.specs.Ask.{bad}
 use Rattle.tcap.specs.declared.{Refusal.Refusal, Outcome.Outcome}
+use Rattle.tcap.specs.WellFormed.{the93}
 use Rattle.tcap.specs.Reading.{locatedUpTo, refusalOf, answered, readingUpTo, reading}
 use Rattle.tcap.proofs.Pinned.{fault-exactly, refused-checked}
 use Rattle.tcap.proofs.DueExactly.{MissingAt, StrangeAt, missing-exactly, another-exactly, too-many-exactly}
@@ -66,12 +67,12 @@ abbrev Of : (Owner → Option ℤ → Option Text → Type 0) → Type 0
 Of P = (w : Owner) × (i : Option ℤ) × (t : Option Text) × P w i t
 
 module _ (m : List ℕ) (p : ℕ) where
-  refused-located : (f : Fault) → locatedUpTo 16 m ≡ bad f → reading m .outcome ≡ Outcome.Refused (refusalOf f)
+  refused-located : (f : Fault) → locatedUpTo the93 m ≡ bad f → reading m .outcome ≡ Outcome.Refused (refusalOf f)
   unfolding reading readingUpTo answered
   refused-located f e = rw e refl
 
   -- what is known of each fault of a kind is known of each refusal by its number
-  by-number : (k : FaultKind) (P : Owner → Option ℤ → Option Text → Type 0) → ((w : Owner) (i : Option ℤ) (t : Option Text) → (locatedUpTo 16 m ≡ bad (fault k p w i t)) ↔ P w i t) → RefusedAt (numberOf k) m p ↔ Of P
+  by-number : (k : FaultKind) (P : Owner → Option ℤ → Option Text → Type 0) → ((w : Owner) (i : Option ℤ) (t : Option Text) → (locatedUpTo the93 m ≡ bad (fault k p w i t)) ↔ P w i t) → RefusedAt (numberOf k) m p ↔ Of P
   unfolding refusalOf
   by-number k P g = (told, λ (w, i, t, x). (refusalOf (fault k p w i t), refused-located (fault k p w i t) (g w i t .1 x), refl, refl))
     where
@@ -80,17 +81,17 @@ module _ (m : List ℕ) (p : ℕ) where
           let c = refused-checked m r e in
           let same : c .kind ≡ k = one-kind (c .kind) k (sym (c .sameNumber) ∙ n) in
           let here : c .place ≡ p = sym (c .samePlace) ∙ q in
-          let f : locatedUpTo 16 m ≡ bad (fault (c .kind) (c .place) (c .owner) (c .invokeId) (c .origId)) = fault-exactly 16 m _ .1 (c .there) in
+          let f : locatedUpTo the93 m ≡ bad (fault (c .kind) (c .place) (c .owner) (c .invokeId) (c .origId)) = fault-exactly the93 m _ .1 (c .there) in
           (c .owner, c .invokeId, c .origId, g (c .owner) (c .invokeId) (c .origId) .0 (rw (same, here) at f))
 
-  pub missing-told : RefusedAt 14 m p ↔ Of (MissingAt 16 m p)
+  pub missing-told : RefusedAt 14 m p ↔ Of (MissingAt the93 m p)
   unfolding numberOf
-  missing-told = by-number FaultKind.Missing (MissingAt 16 m p) (missing-exactly 16 m p)
+  missing-told = by-number FaultKind.Missing (MissingAt the93 m p) (missing-exactly the93 m p)
 
-  pub another-told : RefusedAt 15 m p ↔ Of (λ w i t. StrangeAt 16 m p w i t true)
+  pub another-told : RefusedAt 15 m p ↔ Of (λ w i t. StrangeAt the93 m p w i t true)
   unfolding numberOf
-  another-told = by-number FaultKind.Another (λ w i t. StrangeAt 16 m p w i t true) (another-exactly 16 m p)
+  another-told = by-number FaultKind.Another (λ w i t. StrangeAt the93 m p w i t true) (another-exactly the93 m p)
 
-  pub nothing-more-told : RefusedAt 16 m p ↔ Of (λ w i t. StrangeAt 16 m p w i t false)
+  pub nothing-more-told : RefusedAt 16 m p ↔ Of (λ w i t. StrangeAt the93 m p w i t false)
   unfolding numberOf
-  nothing-more-told = by-number FaultKind.TooMany (λ w i t. StrangeAt 16 m p w i t false) (too-many-exactly 16 m p)
+  nothing-more-told = by-number FaultKind.TooMany (λ w i t. StrangeAt the93 m p w i t false) (too-many-exactly the93 m p)

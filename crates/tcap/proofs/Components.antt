@@ -26,7 +26,7 @@ use Rattle.element.proofs.Walker.{element-laws}
 use Rattle.element.proofs.Integers.{integer-laws}
 use Rattle.tcap.specs.declared.{Problem.Problem}
 use Rattle.tcap.specs.Meaning.{Code, local, global, Component, invoke, last, notLast, error, reject, octet, integer, codeForm, problemForm, holding, idOrNull, componentForm}
-use Rattle.tcap.specs.WellFormed.{leftAt, mostComponents, InvokeIdOk, CodeOk, ProblemOk, BothOk, ComponentOk}
+use Rattle.tcap.specs.WellFormed.{Rules, leftAt, mostComponents, InvokeIdOk, CodeOk, ProblemOk, BothOk, ComponentOk}
 use Rattle.tcap.specs.Productions.{single?, octetItem, idItem, nameItem, codeItem, problemItem, idOrNullItem, noted, levelAt, parameterItem, codeBody, invokeBody, bothItem, resultBody, errorBody, rejectBody, componentItem, componentAt, componentsItem}
 use Rattle.tcap.proofs.Strings.{octetsOf, codeAs, bothAs, componentAs}
 
@@ -110,8 +110,8 @@ null-laws =
     (image-laws (λ v. none) (λ c. none) octetsOf id (λ v. refl) (leaf 0x05) idOrNull _ (λ c o. rw (same-equal [] c o)) _ (leaf-laws 0x05 (same []) refl refl))
     (λ a. refl) refl)
 
-pub deep-at : (limit n : ℕ) → n ≤ limit → ltb 0 (leftAt limit n) ≡ true
-deep-at limit n h = lt-ltb 0 (suc limit - n) (omega arith)
+pub deep-at : (rules : Rules) (n : ℕ) → n ≤ rules .limit → ltb 0 (leftAt rules n) ≡ true
+deep-at rules n h = lt-ltb 0 (suc (rules .limit) - n) (omega arith)
 
 -- The five components
 
@@ -123,15 +123,15 @@ insideForm (notLast i r) = then (integer 0x02 i) (maybe holding r)
 insideForm (error i c p) = then (integer 0x02 i) (then (codeForm c) (maybe exactly p))
 insideForm (reject i q) = then (idOrNull i) (problemForm q)
 
-module _ (limit : ℕ) (big : 8 ≤ limit) where
-  at-4 : ltb 0 (leftAt limit 4) ≡ true
-  at-4 = deep-at limit 4 (omega arith)
+module _ (rules : Rules) (big : 8 ≤ rules .limit) where
+  at-4 : ltb 0 (leftAt rules 4) ≡ true
+  at-4 = deep-at rules 4 (omega arith)
 
-  at-5 : ltb 0 (leftAt limit 5) ≡ true
-  at-5 = deep-at limit 5 (omega arith)
+  at-5 : ltb 0 (leftAt rules 5) ≡ true
+  at-5 = deep-at rules 5 (omega arith)
 
   abbrev Parameter : ℕ → List ℕ → Type 0
-  Parameter n = Element (leftAt limit n)
+  Parameter n = Element (leftAt rules n)
 
   abbrev componentMeaning : Component Text → Component (List ℕ)
   componentMeaning = componentAs octetsOf
@@ -139,10 +139,10 @@ module _ (limit : ℕ) (big : 8 ≤ limit) where
   abbrev codeOk : Code (List ℕ) × Option (List ℕ) → Type 0
   codeOk = thenOks CodeOk (λ c. Maybe (Parameter 4))
 
-  code-body-laws : (n : ℕ) → BodyLaws n (codeBody limit) (pairs codeMeaning (Option·map octetsOf)) (thenForms codeForm (λ c. maybe exactly)) codeOk
+  code-body-laws : (n : ℕ) → BodyLaws n (codeBody rules) (pairs codeMeaning (Option·map octetsOf)) (thenForms codeForm (λ c. maybe exactly)) codeOk
   code-body-laws n =
-      bind-laws (levelAt limit 4) silently codeItem _ codeMeaning (Option·map octetsOf) codeForm (λ c. maybe exactly) CodeOk (λ c. Maybe (Parameter 4)) n code-laws
-      (λ v. last-laws (levelAt limit 4) (parameterItem limit 4) octetsOf exactly (Parameter 4) n (element-laws (leftAt limit 4)) at-4) at-4
+      bind-laws (levelAt rules 4) silently codeItem _ codeMeaning (Option·map octetsOf) codeForm (λ c. maybe exactly) CodeOk (λ c. Maybe (Parameter 4)) n code-laws
+      (λ v. last-laws (levelAt rules 4) (parameterItem rules 4) octetsOf exactly (Parameter 4) n (element-laws (leftAt rules 4)) at-4) at-4
 
   abbrev invoked : ℤ × (Option ℤ × (Code (List ℕ) × Option (List ℕ))) → Component (List ℕ)
   invoked v = invoke (v .0) (v .1 .0) (v .1 .1 .0) (v .1 .1 .1)
@@ -154,12 +154,12 @@ module _ (limit : ℕ) (big : 8 ≤ limit) where
   option-id none = refl
   option-id (some a) = refl
 
-  invoke-laws : (n : ℕ) → BodyLaws n (invokeBody limit) componentMeaning insideForm (Image invoked InvokedOk)
+  invoke-laws : (n : ℕ) → BodyLaws n (invokeBody rules) componentMeaning insideForm (Image invoked InvokedOk)
   invoke-laws n =
       image-body-laws (λ v. invoke (v .0) (v .1 .0) (v .1 .1 .0) (v .1 .1 .1)) invoked (pairs id (optPairs id (pairs codeMeaning (Option·map octetsOf)))) componentMeaning
       (λ v. ap (λ (o : Option ℤ). invoke (v .0) o (codeMeaning (v .1 .1 .0)) (Option·map octetsOf (v .1 .1 .1))) (option-id (v .1 .0)))
       (thenForms (integer 0x02) (λ i. optForms (integer 0x80) (thenForms codeForm (λ c. maybe exactly)))) insideForm InvokedOk (λ v o. refl) n _
-      (bind-laws (levelAt limit 4) noted idItem _ id (optPairs id (pairs codeMeaning (Option·map octetsOf))) (integer 0x02) (λ i. optForms (integer 0x80) (thenForms codeForm (λ c. maybe exactly))) InvokeIdOk (λ i. optOks InvokeIdOk codeOk) n id-laws
+      (bind-laws (levelAt rules 4) noted idItem _ id (optPairs id (pairs codeMeaning (Option·map octetsOf))) (integer 0x02) (λ i. optForms (integer 0x80) (thenForms codeForm (λ c. maybe exactly))) InvokeIdOk (λ i. optOks InvokeIdOk codeOk) n id-laws
       (λ v. opt-laws 0x80 (integerItem 0x80 1) _ id (pairs codeMeaning (Option·map octetsOf)) (integer 0x80) (thenForms codeForm (λ c. maybe exactly)) InvokeIdOk codeOk n linked-laws (code-body-laws n) (λ a. refl) refl at-4 refl) at-4)
 
   abbrev failed : ℤ × (Code (List ℕ) × Option (List ℕ)) → Component (List ℕ)
@@ -168,33 +168,33 @@ module _ (limit : ℕ) (big : 8 ≤ limit) where
   abbrev FailedOk : ℤ × (Code (List ℕ) × Option (List ℕ)) → Type 0
   FailedOk = thenOks InvokeIdOk (λ i. codeOk)
 
-  error-laws : (n : ℕ) → BodyLaws n (errorBody limit) componentMeaning insideForm (Image failed FailedOk)
+  error-laws : (n : ℕ) → BodyLaws n (errorBody rules) componentMeaning insideForm (Image failed FailedOk)
   error-laws n =
       image-body-laws (λ v. error (v .0) (v .1 .0) (v .1 .1)) failed (pairs id (pairs codeMeaning (Option·map octetsOf))) componentMeaning (λ v. refl)
       (thenForms (integer 0x02) (λ i. thenForms codeForm (λ c. maybe exactly))) insideForm FailedOk (λ v o. refl) n _
-      (bind-laws (levelAt limit 4) noted idItem _ id (pairs codeMeaning (Option·map octetsOf)) (integer 0x02) (λ i. thenForms codeForm (λ c. maybe exactly)) InvokeIdOk (λ i. codeOk) n id-laws (λ v. code-body-laws n) at-4)
+      (bind-laws (levelAt rules 4) noted idItem _ id (pairs codeMeaning (Option·map octetsOf)) (integer 0x02) (λ i. thenForms codeForm (λ c. maybe exactly)) InvokeIdOk (λ i. codeOk) n id-laws (λ v. code-body-laws n) at-4)
 
   -- 30 with both
   abbrev bothOk : Code (List ℕ) × List ℕ → Type 0
   bothOk = thenOks CodeOk (λ c. Parameter 5)
 
-  both-laws : ItemLaws (bothItem limit) (bothAs octetsOf) holding bothOk
+  both-laws : ItemLaws (bothItem rules) (bothAs octetsOf) holding bothOk
   unfolding extendedOf codeZero constructorOf
   both-laws =
-      around-laws 0x30 _ (λ n. bind-laws (levelAt limit 5) silently codeItem _ codeMeaning octetsOf codeForm (λ c. exactly) CodeOk (λ c. Parameter 5) n code-laws
-      (λ v. only-laws (levelAt limit 5) (parameterItem limit 5) octetsOf exactly (Parameter 5) n (element-laws (leftAt limit 5)) at-5) at-5) refl refl refl
+      around-laws 0x30 _ (λ n. bind-laws (levelAt rules 5) silently codeItem _ codeMeaning octetsOf codeForm (λ c. exactly) CodeOk (λ c. Parameter 5) n code-laws
+      (λ v. only-laws (levelAt rules 5) (parameterItem rules 5) octetsOf exactly (Parameter 5) n (element-laws (leftAt rules 5)) at-5) at-5) refl refl refl
 
   abbrev ResultedOk : ℤ × Option (Code (List ℕ) × List ℕ) → Type 0
   ResultedOk = thenOks InvokeIdOk (λ i. Maybe bothOk)
 
   -- a last or not last result
   result-laws : (f : ℤ → Option (Code Text × Text) → Component Text) (g : ℤ → Option (Code (List ℕ) × List ℕ) → Component (List ℕ)) → ((i : ℤ) (r : Option (Code Text × Text)) → componentMeaning (f i r) ≡ g i (Option·map (bothAs octetsOf) r))
-      → ((i : ℤ) (r : Option (Code (List ℕ) × List ℕ)) → insideForm (g i r) ≡ then (integer 0x02 i) (maybe holding r)) → (n : ℕ) → BodyLaws n (resultBody limit f) componentMeaning insideForm (Image (λ v. g (v .0) (v .1)) ResultedOk)
+      → ((i : ℤ) (r : Option (Code (List ℕ) × List ℕ)) → insideForm (g i r) ≡ then (integer 0x02 i) (maybe holding r)) → (n : ℕ) → BodyLaws n (resultBody rules f) componentMeaning insideForm (Image (λ v. g (v .0) (v .1)) ResultedOk)
   result-laws f g means forms n =
       image-body-laws (λ v. f (v .0) (v .1)) (λ v. g (v .0) (v .1)) (pairs id (Option·map (bothAs octetsOf))) componentMeaning (λ v. means (v .0) (v .1))
       (thenForms (integer 0x02) (λ i. maybe holding)) insideForm ResultedOk (λ v o. forms (v .0) (v .1)) n _
-      (bind-laws (levelAt limit 4) noted idItem _ id (Option·map (bothAs octetsOf)) (integer 0x02) (λ i. maybe holding) InvokeIdOk (λ i. Maybe bothOk) n id-laws
-      (λ v. last-laws (levelAt limit 4) (bothItem limit) (bothAs octetsOf) holding bothOk n both-laws at-4) at-4)
+      (bind-laws (levelAt rules 4) noted idItem _ id (Option·map (bothAs octetsOf)) (integer 0x02) (λ i. maybe holding) InvokeIdOk (λ i. Maybe bothOk) n id-laws
+      (λ v. last-laws (levelAt rules 4) (bothItem rules) (bothAs octetsOf) holding bothOk n both-laws at-4) at-4)
 
   abbrev rejected : Option ℤ × Problem → Component (List ℕ)
   rejected v = reject (v .0) (v .1)
@@ -202,11 +202,11 @@ module _ (limit : ℕ) (big : 8 ≤ limit) where
   abbrev RejectedOk : Option ℤ × Problem → Type 0
   RejectedOk = thenOks (Maybe InvokeIdOk) (λ i. ProblemOk)
 
-  reject-laws : (n : ℕ) → BodyLaws n (rejectBody limit) componentMeaning insideForm (Image rejected RejectedOk)
+  reject-laws : (n : ℕ) → BodyLaws n (rejectBody rules) componentMeaning insideForm (Image rejected RejectedOk)
   reject-laws n =
       image-body-laws (λ v. reject (v .0) (v .1)) rejected (pairs id id) componentMeaning (λ v. refl) (thenForms idOrNull (λ i. problemForm)) insideForm RejectedOk (λ v o. refl) n _
-      (bind-laws (levelAt limit 4) withInvokeId idOrNullItem _ id id idOrNull (λ i. problemForm) (Maybe InvokeIdOk) (λ i. ProblemOk) n null-laws
-      (λ v. only-laws (levelAt limit 4) problemItem id problemForm ProblemOk n problem-laws at-4) at-4)
+      (bind-laws (levelAt rules 4) withInvokeId idOrNullItem _ id id idOrNull (λ i. problemForm) (Maybe InvokeIdOk) (λ i. ProblemOk) n null-laws
+      (λ v. only-laws (levelAt rules 4) problemItem id problemForm ProblemOk n problem-laws at-4) at-4)
 
   abbrev lastly : ℤ × Option (Code (List ℕ) × List ℕ) → Component (List ℕ)
   lastly v = last (v .0) (v .1)
@@ -215,15 +215,15 @@ module _ (limit : ℕ) (big : 8 ≤ limit) where
   notLastly v = notLast (v .0) (v .1)
 
   -- a result's parts, as the range says them and as they are read
-  both-to : (r : Option (Code (List ℕ) × List ℕ)) → Maybe (BothOk limit) r → Maybe bothOk r
+  both-to : (r : Option (Code (List ℕ) × List ℕ)) → Maybe (BothOk rules) r → Maybe bothOk r
   both-to none o = tt
   both-to (some (c, p)) o = o
 
-  both-from : (r : Option (Code (List ℕ) × List ℕ)) → Maybe bothOk r → Maybe (BothOk limit) r
+  both-from : (r : Option (Code (List ℕ) × List ℕ)) → Maybe bothOk r → Maybe (BothOk rules) r
   both-from none o = tt
   both-from (some (c, p)) o = o
 
-  component-kinds : (a : Component (List ℕ)) → ComponentOk limit a → Image invoked InvokedOk a ⊎ (Image lastly ResultedOk a ⊎ (Image failed FailedOk a ⊎ (Image rejected RejectedOk a ⊎ Image notLastly ResultedOk a)))
+  component-kinds : (a : Component (List ℕ)) → ComponentOk rules a → Image invoked InvokedOk a ⊎ (Image lastly ResultedOk a ⊎ (Image failed FailedOk a ⊎ (Image rejected RejectedOk a ⊎ Image notLastly ResultedOk a)))
   unfolding ComponentOk
   component-kinds (invoke i l c p) o = inl ((i, (l, (c, p))), refl, (o .0, (o .1, (o .2, o .3))))
   component-kinds (last i r) o = inr (inl ((i, r), refl, (o .0, both-to r (o .1))))
@@ -237,27 +237,27 @@ module _ (limit : ℕ) (big : 8 ≤ limit) where
     kind-laws : ItemLaws (aroundItem t b) componentMeaning componentForm (Image g ok)
     kind-laws = item-form (image-out (λ c. around t (insideForm c) ≡ componentForm c) (λ a o. forms a)) (around-laws t b laws e z k)
 
-  pub component-laws : ItemLaws (componentItem limit) componentMeaning componentForm (ComponentOk limit)
+  pub component-laws : ItemLaws (componentItem rules) componentMeaning componentForm (ComponentOk rules)
   unfolding extendedOf codeZero constructorOf componentForm ComponentOk
   component-laws =
       item-range component-kinds
-      (λ a. ⊎-elim (image-out (ComponentOk limit) (λ v o. (o .0, o .1 .0, o .1 .1 .0, o .1 .1 .1)) a)
-      (⊎-elim (image-out (ComponentOk limit) (λ v o. (o .0, both-from (v .1) (o .1))) a)
-      (⊎-elim (image-out (ComponentOk limit) (λ v o. (o .0, o .1 .0, o .1 .1)) a)
-      (⊎-elim (image-out (ComponentOk limit) (λ v o. o) a)
-      (image-out (ComponentOk limit) (λ v o. (o .0, both-from (v .1) (o .1))) a)))))
-      (or-laws 0xA1 _ _ (kind-laws 0xA1 (invokeBody limit) invoked InvokedOk (λ v. refl) invoke-laws refl refl refl)
-      (or-laws 0xA2 _ _ (kind-laws 0xA2 (resultBody limit last) lastly ResultedOk (λ v. refl) (result-laws last last (λ i r. refl) (λ i r. refl)) refl refl refl)
-      (or-laws 0xA3 _ _ (kind-laws 0xA3 (errorBody limit) failed FailedOk (λ v. refl) error-laws refl refl refl)
-      (or-laws 0xA4 _ _ (kind-laws 0xA4 (rejectBody limit) rejected RejectedOk (λ v. refl) reject-laws refl refl refl)
-      (kind-laws 0xA7 (resultBody limit notLast) notLastly ResultedOk (λ v. refl) (result-laws notLast notLast (λ i r. refl) (λ i r. refl)) refl refl refl)
+      (λ a. ⊎-elim (image-out (ComponentOk rules) (λ v o. (o .0, o .1 .0, o .1 .1 .0, o .1 .1 .1)) a)
+      (⊎-elim (image-out (ComponentOk rules) (λ v o. (o .0, both-from (v .1) (o .1))) a)
+      (⊎-elim (image-out (ComponentOk rules) (λ v o. (o .0, o .1 .0, o .1 .1)) a)
+      (⊎-elim (image-out (ComponentOk rules) (λ v o. o) a)
+      (image-out (ComponentOk rules) (λ v o. (o .0, both-from (v .1) (o .1))) a)))))
+      (or-laws 0xA1 _ _ (kind-laws 0xA1 (invokeBody rules) invoked InvokedOk (λ v. refl) invoke-laws refl refl refl)
+      (or-laws 0xA2 _ _ (kind-laws 0xA2 (resultBody rules last) lastly ResultedOk (λ v. refl) (result-laws last last (λ i r. refl) (λ i r. refl)) refl refl refl)
+      (or-laws 0xA3 _ _ (kind-laws 0xA3 (errorBody rules) failed FailedOk (λ v. refl) error-laws refl refl refl)
+      (or-laws 0xA4 _ _ (kind-laws 0xA4 (rejectBody rules) rejected RejectedOk (λ v. refl) reject-laws refl refl refl)
+      (kind-laws 0xA7 (resultBody rules notLast) notLastly ResultedOk (λ v. refl) (result-laws notLast notLast (λ i r. refl) (λ i r. refl)) refl refl refl)
       (λ a. refl) refl) (λ a. refl) refl) (λ a. refl) refl) (λ a. refl) refl)
 
   -- 6C: one or more, at most 16
-  pub components-laws : ItemLaws (componentsItem limit) (map componentMeaning) (λ cs. around 0x6C (seriesForm componentForm cs)) (SeriesOk {L = Component Text} (ComponentOk limit) none mostComponents)
+  pub components-laws : ItemLaws (componentsItem rules) (map componentMeaning) (λ cs. around 0x6C (seriesForm componentForm cs)) (SeriesOk {L = Component Text} (ComponentOk rules) none mostComponents)
   unfolding extendedOf codeZero constructorOf
   components-laws =
-      around-laws 0x6C _ (λ n. series-laws (componentAt limit) FaultKind.UnknownComponent (componentItem limit) componentMeaning componentForm (ComponentOk limit) n component-laws (λ k a o. deep-at limit 3 (omega arith)) none (λ v i. nope v i) mostComponents 0) refl refl refl
+      around-laws 0x6C _ (λ n. series-laws (componentAt rules) FaultKind.UnknownComponent (componentItem rules) componentMeaning componentForm (ComponentOk rules) n component-laws (λ k a o. deep-at rules 3 (omega arith)) none (λ v i. nope v i) mostComponents 0) refl refl refl
     where
       nope : (v : List (Component Text)) → none ≡ some v → v ≡ []
       nope v i = let z : _≡_ {A = ℕ} 0 1 = cc in absurd (omega arith)

@@ -20,14 +20,14 @@ use Rattle.element.specs.Parts.{leafContents, inside, onward, optPick, seriesBo
 use Rattle.element.specs.Walk.{walkPick, walkContents}
 use Rattle.tcap.specs.declared.{OptionalOrig.OptionalOrig, Record.Record, Answer.Answer, Outcome.Outcome, Reading.Reading}
 use Rattle.tcap.specs.Meaning.{componentForm, componentsForm, dialogueForm, endingForm, messageForm, written}
-use Rattle.tcap.specs.WellFormed.{idOk, deepestLevel}
+use Rattle.tcap.specs.WellFormed.{Rules, idOk, the93}
 use Rattle.tcap.specs.Productions.{single?}
 use Rattle.tcap.specs.Record.{recordOf, rowsMean, meaningOf}
 use Rattle.tcap.specs.Reading.{readFirst, locatedUpTo, groundOf, byOwner, answerFor, refusalOf, answered, readingUpTo, reading}
 
-unfoldable pub outcomeUpTo : ℕ → List ℕ → Reading
+unfoldable pub outcomeUpTo : Rules → List ℕ → Reading
 unfolding numberFrom octetsIn topOf signedAt bitsAt holds same fewestOf constructorOf extendedOf codeZero widthFrom integerOctets signedOf integerOk numbers identifierOk numberOf inDialogue inComponent withInvokeId withOrigId endOf third second first tagOf within longOf lengthOf next check blamed askLength askTag atEnd askEnd ask leafContents inside onward optPick seriesBody walkPick walkContents idOk single? recordOf readFirst locatedUpTo groundOf byOwner answerFor refusalOf answered readingUpTo
-outcomeUpTo limit m = readingUpTo limit m
+outcomeUpTo rules m = readingUpTo rules m
 
 unfoldable pub outcomeOf : List ℕ → Reading
 unfolding outcomeUpTo reading
@@ -53,13 +53,13 @@ unfolding numberOf
 toldOf Outcome.Accepted r = reads r
 toldOf (Outcome.Refused f) r = refused (numberOf (f .kind)) (f .place) (f .orig) (f .answer) r
 
-unfoldable pub toldUpTo : ℕ → List ℕ → Told
+unfoldable pub toldUpTo : Rules → List ℕ → Told
 unfolding outcomeUpTo toldOf
-toldUpTo limit m = let r = outcomeUpTo limit m in toldOf (r .outcome) (r .message)
+toldUpTo rules m = let r = outcomeUpTo rules m in toldOf (r .outcome) (r .message)
 
 unfoldable pub told : List ℕ → Told
 unfolding toldUpTo
-told m = toldUpTo deepestLevel m
+told m = toldUpTo the93 m
 
 -- a table of messages and of what is told of each
 abbrev pub AsTold : List (List ℕ × Told) → Type 0

@@ -22,7 +22,7 @@ use Rattle.element.proofs.Joins.{map-body-laws, or-laws, item-range, item-form,
 use Rattle.element.proofs.Walker.{element-laws, element-tag-laws, enough-laws}
 use Rattle.tcap.specs.declared.{Diagnostic.Diagnostic}
 use Rattle.tcap.specs.Meaning.{Dialogue, request, unidialogue, response, aborted, single, octets, octet, structured, unstructured, version, versionForm, contextForm, infoForm, sourceForm, dialogueForm}
-use Rattle.tcap.specs.WellFormed.{leftAt, SourceOk, Outside, DialogueOk}
+use Rattle.tcap.specs.WellFormed.{Rules, leftAt, SourceOk, Outside, DialogueOk}
 use Rattle.tcap.specs.Productions.{octetItem, nameItem, versionBody, levelAt, parameterItem, infoBody, contextItem, askedItem, numberItem, sourceItem, answeredItem, abortedItem, heldItem, externalBody, inside6B, dialogueItem}
 use Rattle.tcap.proofs.Strings.{octetsOf, dialogueAs}
 use Rattle.tcap.proofs.Components.{id, AtMost, octet-laws, name-laws, deep-at}
@@ -98,25 +98,25 @@ in-layers (aborted r u) = refl
 in-layers (single n e) = refl
 in-layers (octets n c) = refl
 
-module _ (limit : ℕ) (big : 8 ≤ limit) where
-  at : (n : ℕ) → n ≤ 8 → ltb 0 (leftAt limit n) ≡ true
-  at n h = deep-at limit n (omega arith)
+module _ (rules : Rules) (big : 8 ≤ rules .limit) where
+  at : (n : ℕ) → n ≤ 8 → ltb 0 (leftAt rules n) ≡ true
+  at n h = deep-at rules n (omega arith)
 
   abbrev InfoOk : List ℕ → Type 0
-  InfoOk = SeriesOf 0x28 (leftAt limit 7)
+  InfoOk = SeriesOf 0x28 (leftAt rules 7)
 
-  info-laws : (n : ℕ) → BodyLaws n (infoBody limit) (Option·map octetsOf) infoForm (Maybe InfoOk)
+  info-laws : (n : ℕ) → BodyLaws n (infoBody rules) (Option·map octetsOf) infoForm (Maybe InfoOk)
   unfolding extendedOf codeZero constructorOf SeriesOf
   info-laws n =
-      last-laws (levelAt limit 6) _ octetsOf (λ c. around 0xBE (exactly c)) InfoOk n
-      (kept-laws (map octetsOf) (seriesForm exactly) (Every (IsElement (leftAt limit 7) 0x28)) 0xBE _
-      (λ k. enough-laws (walkTagItem 0x28 (leftAt limit 7)) octetsOf exactly (IsElement (leftAt limit 7) 0x28) (element-tag-laws 0x28 (leftAt limit 7)) (λ i. levelAt limit 7) FaultKind.Another (λ i a o. at 7 (omega arith)) k)
+      last-laws (levelAt rules 6) _ octetsOf (λ c. around 0xBE (exactly c)) InfoOk n
+      (kept-laws (map octetsOf) (seriesForm exactly) (Every (IsElement (leftAt rules 7) 0x28)) 0xBE _
+      (λ k. enough-laws (walkTagItem 0x28 (leftAt rules 7)) octetsOf exactly (IsElement (leftAt rules 7) 0x28) (element-tag-laws 0x28 (leftAt rules 7)) (λ i. levelAt rules 7) FaultKind.Another (λ i a o. at 7 (omega arith)) k)
       refl refl refl)
       (at 6 (omega arith))
 
-  context-laws : ItemLaws (contextItem limit) octetsOf contextForm NameOk
+  context-laws : ItemLaws (contextItem rules) octetsOf contextForm NameOk
   unfolding extendedOf codeZero constructorOf
-  context-laws = around-laws 0xA1 _ (λ n. only-laws (levelAt limit 7) nameItem octetsOf (leaf 0x06) NameOk n name-laws (at 7 (omega arith))) refl refl refl
+  context-laws = around-laws 0xA1 _ (λ n. only-laws (levelAt rules 7) nameItem octetsOf (leaf 0x06) NameOk n name-laws (at 7 (omega arith))) refl refl refl
 
   -- a PDU: its tag around what it holds
   module _ {A : Type 0} (t : ℕ) (b : Body (Dialogue Text)) (g : A → Dialogue (List ℕ)) (ok : A → Type 0) (forms : (a : A) → around t (insideForm (g a)) ≡ pduForm (g a))
@@ -130,29 +130,29 @@ module _ (limit : ℕ) (big : 8 ≤ limit) where
 
   asked-laws : (f : Text → Option Text → Dialogue Text) (g : List ℕ → Option (List ℕ) → Dialogue (List ℕ)) → ((n : Text) (u : Option Text) → dialogueMeaning (f n u) ≡ g (octetsOf n) (Option·map octetsOf u))
       → ((n : List ℕ) (u : Option (List ℕ)) → insideForm (g n u) ≡ then versionForm (then (contextForm n) (infoForm u))) → ((n : List ℕ) (u : Option (List ℕ)) → around 0x60 (insideForm (g n u)) ≡ pduForm (g n u))
-      → ItemLaws (askedItem limit f) dialogueMeaning pduForm (Image (λ v. g (v .0) (v .1)) AskedOk)
+      → ItemLaws (askedItem rules f) dialogueMeaning pduForm (Image (λ v. g (v .0) (v .1)) AskedOk)
   unfolding extendedOf codeZero constructorOf
   asked-laws f g means inner forms =
       pdu-laws 0x60 _ (λ v. g (v .0) (v .1)) AskedOk (λ v. forms (v .0) (v .1))
       (λ n. image-body-laws (λ v. f (v .0) (v .1)) (λ v. g (v .0) (v .1)) (pairs octetsOf (Option·map octetsOf)) dialogueMeaning (λ v. means (v .0) (v .1))
       (λ v. then versionForm (thenForms contextForm (λ n. infoForm) v)) insideForm AskedOk (λ v o. inner (v .0) (v .1)) n _
       (version-laws n _ (pairs octetsOf (Option·map octetsOf)) (thenForms contextForm (λ n. infoForm)) AskedOk
-      (bind-laws (levelAt limit 6) silently (contextItem limit) _ octetsOf (Option·map octetsOf) contextForm (λ a. infoForm) NameOk (λ a. Maybe InfoOk) n context-laws (λ v. info-laws n) (at 6 (omega arith)))
+      (bind-laws (levelAt rules 6) silently (contextItem rules) _ octetsOf (Option·map octetsOf) contextForm (λ a. infoForm) NameOk (λ a. Maybe InfoOk) n context-laws (λ v. info-laws n) (at 6 (omega arith)))
       refl (at 6 (omega arith)) refl)) refl refl refl
 
   -- the fields of a response
-  holding-laws : (t most l : ℕ) → l ≤ 8 → extendedOf t ≡ false → codeZero t ≡ false → constructorOf t ≡ true → ItemLaws (numberItem limit t l most) id (λ n. around t (octet 0x02 n)) (AtMost most)
+  holding-laws : (t most l : ℕ) → l ≤ 8 → extendedOf t ≡ false → codeZero t ≡ false → constructorOf t ≡ true → ItemLaws (numberItem rules t l most) id (λ n. around t (octet 0x02 n)) (AtMost most)
   unfolding extendedOf codeZero
-  holding-laws t most l h e z c = around-laws t _ (λ n. only-laws (levelAt limit l) (octetItem 0x02 most) id (octet 0x02) (AtMost most) n (octet-laws 0x02 most refl refl) (at l h)) e z c
+  holding-laws t most l h e z c = around-laws t _ (λ n. only-laws (levelAt rules l) (octetItem 0x02 most) id (octet 0x02) (AtMost most) n (octet-laws 0x02 most refl refl) (at l h)) e z c
 
   source-kinds : (s : Diagnostic) → SourceOk s → Image Diagnostic.ByUser (AtMost 2) s ⊎ Image Diagnostic.ByProvider (AtMost 2) s
   source-kinds (Diagnostic.ByUser n) o = inl (n, refl, o)
   source-kinds (Diagnostic.ByProvider n) o = inr (n, refl, o)
 
-  source-laws : ItemLaws (sourceItem limit) id (λ s. around 0xA3 (sourceForm s)) SourceOk
+  source-laws : ItemLaws (sourceItem rules) id (λ s. around 0xA3 (sourceForm s)) SourceOk
   unfolding extendedOf codeZero constructorOf
   source-laws =
-      around-laws 0xA3 _ (λ n. only-laws (levelAt limit 7) _ id sourceForm SourceOk n
+      around-laws 0xA3 _ (λ n. only-laws (levelAt rules 7) _ id sourceForm SourceOk n
       (item-range source-kinds (λ s. ⊎-elim (image-out SourceOk (λ n o. o) s) (image-out SourceOk (λ n o. o) s))
       (or-laws 0xA1 _ _ (image-laws Diagnostic.ByUser Diagnostic.ByUser id id (λ v. refl) _ sourceForm (AtMost 2) (λ n o. refl) _ (holding-laws 0xA1 2 8 (omega arith) refl refl refl))
       (image-laws Diagnostic.ByProvider Diagnostic.ByProvider id id (λ v. refl) _ sourceForm (AtMost 2) (λ n o. refl) _ (holding-laws 0xA2 2 8 (omega arith) refl refl refl)) (λ a. refl) refl))
@@ -170,16 +170,16 @@ module _ (limit : ℕ) (big : 8 ≤ limit) where
   abbrev AnsweredOk : Answered → Type 0
   AnsweredOk = thenOks NameOk (λ a. thenOks (AtMost 1) (λ b. thenOks SourceOk (λ c. Maybe InfoOk)))
 
-  answered-laws : ItemLaws (answeredItem limit) dialogueMeaning pduForm (Image answered AnsweredOk)
+  answered-laws : ItemLaws (answeredItem rules) dialogueMeaning pduForm (Image answered AnsweredOk)
   unfolding extendedOf codeZero constructorOf
   answered-laws =
       pdu-laws 0x61 _ answered AnsweredOk (λ v. refl)
       (λ n. image-body-laws (λ v. response (v .0) (v .1 .0) (v .1 .1 .0) (v .1 .1 .1)) answered (pairs octetsOf (pairs id (pairs id (Option·map octetsOf)))) dialogueMeaning (λ v. refl)
       (λ v. then versionForm (answeredForm v)) insideForm AnsweredOk (λ v o. refl) n _
       (version-laws n _ (pairs octetsOf (pairs id (pairs id (Option·map octetsOf)))) answeredForm AnsweredOk
-      (bind-laws (levelAt limit 6) silently (contextItem limit) _ octetsOf _ contextForm _ NameOk _ n context-laws
-      (λ u. bind-laws (levelAt limit 6) silently (numberItem limit 0xA2 7 1) _ id _ (λ n. around 0xA2 (octet 0x02 n)) _ (AtMost 1) _ n (holding-laws 0xA2 1 7 (omega arith) refl refl refl)
-      (λ v. bind-laws (levelAt limit 6) silently (sourceItem limit) _ id (Option·map octetsOf) (λ s. around 0xA3 (sourceForm s)) (λ c. infoForm) SourceOk (λ c. Maybe InfoOk) n source-laws (λ w. info-laws n) (at 6 (omega arith)))
+      (bind-laws (levelAt rules 6) silently (contextItem rules) _ octetsOf _ contextForm _ NameOk _ n context-laws
+      (λ u. bind-laws (levelAt rules 6) silently (numberItem rules 0xA2 7 1) _ id _ (λ n. around 0xA2 (octet 0x02 n)) _ (AtMost 1) _ n (holding-laws 0xA2 1 7 (omega arith) refl refl refl)
+      (λ v. bind-laws (levelAt rules 6) silently (sourceItem rules) _ id (Option·map octetsOf) (λ s. around 0xA3 (sourceForm s)) (λ c. infoForm) SourceOk (λ c. Maybe InfoOk) n source-laws (λ w. info-laws n) (at 6 (omega arith)))
       (at 6 (omega arith))) (at 6 (omega arith)))
       refl (at 6 (omega arith)) refl)) refl refl refl
 
@@ -189,12 +189,12 @@ module _ (limit : ℕ) (big : 8 ≤ limit) where
   abbrev StoppedOk : ℕ × Option (List ℕ) → Type 0
   StoppedOk = thenOks (AtMost 1) (λ a. Maybe InfoOk)
 
-  aborted-laws : ItemLaws (abortedItem limit) dialogueMeaning pduForm (Image stopped StoppedOk)
+  aborted-laws : ItemLaws (abortedItem rules) dialogueMeaning pduForm (Image stopped StoppedOk)
   unfolding extendedOf codeZero constructorOf
   aborted-laws =
       pdu-laws 0x64 _ stopped StoppedOk (λ v. refl)
       (λ n. image-body-laws (λ v. aborted (v .0) (v .1)) stopped (pairs id (Option·map octetsOf)) dialogueMeaning (λ v. refl) (thenForms (octet 0x80) (λ a. infoForm)) insideForm StoppedOk (λ v o. refl) n _
-      (bind-laws (levelAt limit 6) silently (octetItem 0x80 1) _ id (Option·map octetsOf) (octet 0x80) (λ a. infoForm) (AtMost 1) (λ a. Maybe InfoOk) n (octet-laws 0x80 1 refl refl) (λ v. info-laws n) (at 6 (omega arith)))) refl refl refl
+      (bind-laws (levelAt rules 6) silently (octetItem 0x80 1) _ id (Option·map octetsOf) (octet 0x80) (λ a. infoForm) (AtMost 1) (λ a. Maybe InfoOk) n (octet-laws 0x80 1 refl refl) (λ v. info-laws n) (at 6 (omega arith)))) refl refl refl
 
   -- what stands behind the name n
   abbrev requested : List ℕ × Option (List ℕ) → Dialogue (List ℕ)
@@ -212,24 +212,24 @@ module _ (limit : ℕ) (big : 8 ≤ limit) where
   abbrev HeldOk : List ℕ → Bool → Bool → Dialogue (List ℕ) → Type 0
   HeldOk n true u d = PduOk d
   HeldOk n false true d = Image announced AskedOk d
-  HeldOk n false false d = Image (single n) (Element (leftAt limit 5)) d ⊎ Image (octets n) AnyOctets d
+  HeldOk n false false d = Image (single n) (Element (leftAt rules 5)) d ⊎ Image (octets n) AnyOctets d
 
-  held-laws : (n : Text) (a b : Bool) → ItemLaws (heldItem limit n a b) dialogueMeaning heldForm (HeldOk (octetsOf n) a b)
+  held-laws : (n : Text) (a b : Bool) → ItemLaws (heldItem rules n a b) dialogueMeaning heldForm (HeldOk (octetsOf n) a b)
   unfolding extendedOf codeZero constructorOf
   held-laws n true b =
       item-form (λ d. ⊎-elim (image-out same-form (λ v o. refl) d) (⊎-elim (image-out same-form (λ v o. refl) d) (image-out same-form (λ v o. refl) d)))
-      (around-laws 0xA0 _ (λ k. only-laws (levelAt limit 5) _ dialogueMeaning pduForm PduOk k
+      (around-laws 0xA0 _ (λ k. only-laws (levelAt rules 5) _ dialogueMeaning pduForm PduOk k
       (or-laws 0x60 _ _ (asked-laws request request (λ n u. refl) (λ n u. refl) (λ n u. refl)) (or-laws 0x61 _ _ answered-laws aborted-laws (λ a. refl) refl) (λ a. refl) refl) (at 5 (omega arith))) refl refl refl)
     where
       same-form : Dialogue (List ℕ) → Type 0
       same-form d = around 0xA0 (pduForm d) ≡ heldForm d
   held-laws n false true =
       item-form (image-out (λ d. around 0xA0 (pduForm d) ≡ heldForm d) (λ v o. refl))
-      (around-laws 0xA0 _ (λ k. only-laws (levelAt limit 5) _ dialogueMeaning pduForm (Image announced AskedOk) k (asked-laws unidialogue unidialogue (λ n u. refl) (λ n u. refl) (λ n u. refl)) (at 5 (omega arith))) refl refl refl)
+      (around-laws 0xA0 _ (λ k. only-laws (levelAt rules 5) _ dialogueMeaning pduForm (Image announced AskedOk) k (asked-laws unidialogue unidialogue (λ n u. refl) (λ n u. refl) (λ n u. refl)) (at 5 (omega arith))) refl refl refl)
   held-laws n false false =
       or-laws 0xA0 _ _
       (image-laws (single n) (single (octetsOf n)) octetsOf dialogueMeaning (λ v. refl) (λ e. around 0xA0 (exactly e)) heldForm _ (λ e o. refl) _
-      (around-laws 0xA0 _ (λ k. only-laws (levelAt limit 5) _ octetsOf exactly (Element (leftAt limit 5)) k (element-laws (leftAt limit 5)) (at 5 (omega arith))) refl refl refl))
+      (around-laws 0xA0 _ (λ k. only-laws (levelAt rules 5) _ octetsOf exactly (Element (leftAt rules 5)) k (element-laws (leftAt rules 5)) (at 5 (omega arith))) refl refl refl))
       (image-laws (octets n) (octets (octetsOf n)) octetsOf dialogueMeaning (λ v. refl) (leaf 0x81) heldForm AnyOctets (λ c o. refl) _ (leaf-laws 0x81 (λ c. true) refl refl)) (λ a. refl) refl
 
   -- the name and what stands behind it
@@ -246,18 +246,18 @@ module _ (limit : ℕ) (big : 8 ≤ limit) where
   name-held n false true p q d = image-out (Named n) (λ v o. sym (same-equal unstructured n q)) d
   name-held n false false p q d = ⊎-elim (image-out (Named n) (λ v o. refl) d) (image-out (Named n) (λ v o. refl) d)
 
-  external-laws : (n : ℕ) → BodyLaws n (externalBody limit) dialogueMeaning externalForm (Image (λ v. v .1) NamedOk)
+  external-laws : (n : ℕ) → BodyLaws n (externalBody rules) dialogueMeaning externalForm (Image (λ v. v .1) NamedOk)
   external-laws n =
       image-body-laws (λ v. v .1) (λ v. v .1) (pairs octetsOf dialogueMeaning) dialogueMeaning (λ v. refl) (thenForms (leaf 0x06) (λ n. heldForm)) externalForm NamedOk
       (λ v o. rw (name-held (v .0) _ _ refl refl (v .1) (o .1))) n _
-      (bind-laws (levelAt limit 4) silently nameItem _ octetsOf dialogueMeaning (leaf 0x06) (λ n. heldForm) NameOk (λ n. HeldOk n (same structured n) (same unstructured n)) n name-laws
-      (λ v. only-laws (levelAt limit 4) _ dialogueMeaning heldForm _ n (held-laws v (same structured (octetsOf v)) (same unstructured (octetsOf v))) (at 4 (omega arith))) (at 4 (omega arith)))
+      (bind-laws (levelAt rules 4) silently nameItem _ octetsOf dialogueMeaning (leaf 0x06) (λ n. heldForm) NameOk (λ n. HeldOk n (same structured n) (same unstructured n)) n name-laws
+      (λ v. only-laws (levelAt rules 4) _ dialogueMeaning heldForm _ n (held-laws v (same structured (octetsOf v)) (same unstructured (octetsOf v))) (at 4 (omega arith))) (at 4 (omega arith)))
 
   names : (identifierOk structured ≡ true) × (identifierOk unstructured ≡ true)
   unfolding identifierOk numbers
   names = (refl, refl)
 
-  dialogue-named : (d : Dialogue (List ℕ)) → DialogueOk limit d → Image (λ v. v .1) NamedOk d
+  dialogue-named : (d : Dialogue (List ℕ)) → DialogueOk rules d → Image (λ v. v .1) NamedOk d
   unfolding DialogueOk same
   dialogue-named (request n u) o = ((structured, request n u), refl, (names .0, inl ((n, u), refl, o)))
   dialogue-named (unidialogue n u) o = ((unstructured, unidialogue n u), refl, (names .1, ((n, u), refl, o)))
@@ -266,16 +266,16 @@ module _ (limit : ℕ) (big : 8 ≤ limit) where
   dialogue-named (single n e) o = ((n, single n e), refl, (o .0 .0, rw (o .0 .1, o .0 .2) (inl (e, refl, o .1))))
   dialogue-named (octets n c) o = ((n, octets n c), refl, (o .0, rw (o .1, o .2) (inr (c, refl, refl))))
 
-  held-fine : (n : List ℕ) (a b : Bool) → same structured n ≡ a → same unstructured n ≡ b → NameOk n → (d : Dialogue (List ℕ)) → HeldOk n a b d → DialogueOk limit d
+  held-fine : (n : List ℕ) (a b : Bool) → same structured n ≡ a → same unstructured n ≡ b → NameOk n → (d : Dialogue (List ℕ)) → HeldOk n a b d → DialogueOk rules d
   unfolding DialogueOk
   held-fine n true b p q i d =
-      ⊎-elim (image-out (DialogueOk limit) (λ v o. o) d) (⊎-elim (image-out (DialogueOk limit) (λ v o. (o .0, o .1 .0, o .1 .1 .0, o .1 .1 .1)) d) (image-out (DialogueOk limit) (λ v o. o) d))
-  held-fine n false true p q i d = image-out (DialogueOk limit) (λ v o. o) d
-  held-fine n false false p q i d = ⊎-elim (image-out (DialogueOk limit) (λ e o. ((i, p, q), o)) d) (image-out (DialogueOk limit) (λ c o. (i, p, q)) d)
+      ⊎-elim (image-out (DialogueOk rules) (λ v o. o) d) (⊎-elim (image-out (DialogueOk rules) (λ v o. (o .0, o .1 .0, o .1 .1 .0, o .1 .1 .1)) d) (image-out (DialogueOk rules) (λ v o. o) d))
+  held-fine n false true p q i d = image-out (DialogueOk rules) (λ v o. o) d
+  held-fine n false false p q i d = ⊎-elim (image-out (DialogueOk rules) (λ e o. ((i, p, q), o)) d) (image-out (DialogueOk rules) (λ c o. (i, p, q)) d)
 
-  pub dialogue-laws : ItemLaws (dialogueItem limit) dialogueMeaning dialogueForm (DialogueOk limit)
+  pub dialogue-laws : ItemLaws (dialogueItem rules) dialogueMeaning dialogueForm (DialogueOk rules)
   unfolding extendedOf codeZero constructorOf
   dialogue-laws =
-      item-range dialogue-named (image-out (DialogueOk limit) (λ v o. held-fine (v .0) _ _ refl refl (o .0) (v .1) (o .1)))
+      item-range dialogue-named (image-out (DialogueOk rules) (λ v o. held-fine (v .0) _ _ refl refl (o .0) (v .1) (o .1)))
       (item-form (λ d o. in-layers d)
-      (around-laws 0x6B _ (λ n. only-laws (inside6B limit) _ dialogueMeaning (λ d. around 0x28 (externalForm d)) (Image (λ v. v .1) NamedOk) n (around-laws 0x28 _ external-laws refl refl refl) (at 3 (omega arith))) refl refl refl))
+      (around-laws 0x6B _ (λ n. only-laws (inside6B rules) _ dialogueMeaning (λ d. around 0x28 (externalForm d)) (Image (λ v. v .1) NamedOk) n (around-laws 0x28 _ external-laws refl refl refl) (at 3 (omega arith))) refl refl refl))

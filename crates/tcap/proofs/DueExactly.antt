@@ -25,30 +25,31 @@ use Rattle.tcap.proofs.OneFront.{tagged-tag}
 use Rattle.tcap.proofs.OneFault.{none-counts}
 use Rattle.tcap.proofs.Strange.{rank, unfit-rank, faulty-strange}
 use Rattle.tcap.proofs.Pinned.{fault-exactly}
+use Rattle.tcap.specs.WellFormed.{Rules}
 
 -- a place that reading comes to, in a message of at most 255 octets with one of the five tags; all before it is right
-pub record Reached (limit : ℕ) (m : List ℕ) (l : ℕ) (d : Bool) (r : Parts) (s : Known) (p : ℕ) (part : List ℕ) : Type 0 where
+pub record Reached (rules : Rules) (m : List ℕ) (l : ℕ) (d : Bool) (r : Parts) (s : Known) (p : ℕ) (part : List ℕ) : Type 0 where
   pub short : length m ≤ 255
   pub first : ℕ
   pub rest : List ℕ
   pub holds : Holds
   pub octets : m ≡ first ∷ rest
   pub isMessage : find message first ≡ some holds
-  pub way : Trail limit m l d r s p part
+  pub way : Trail rules m l d r s p part
 
 -- the contents end where something mandatory is due; w: whose the constructor is that has them
-pub record MissingAt (limit : ℕ) (m : List ℕ) (p : ℕ) (w : Owner) (i : Option ℤ) (t : Option Text) : Type 0 where
+pub record MissingAt (rules : Rules) (m : List ℕ) (p : ℕ) (w : Owner) (i : Option ℤ) (t : Option Text) : Type 0 where
   pub level : ℕ
   pub definite : Bool
   pub left : Parts
   pub owner : Owner
   pub part : List ℕ
-  pub reached : Reached limit m level definite left (known w owner i t) p part
+  pub reached : Reached rules m level definite left (known w owner i t) p part
   pub ends : endOf definite part ≡ ended
   pub mandatory : mayEnd left ≡ false
 
 -- an element stands, at no component's position, with a sound tag, not code 0 and not too deep, that may not stand there; it belongs to w
-pub record StrangeAt (limit : ℕ) (m : List ℕ) (p : ℕ) (w : Owner) (i : Option ℤ) (t : Option Text) (other : Bool) : Type 0 where
+pub record StrangeAt (rules : Rules) (m : List ℕ) (p : ℕ) (w : Owner) (i : Option ℤ) (t : Option Text) (other : Bool) : Type 0 where
   pub level : ℕ
   pub definite : Bool
   pub left : Parts
@@ -56,10 +57,10 @@ pub record StrangeAt (limit : ℕ) (m : List ℕ) (p : ℕ) (w : Owner) (i : Opt
   pub part : List ℕ
   pub tag : ℕ
   pub behind : List ℕ
-  pub reached : Reached limit m level definite left (known around w i t) p part
+  pub reached : Reached rules m level definite left (known around w i t) p part
   pub noComponent : position left ≡ none
   pub sound : Tagged part tag behind
-  pub deep : level ≤ limit
+  pub deep : level ≤ rules .limit
   pub strange : due left tag ≡ none
   -- whether some other may, mandatory or optional
   pub others : someMay left ≡ other
@@ -90,13 +91,13 @@ none-may (components x k) e a = absurd (false≢true (sym e))
 tagged-more : {part : List ℕ} {a : ℕ} {q : List ℕ} (d : Bool) → Tagged part a q → endOf d part ≡ more
 tagged-more {part = part} {a = a} d t = more-at d part a _ (tagged-tag t .0) (t .plain)
 
-missing-from : {limit : ℕ} {m : List ℕ} {p : ℕ} {w : Owner} {i : Option ℤ} {t : Option Text} → Refuses limit m (fault FaultKind.Missing p w i t) → MissingAt limit m p w i t
+missing-from : {rules : Rules} {m : List ℕ} {p : ℕ} {w : Owner} {i : Option ℤ} {t : Option Text} → Refuses rules m (fault FaultKind.Missing p w i t) → MissingAt rules m p w i t
 unfolding rank
 missing-from (within {a = a} {q = q} {h = h} b e z (found {l = l} {d = d} {r = r} {o = o} {part = part} way (missing x y))) =
     record { level = l; definite = d; left = r; owner = o; part = part; reached = record { short = b; first = a; rest = q; holds = h; octets = e; isMessage = z; way = way }; ends = x; mandatory = y }
 missing-from (within b e z (found way (element x y f))) = let u = faulty-strange f (omega arith) in absurd (omega (arith, unfit-rank (u .kind)))
 
-strange-from : {limit : ℕ} {m : List ℕ} {p : ℕ} {k : FaultKind} {w : Owner} {i : Option ℤ} {t : Option Text} (other : Bool) → 2 ≤ rank k → ((r : Parts) → Unfit r k → (position r ≡ none) × (someMay r ≡ other)) → Refuses limit m (fault k p w i t) → StrangeAt limit m p w i t other
+strange-from : {rules : Rules} {m : List ℕ} {p : ℕ} {k : FaultKind} {w : Owner} {i : Option ℤ} {t : Option Text} (other : Bool) → 2 ≤ rank k → ((r : Parts) → Unfit r k → (position r ≡ none) × (someMay r ≡ other)) → Refuses rules m (fault k p w i t) → StrangeAt rules m p w i t other
 unfolding rank
 strange-from other h is (overlong b) = absurd (omega arith)
 strange-from other h is (noOctets e) = absurd (omega arith)
@@ -131,27 +132,27 @@ another-unfit r (another e f) = (e, f)
 many-unfit : (r : Parts) → Unfit r FaultKind.TooMany → (position r ≡ none) × (someMay r ≡ false)
 many-unfit r (tooMany e) = (none-counts r e, e)
 
-module _ (limit : ℕ) (m : List ℕ) (p : ℕ) (w : Owner) (i : Option ℤ) (t : Option Text) where
+module _ (rules : Rules) (m : List ℕ) (p : ℕ) (w : Owner) (i : Option ℤ) (t : Option Text) where
   -- missing: the contents end at the place where something mandatory is due
-  pub missing-exactly : (locatedUpTo limit m ≡ bad (fault FaultKind.Missing p w i t)) ↔ MissingAt limit m p w i t
+  pub missing-exactly : (locatedUpTo rules m ≡ bad (fault FaultKind.Missing p w i t)) ↔ MissingAt rules m p w i t
   missing-exactly = (
-    λ e. missing-from (fault-exactly limit m (fault FaultKind.Missing p w i t) .0 e),
-    λ x. let y = x .reached in fault-exactly limit m (fault FaultKind.Missing p w i t) .1 (within (y .short) (y .octets) (y .isMessage) (found (y .way) (missing (x .ends) (x .mandatory)))),
+    λ e. missing-from (fault-exactly rules m (fault FaultKind.Missing p w i t) .0 e),
+    λ x. let y = x .reached in fault-exactly rules m (fault FaultKind.Missing p w i t) .1 (within (y .short) (y .octets) (y .isMessage) (found (y .way) (missing (x .ends) (x .mandatory)))),
   )
 
-  strange-found : (k : FaultKind) (other : Bool) (x : StrangeAt limit m p w i t other) → Unfit (x .left) k → locatedUpTo limit m ≡ bad (fault k p w i t)
+  strange-found : (k : FaultKind) (other : Bool) (x : StrangeAt rules m p w i t other) → Unfit (x .left) k → locatedUpTo rules m ≡ bad (fault k p w i t)
   strange-found k other x u =
       let y = x .reached in
       let e : whose (position (x .left)) w ≡ w = rw (x .noComponent) refl in
-      let g : Found limit m (fault k p (whose (position (x .left)) w) i t) = found (y .way) (element (tagged-more (x .definite) (x .sound)) (λ q. nothing-ends (sym (x .noComponent) ∙ q)) (unfit (x .sound) (x .deep) (x .strange) u)) in
-      fault-exactly limit m (fault k p w i t) .1 (within (y .short) (y .octets) (y .isMessage) (rw e at g))
+      let g : Found rules m (fault k p (whose (position (x .left)) w) i t) = found (y .way) (element (tagged-more (x .definite) (x .sound)) (λ q. nothing-ends (sym (x .noComponent) ∙ q)) (unfit (x .sound) (x .deep) (x .strange) u)) in
+      fault-exactly rules m (fault k p w i t) .1 (within (y .short) (y .octets) (y .isMessage) (rw e at g))
 
   -- another: it may not stand there, and some other may
-  pub another-exactly : (locatedUpTo limit m ≡ bad (fault FaultKind.Another p w i t)) ↔ StrangeAt limit m p w i t true
+  pub another-exactly : (locatedUpTo rules m ≡ bad (fault FaultKind.Another p w i t)) ↔ StrangeAt rules m p w i t true
   unfolding rank
-  another-exactly = (λ e. strange-from true (omega arith) another-unfit (fault-exactly limit m (fault FaultKind.Another p w i t) .0 e), λ x. strange-found FaultKind.Another true x (another (x .noComponent) (x .others)))
+  another-exactly = (λ e. strange-from true (omega arith) another-unfit (fault-exactly rules m (fault FaultKind.Another p w i t) .0 e), λ x. strange-found FaultKind.Another true x (another (x .noComponent) (x .others)))
 
   -- too many: none may
-  pub too-many-exactly : (locatedUpTo limit m ≡ bad (fault FaultKind.TooMany p w i t)) ↔ StrangeAt limit m p w i t false
+  pub too-many-exactly : (locatedUpTo rules m ≡ bad (fault FaultKind.TooMany p w i t)) ↔ StrangeAt rules m p w i t false
   unfolding rank
-  too-many-exactly = (λ e. strange-from false (omega arith) many-unfit (fault-exactly limit m (fault FaultKind.TooMany p w i t) .0 e), λ x. strange-found FaultKind.TooMany false x (tooMany (x .others)))
+  too-many-exactly = (λ e. strange-from false (omega arith) many-unfit (fault-exactly rules m (fault FaultKind.TooMany p w i t) .0 e), λ x. strange-found FaultKind.TooMany false x (tooMany (x .others)))

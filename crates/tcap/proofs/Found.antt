@@ -29,6 +29,7 @@ use Rattle.element.proofs.Ends.{Ends, held, failed, ends-next, ends-weaken, end
 use Rattle.tcap.specs.Due.{Parts, Choice, tag as tagged-as, either, any, Holds, octets, origId, invokeId, parts, dialogue, find, due, behind, mayEnd, position, passes, contentsOf, there, orElse}
 use Rattle.tcap.specs.Refused.{Right, primitive, definite as filled, indefinite as endlessly, Fits, nothing, Known, known, whose, inside, told, Trail, into, intoEndless, Tagged, Unfit, Faulty, tagCut, tagBad, zeroCode, tooDeep, unfit, lengthWrong, badContents, Wrong, noPair, missing, seventeenth, element, Found, found}
 use Rattle.tcap.proofs.Fronts.{TagSays, cutOff, badly, tag-says, LengthSays, wrong, length-says, tagged, head-more, none-more, is-true}
+use Rattle.tcap.specs.WellFormed.{Rules}
 
 -- What may stand or not
 
@@ -116,7 +117,7 @@ tag-held a t h g e = by-test (eqb a t) refl e
 
 -- What is claimed of contents and of an element at a place of m
 
-module _ (limit : ℕ) (m : List ℕ) where
+module _ (rules : Rules) (m : List ℕ) where
   -- where q is to come, an element with first octet a is as where r is
   pub record Like (q r : Parts) (a : ℕ) : Type 0 where
     pub may : due q a ≡ due r a
@@ -135,11 +136,11 @@ module _ (limit : ℕ) (m : List ℕ) where
     pub full : b .full ≡ true → (position r ≡ some 16) ⊎ (room ≡ 0)
     pub free : b .full ≡ false → position r ≡ some 16 → ⊥
     pub owned : b .full ≡ false → (k : FaultKind) (p : ℕ) → W (b .owner (at k p)) ≡ fault k p (whose (position r) o) i t
-    pub left : b .full ≡ false → b .left ≡ suc limit - l
+    pub left : b .full ≡ false → b .left ≡ suc (rules .limit) - l
     pub mine : b .full ≡ false → (a : ℕ) → b .mine a ≡ there (due r a)
-    pub other : b .full ≡ false → (d : Bool) (p : ℕ) (part : List ℕ) (a : ℕ) (q : List ℕ) → Trail limit m l d r (known c o i t) p part → Tagged part a q → b .mine a ≡ false → Unfit r (b .other)
-    pub goes : (d : Bool) (q : Parts) (p : ℕ) (part : List ℕ) (h : Head) → length part ≤ room → Trail limit m l d q (known c o i t) p part → Like q r (firstOf h) → l ≤ limit → HeadOf part h → b .full ≡ false → b .mine (firstOf h) ≡ true
-        → Ends (λ v n. Fits limit l q d p part n × G v (p, part)) (λ f. Found limit m (W f)) (b .goes d h p part)
+    pub other : b .full ≡ false → (d : Bool) (p : ℕ) (part : List ℕ) (a : ℕ) (q : List ℕ) → Trail rules m l d r (known c o i t) p part → Tagged part a q → b .mine a ≡ false → Unfit r (b .other)
+    pub goes : (d : Bool) (q : Parts) (p : ℕ) (part : List ℕ) (h : Head) → length part ≤ room → Trail rules m l d q (known c o i t) p part → Like q r (firstOf h) → l ≤ rules .limit → HeadOf part h → b .full ≡ false → b .mine (firstOf h) ≡ true
+        → Ends (λ v n. Fits rules l q d p part n × G v (p, part)) (λ f. Found rules m (W f)) (b .goes d h p part)
 
   abbrev pub Untold : {L : Type 0} → L → Text → Type 0
   Untold v x = Unit {0}
@@ -152,38 +153,38 @@ module _ (limit : ℕ) (m : List ℕ) where
     pub state : Parts
     pub around : Owner
     pub owner : Owner
-    pub way : Trail limit m l d state (known around owner i t) p part
+    pub way : Trail rules m l d state (known around owner i t) p part
     pub whom : whose (position state) owner ≡ w
     pub free : position state ≡ some 16 → ⊥
     pub may : due state a ≡ some g
-    pub level : l ≤ limit
+    pub level : l ≤ rules .limit
 
   -- an element of a choice; S: what is told of a value by what its element holds, its contents and their place
   pub record ItemFinds {L : Type 0} (x : Item L) (l : ℕ) (ch : Choice) (w : Owner) (i : Option ℤ) (t : Option Text) (W : Fault → Fault) (S : L → Holds → Text → Type 0) : Type 0 where
     pub mine : (a : ℕ) → x .mine a ≡ there (find ch a)
     pub reads : (d : Bool) (p : ℕ) (part : List ℕ) (h : Head) (g : Holds) → Spot l w i t d p part (firstOf h) g → find ch (firstOf h) ≡ some g → HeadOf part h
-        → Ends (λ v n. (y : Text) × Right limit l (firstOf h) g p part n y × S v g y) (λ f. Found limit m (W f)) (x .contents h p part)
+        → Ends (λ v n. (y : Text) × Right rules l (firstOf h) g p part n y × S v g y) (λ f. Found rules m (W f)) (x .contents h p part)
 
   -- The order of questions
 
-  module _ {L : Type 0} {b : Body L} {l room : ℕ} {r : Parts} {c o : Owner} {i : Option ℤ} {t : Option Text} {W : Fault → Fault} {G : L → Text → Type 0} (s : BodyTells b l room r c o i t W G) (d : Bool) (p : ℕ) (part : List ℕ) (big : length part ≤ room) (way : Trail limit m l d r (known c o i t) p part) where
+  module _ {L : Type 0} {b : Body L} {l room : ℕ} {r : Parts} {c o : Owner} {i : Option ℤ} {t : Option Text} {W : Fault → Fault} {G : L → Text → Type 0} (s : BodyTells b l room r c o i t W G) (d : Bool) (p : ℕ) (part : List ℕ) (big : length part ≤ room) (way : Trail rules m l d r (known c o i t) p part) where
     abbrev Good : L → ℕ → Type 0
-    Good v n = Fits limit l r d p part n × G v (p, part)
+    Good v n = Fits rules l r d p part n × G v (p, part)
 
-    here : (f : b .full ≡ false) (k : FaultKind) → endOf d part ≡ more → Faulty limit l r part k → Found limit m (W (b .owner (at k p)))
+    here : (f : b .full ≡ false) (k : FaultKind) → endOf d part ≡ more → Faulty rules l r part k → Found rules m (W (b .owner (at k p)))
     here f k e w = rw (s .owned f k p) (found way (element e (s .free f) w))
 
-    around : (k : FaultKind) → Wrong limit l d r part c (whose (position r) o) k c → Found limit m (W (at k p))
+    around : (k : FaultKind) → Wrong rules l d r part c (whose (position r) o) k c → Found rules m (W (at k p))
     around k w = rw (s .ends k p) (found way w)
 
-    length-finds : (a s′ : ℕ) → endOf d part ≡ more → tagOf part ≡ tag a s′ → codeZero a ≡ false → b .full ≡ false → b .mine a ≡ true → l ≤ limit → (g : LengthRead) → lengthOf (drop s′ part) (constructorOf a) ≡ g → LengthSays (constructorOf a) (drop s′ part) g
-        → Ends Good (λ f. Found limit m (W f)) (askLength b d p part a s′ g)
+    length-finds : (a s′ : ℕ) → endOf d part ≡ more → tagOf part ≡ tag a s′ → codeZero a ≡ false → b .full ≡ false → b .mine a ≡ true → l ≤ rules .limit → (g : LengthRead) → lengthOf (drop s′ part) (constructorOf a) ≡ g → LengthSays (constructorOf a) (drop s′ part) g
+        → Ends Good (λ f. Found rules m (W f)) (askLength b d p part a s′ g)
     unfolding askLength
     length-finds a s′ e t z f q j (lengthFault k) g (wrong w) = failed (here f k e (lengthWrong (tagged part a s′ t z) j (there-some (due r a) (sym (s .mine f a) ∙ q) .1) w))
     length-finds a s′ e t z f q j (sized k n) g w = s .goes d r p part (head a (s′ + k) (definite n)) big way (like-same r a) j (finite a s′ k n t z g) f q
     length-finds a s′ e t z f q j unsized g w = s .goes d r p part (head a (s′ + 1) indefinite) big way (like-same r a) j (unended a s′ t z g) f q
 
-    tag-finds : b .full ≡ false → endOf d part ≡ more → (g : TagRead) → tagOf part ≡ g → TagSays part g → Ends Good (λ f. Found limit m (W f)) (askTag b d p part g)
+    tag-finds : b .full ≡ false → endOf d part ≡ more → (g : TagRead) → tagOf part ≡ g → TagSays part g → Ends Good (λ f. Found rules m (W f)) (askTag b d p part g)
     unfolding askTag TagIs
     tag-finds f e (tagFault k) g (cutOff w) = failed (here f FaultKind.CutOff e (tagCut w))
     tag-finds f e (tagFault k) g (badly w) = failed (here f FaultKind.BadTag e (tagBad w))
@@ -192,26 +193,26 @@ module _ (limit : ℕ) (m : List ℕ) where
         ends-check (not (codeZero a)) _ (λ z. here f FaultKind.CodeZero e (zeroCode q (is-true (codeZero a) z))) λ z.
         let whole : Tagged part a (drop s′ part) = tagged part a s′ g (not-true (codeZero a) z) in
         ends-check (ltb 0 (b .left)) _ (λ v. here f FaultKind.TooDeep e (tooDeep whole (omega (arith, ltb-false 0 (b .left) v, s .left f)))) λ u.
-        let deep : l ≤ limit = omega (arith, ltb-true 0 (b .left) u, s .left f) in
+        let deep : l ≤ rules .limit = omega (arith, ltb-true 0 (b .left) u, s .left f) in
         ends-check (b .mine a) _ (λ v. here f (b .other) e (unfit whole deep (there-none (due r a) (sym (s .mine f a) ∙ v)) (s .other f d p part a _ way whole v))) λ v.
         length-finds a s′ e g (not-true (codeZero a) z) f v deep (lengthOf (drop s′ part) (constructorOf a)) refl (length-says (drop s′ part) (constructorOf a))
 
-    at-end-finds : (g : Option L) → b .ends ≡ g → endOf d part ≡ ended → Ends Good (λ f. Found limit m (W f)) (atEnd b d p part g)
+    at-end-finds : (g : Option L) → b .ends ≡ g → endOf d part ≡ ended → Ends Good (λ f. Found rules m (W f)) (atEnd b d p part g)
     unfolding atEnd
     at-end-finds none f e = failed (around FaultKind.Missing (missing e (s .lacks f)))
     at-end-finds (some v) f e = let u = s .void v f in held {a = v} {n = 0} (nothing e (u .0), u .1 (p, part))
 
-    full-wrong : (position r ≡ some 16) ⊎ (room ≡ 0) → endOf d part ≡ more → Wrong limit l d r part c (whose (position r) o) FaultKind.Seventeenth c
+    full-wrong : (position r ≡ some 16) ⊎ (room ≡ 0) → endOf d part ≡ more → Wrong rules l d r part c (whose (position r) o) FaultKind.Seventeenth c
     full-wrong (inl x) e = seventeenth e x
     full-wrong (inr z) e = absurd (none-more part d (omega (arith, big)) e)
 
-    end-finds : (g : EndRead) → endOf d part ≡ g → Ends Good (λ f. Found limit m (W f)) (askEnd b d p part g)
+    end-finds : (g : EndRead) → endOf d part ≡ g → Ends Good (λ f. Found rules m (W f)) (askEnd b d p part g)
     unfolding askEnd
     end-finds ended e = at-end-finds (b .ends) refl e
     end-finds unfinished e = failed (around FaultKind.CutOff (noPair e))
     end-finds more e = ends-check (not (b .full)) _ (λ f. around FaultKind.Seventeenth (full-wrong (s .full (is-true (b .full) f)) e)) λ f. tag-finds (not-true (b .full) f) e (tagOf part) refl (tag-says part)
 
-    pub ask-finds : Ends Good (λ f. Found limit m (W f)) (ask b d p part)
+    pub ask-finds : Ends Good (λ f. Found rules m (W f)) (ask b d p part)
     unfolding ask
     ask-finds = end-finds (endOf d part) refl
 
@@ -227,7 +228,7 @@ module _ (limit : ℕ) (m : List ℕ) where
   module _ {l : ℕ} {w : Owner} {i : Option ℤ} {t : Option Text} {W : Fault → Fault} where
     pub leaf-from : (fits : List ℕ → Bool) (g : Holds) → contentsOf g ≡ none → ((c : List ℕ) → passes g c ≡ fits c) → Said w i t W
         → (d : Bool) (p : ℕ) (part : List ℕ) (h : Head) → Spot l w i t d p part (firstOf h) g → HeadOf part h → constructorOf (firstOf h) ≡ false
-        → Ends (λ v n. (y : Text) × Right limit l (firstOf h) g p part n y × (v ≡ y)) (λ f. Found limit m (W f)) (leafContents fits h p part)
+        → Ends (λ v n. (y : Text) × Right rules l (firstOf h) g p part n y × (v ≡ y)) (λ f. Found rules m (W f)) (leafContents fits h p part)
     unfolding leafContents Says
     leaf-from fits g z j say d p part (head a u (definite n)) x i c =
         let s : Definitely part a u n = head-says part (head a u (definite n)) i in
@@ -246,7 +247,7 @@ module _ (limit : ℕ) (m : List ℕ) where
 
     pub inside-finds : {L : Type 0} {b : ℕ → Body L} {G : L → Text → Type 0} {q : Parts} (g : Holds) → contentsOf g ≡ some q → ((n : ℕ) → BodyTells (b n) (suc l) n q w (inside g w) i t W G)
         → (d : Bool) (p : ℕ) (part : List ℕ) (h : Head) → Spot l w i t d p part (firstOf h) g → HeadOf part h
-        → Ends (λ v n. (y : Text) × Right limit l (firstOf h) g p part n y × G (v .0) y) (λ f. Found limit m (W f)) (within b h p part)
+        → Ends (λ v n. (y : Text) × Right rules l (firstOf h) g p part n y × G (v .0) y) (λ f. Found rules m (W f)) (within b h p part)
     unfolding within Says
     inside-finds g z s d p part (head a u (definite n)) x i =
         let y : Definitely part a u n = head-says part (head a u (definite n)) i in

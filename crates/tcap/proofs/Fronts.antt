@@ -28,6 +28,7 @@ use Rattle.element.proofs.Asking.{HeadOf, finite, unended, Says, head-says, mor
 use Rattle.element.proofs.Ends.{Ends, held, failed}
 use Rattle.tcap.specs.Due.{Holds}
 use Rattle.tcap.specs.Refused.{Right, primitive, definite as filled, indefinite as endlessly, TagCut, empty, one, two, three, TagBad, small, long, LengthWrong, gone, cut, reserved, endless, wasteful, passing, passingLong, Tagged}
+use Rattle.tcap.specs.WellFormed.{Rules}
 
 -- The tag and the length: what their readers call a fault is one
 
@@ -113,7 +114,7 @@ pub endless-some : {part : List ℕ} {a u : ℕ} → Endlessly part a u → (1 �
 endless-some {part} {a} {u} s =
     (omega (arith, s .used, length-append (a ∷ s .ext) (0x80 ∷ [])), omega (arith, ap length (s .front), length-append ((a ∷ s .ext) ++ (0x80 ∷ [])) (drop u part), length-append (a ∷ s .ext) (0x80 ∷ [])))
 
-pub right-some : {limit l a p n : ℕ} {h : Holds} {part : List ℕ} {x : Text} → Right limit l a h p part n x → (1 ≤ n) × (length (drop n part) + 1 ≤ length part)
+pub right-some : {rules : Rules} {l a p n : ℕ} {h : Holds} {part : List ℕ} {x : Text} → Right rules l a h p part n x → (1 ≤ n) × (length (drop n part) + 1 ≤ length part)
 right-some {part = part} (primitive {u = u} {n = n} j s c w) = let y = definite-some s in (omega (arith, y .0), omega (arith, y .0, y .1, length-drop (u + n) part))
 right-some {part = part} (filled {u = u} {n = n} j s c w) = let y = definite-some s in (omega (arith, y .0), omega (arith, y .0, y .1, length-drop (u + n) part))
 right-some {part = part} (endlessly {u = u} {k = k} j s c w) = let y = endless-some s in (omega (arith, y .0), omega (arith, y .0, y .1, length-drop (u + (k + 2)) part))

@@ -21,6 +21,7 @@ use Rattle.tcap.proofs.Found.{same-some, tag-held}
 use Rattle.tcap.proofs.OneFault.{none-some}
 use Rattle.tcap.proofs.OneRefusal.{same-front}
 use Rattle.tcap.proofs.Strange.{rank, faulty-strange}
+use Rattle.tcap.specs.WellFormed.{Rules}
 
 -- What was read before
 
@@ -31,7 +32,7 @@ abbrev pub invokeKnown : Known → Option ℤ
 invokeKnown (known c o i t) = i
 
 -- an element that holds h stood where it was due, at a place before; x: its contents and their place
-pub record Stood (limit : ℕ) (m : List ℕ) (h : Holds) (x : Text) : Type 0 where
+pub record Stood (rules : Rules) (m : List ℕ) (h : Holds) (x : Text) : Type 0 where
   pub level : ℕ
   pub definite : Bool
   pub left : Parts
@@ -40,9 +41,9 @@ pub record Stood (limit : ℕ) (m : List ℕ) (h : Holds) (x : Text) : Type 0 wh
   pub part : List ℕ
   pub first : ℕ
   pub size : ℕ
-  pub way : Trail limit m level definite left before place part
+  pub way : Trail rules m level definite left before place part
   pub wasDue : due left first ≡ some h
-  pub octets : Right limit level first h place part size x
+  pub octets : Right rules level first h place part size x
 
 orig-new : (h : Holds) (y : Text) (s : Known) (x : Text) → origKnown (told h y s) ≡ some x → ((origId ≡ h) × (y ≡ x)) ⊎ (origKnown s ≡ some x)
 orig-new (octets fits) y (known c o i t) x e = inr e
@@ -58,36 +59,36 @@ invoke-new invokeId y (known c o i t) j e = inl (refl, same-some e)
 invoke-new (parts r) y (known c o i t) j e = inr e
 invoke-new (dialogue r) y (known c o i t) j e = inr e
 
-stood : {limit : ℕ} {m : List ℕ} {l a p n : ℕ} {d : Bool} {r : Parts} {h : Holds} {s : Known} {part : List ℕ} {y : Text} (g : Holds) (x : Text) → Trail limit m l d r s p part → due r a ≡ some h → Right limit l a h p part n y → g ≡ h → y ≡ x → Stood limit m g x
+stood : {rules : Rules} {m : List ℕ} {l a p n : ℕ} {d : Bool} {r : Parts} {h : Holds} {s : Known} {part : List ℕ} {y : Text} (g : Holds) (x : Text) → Trail rules m l d r s p part → due r a ≡ some h → Right rules l a h p part n y → g ≡ h → y ≡ x → Stood rules m g x
 stood {l = l} {a = a} {p = p} {n = n} {d = d} {r = r} {s = s} {part = part} g x w is u e f =
     record { level = l; definite = d; left = r; before = s; place = p; part = part; first = a; size = n; way = w; wasDue = is ∙ ap some (sym e); octets = rw (← f, e) u }
 
 -- an originating ID that is known stood where it was due: 1 to 4 octets
-pub orig-stands : {limit : ℕ} {m : List ℕ} {l p : ℕ} {d : Bool} {r : Parts} {s : Known} {part : List ℕ} (x : Text) → Trail limit m l d r s p part → origKnown s ≡ some x → Stood limit m origId x
+pub orig-stands : {rules : Rules} {m : List ℕ} {l p : ℕ} {d : Bool} {r : Parts} {s : Known} {part : List ℕ} (x : Text) → Trail rules m l d r s p part → origKnown s ≡ some x → Stood rules m origId x
 orig-stands x top e = nothing-ends e
 orig-stands x (into w j free is z y) e = orig-stands x w e
 orig-stands x (intoEndless w j free is z y) e = orig-stands x w e
-orig-stands {limit} {m} x (past {h = h} {s = s} {x = y} w j free is u) e = choose (orig-new h y s x e) (λ f. orig-stands x w f)
+orig-stands {rules} {m} x (past {h = h} {s = s} {x = y} w j free is u) e = choose (orig-new h y s x e) (λ f. orig-stands x w f)
   where
-    choose : ((origId ≡ h) × (y ≡ x)) ⊎ (origKnown s ≡ some x) → (origKnown s ≡ some x → Stood limit m origId x) → Stood limit m origId x
+    choose : ((origId ≡ h) × (y ≡ x)) ⊎ (origKnown s ≡ some x) → (origKnown s ≡ some x → Stood rules m origId x) → Stood rules m origId x
     choose (inl (f, g)) k = stood origId x w is u f g
     choose (inr f) k = k f
 
 -- an invoke ID that is known is the number of octets that stood where it was due: an integer of one octet
-pub invoke-stands : {limit : ℕ} {m : List ℕ} {l p : ℕ} {d : Bool} {r : Parts} {s : Known} {part : List ℕ} (j : ℤ) → Trail limit m l d r s p part → invokeKnown s ≡ some j → (x : Text) × (j ≡ signedOf (x .1)) × Stood limit m invokeId x
+pub invoke-stands : {rules : Rules} {m : List ℕ} {l p : ℕ} {d : Bool} {r : Parts} {s : Known} {part : List ℕ} (j : ℤ) → Trail rules m l d r s p part → invokeKnown s ≡ some j → (x : Text) × (j ≡ signedOf (x .1)) × Stood rules m invokeId x
 invoke-stands j top e = nothing-ends e
 invoke-stands j (into w k free is z y) e = invoke-stands j w e
 invoke-stands j (intoEndless w k free is z y) e = invoke-stands j w e
-invoke-stands {limit} {m} j (past {h = h} {s = s} {x = y} w k free is u) e = choose (invoke-new h y s j e) (λ f. invoke-stands j w f)
+invoke-stands {rules} {m} j (past {h = h} {s = s} {x = y} w k free is u) e = choose (invoke-new h y s j e) (λ f. invoke-stands j w f)
   where
-    choose : ((invokeId ≡ h) × (signedOf (y .1) ≡ j)) ⊎ (invokeKnown s ≡ some j) → (invokeKnown s ≡ some j → (x : Text) × (j ≡ signedOf (x .1)) × Stood limit m invokeId x) → (x : Text) × (j ≡ signedOf (x .1)) × Stood limit m invokeId x
+    choose : ((invokeId ≡ h) × (signedOf (y .1) ≡ j)) ⊎ (invokeKnown s ≡ some j) → (invokeKnown s ≡ some j → (x : Text) × (j ≡ signedOf (x .1)) × Stood rules m invokeId x) → (x : Text) × (j ≡ signedOf (x .1)) × Stood rules m invokeId x
     choose (inl (f, g)) k = (y, sym g, stood invokeId y w is u f refl)
     choose (inr f) k = k f
 
 -- And the other way: where contents begin with such an ID, it is not known only at their beginning
 
 -- what was to come where the contents of a place begin
-unfoldable pub beginning : {limit : ℕ} {m : List ℕ} {l p : ℕ} {d : Bool} {r : Parts} {s : Known} {part : List ℕ} → Trail limit m l d r s p part → Parts
+unfoldable pub beginning : {rules : Rules} {m : List ℕ} {l p : ℕ} {d : Bool} {r : Parts} {s : Known} {part : List ℕ} → Trail rules m l d r s p part → Parts
 beginning top = must message end
 beginning (into {q = q} w j free is z y) = q
 beginning (intoEndless {q = q} w j free is z y) = q
@@ -109,7 +110,7 @@ invoke-none (dialogue r) x (known c o i t) e = (e, λ f. let z : _≡_ {A = ℕ}
 
 -- one law for both: `tells` picks the ID that an element marked h tells, behind the tag b
 module _ {A : Type 0} (tells : Known → Option A) (b : ℕ) (h : Holds) (unknown : (g : Holds) (x : Text) (s : Known) → tells (told g x s) ≡ none → (tells s ≡ none) × (h ≡ g → ⊥)) where
-  known-behind : {limit : ℕ} {m : List ℕ} {l p : ℕ} {d : Bool} {r : Parts} {s : Known} {part : List ℕ} (rest : Parts) (w : Trail limit m l d r s p part) → beginning w ≡ must (tag b h) rest → tells s ≡ none → r ≡ beginning w
+  known-behind : {rules : Rules} {m : List ℕ} {l p : ℕ} {d : Bool} {r : Parts} {s : Known} {part : List ℕ} (rest : Parts) (w : Trail rules m l d r s p part) → beginning w ≡ must (tag b h) rest → tells s ≡ none → r ≡ beginning w
   unfolding beginning
   known-behind rest top e f = refl
   known-behind rest (into w j free is z y) e f = refl
@@ -120,16 +121,16 @@ module _ {A : Type 0} (tells : Known → Option A) (b : ℕ) (h : Holds) (unknow
       absurd (k .1 (tag-held a b h g (ap (λ (r : Parts). due r a) (sym same) ∙ is) .1))
 
 -- of a Begin or Continue
-pub orig-told : {limit : ℕ} {m : List ℕ} {l p : ℕ} {d : Bool} {r : Parts} {s : Known} {part : List ℕ} (rest : Parts) (w : Trail limit m l d r s p part) → beginning w ≡ must (tag 0x48 origId) rest → origKnown s ≡ none → r ≡ beginning w
+pub orig-told : {rules : Rules} {m : List ℕ} {l p : ℕ} {d : Bool} {r : Parts} {s : Known} {part : List ℕ} (rest : Parts) (w : Trail rules m l d r s p part) → beginning w ≡ must (tag 0x48 origId) rest → origKnown s ≡ none → r ≡ beginning w
 orig-told = known-behind origKnown 0x48 origId orig-none
 
 -- of every component but a Reject, which may begin with 05 00
-pub invoke-told : {limit : ℕ} {m : List ℕ} {l p : ℕ} {d : Bool} {r : Parts} {s : Known} {part : List ℕ} (rest : Parts) (w : Trail limit m l d r s p part) → beginning w ≡ must (tag 0x02 invokeId) rest → invokeKnown s ≡ none → r ≡ beginning w
+pub invoke-told : {rules : Rules} {m : List ℕ} {l p : ℕ} {d : Bool} {r : Parts} {s : Known} {part : List ℕ} (rest : Parts) (w : Trail rules m l d r s p part) → beginning w ≡ must (tag 0x02 invokeId) rest → invokeKnown s ≡ none → r ≡ beginning w
 invoke-told = known-behind invokeKnown 0x02 invokeId invoke-none
 
 -- At place 0
 
-trail-zero : {limit : ℕ} {m : List ℕ} {l p : ℕ} {d : Bool} {r : Parts} {s : Known} {part : List ℕ} → Trail limit m l d r s p part → p ≡ 0 → (part ≡ m) × (d ≡ true) × (r ≡ must message end)
+trail-zero : {rules : Rules} {m : List ℕ} {l p : ℕ} {d : Bool} {r : Parts} {s : Known} {part : List ℕ} → Trail rules m l d r s p part → p ≡ 0 → (part ≡ m) × (d ≡ true) × (r ≡ must message end)
 trail-zero top e = (refl, refl, refl)
 trail-zero (into w j free is z y) e = let k = definite-some y in absurd (omega (arith, k .0))
 trail-zero (intoEndless w j free is z y) e = let k = endless-some y in absurd (omega (arith, k .0))
@@ -140,7 +141,7 @@ unfolding endOf
 some-ends m a q e h = let z : endOf true (a ∷ q) ≡ ended = rw e at h in let y : _≡_ {A = ℕ} 0 1 = cc in omega arith
 
 -- no message is refused for 13 to 16 at place 0: there stands the message
-pub never-at-0 : {limit : ℕ} {m : List ℕ} {p : ℕ} {k : FaultKind} {w : Owner} {i : Option ℤ} {t : Option Text} → p ≡ 0 → 1 ≤ rank k → Refuses limit m (fault k p w i t) → ⊥
+pub never-at-0 : {rules : Rules} {m : List ℕ} {p : ℕ} {k : FaultKind} {w : Owner} {i : Option ℤ} {t : Option Text} → p ≡ 0 → 1 ≤ rank k → Refuses rules m (fault k p w i t) → ⊥
 unfolding rank
 never-at-0 e h (overlong b) = omega arith
 never-at-0 e h (noOctets f) = omega arith

@@ -21,7 +21,7 @@ use Rattle.element.proofs.Alike.{Alike, alike-less, alike-all, alike-cons, pair
 use Rattle.element.proofs.Looked.{Looked, tooLong, noTag, noPair, behind, kindOf, placeOf, Local, sure, wrong, Level, Reaches, sizeOf, head-alike, head-some, level-reaches, ask-more-local}
 use Rattle.tcap.specs.declared.{Refusal.Refusal, Outcome.Outcome}
 use Rattle.tcap.specs.Meaning.{Message}
-use Rattle.tcap.specs.WellFormed.{mostOctets, deepestLevel}
+use Rattle.tcap.specs.WellFormed.{Rules, mostOctets, the93}
 use Rattle.tcap.specs.Productions.{messageItem}
 use Rattle.tcap.specs.Reading.{learnt, aloneBody, readFirst, locatedUpTo, refusalOf, answered, readingUpTo, reading}
 use Rattle.tcap.proofs.LocalParts.{plainly, spares-learnt, messages}
@@ -29,11 +29,11 @@ use Rattle.tcap.proofs.LocalParts.{plainly, spares-learnt, messages}
 bad-same : {f g : Fault} → _≡_ {A = Got (Message Text)} (bad f) (bad g) → f ≡ g
 bad-same e = cc
 
-module _ (limit : ℕ) where
+module _ (rules : Rules) where
   -- The message is all there is
 
   abbrev item : Item (Message Text)
-  item = messageItem limit
+  item = messageItem rules
 
   abbrev closing : Head → List ℕ → Got (Message Text) → Got (Message Text)
   closing h t x = next x (λ v n. blamed (learnt v) (check (eqb n (length t)) (at FaultKind.OctetsAfter (0 + n)) (got v n)))
@@ -71,12 +71,12 @@ module _ (limit : ℕ) where
       let (x, v, q, i, z) : TagIs (a ∷ r) (tag b s) = rw e at (tag-sound (a ∷ r)) in
       cc
 
-  asked : (a : ℕ) (r : List ℕ) → item .mine a ≡ true → Local (Level (a ∷ r)) 0 1 (ask (aloneBody limit item) true 0) 0 (a ∷ r) (ask (aloneBody limit item) true 0 (a ∷ r))
+  asked : (a : ℕ) (r : List ℕ) → item .mine a ≡ true → Local (Level (a ∷ r)) 0 1 (ask (aloneBody rules item) true 0) 0 (a ∷ r) (ask (aloneBody rules item) true 0 (a ∷ r))
   unfolding pair endOf
   asked a r o =
-      ask-more-local (aloneBody limit item) true 0 (a ∷ r) (λ _. plainly)
+      ask-more-local (aloneBody rules item) true 0 (a ∷ r) (λ _. plainly)
       (λ b s e f. absurd (false≢true (sym (rw (first-tag a r b s e) at f) ∙ o)))
-      (λ h i f v w. alone (a ∷ r) h i (messages limit .contents h 0 (a ∷ r) i v w))
+      (λ h i f v w. alone (a ∷ r) h i (messages rules .contents h 0 (a ∷ r) i v w))
       refl refl
 
   -- what a fault of m depends on: the octets before its place, those that its clause looks at there, and how another message must end
@@ -84,27 +84,27 @@ module _ (limit : ℕ) where
     pub looks : ℕ
     pub what : Looked (kindOf f) (take looks (drop (placeOf f) m))
     pub there : placeOf f + looks ≤ length m
-    pub alike : (t : List ℕ) → R t → Alike (placeOf f + looks) m t → locatedUpTo limit t ≡ bad f
+    pub alike : (t : List ℕ) → R t → Alike (placeOf f + looks) m t → locatedUpTo rules t ≡ bad f
 
-  first-read : (a : ℕ) (t : List ℕ) → item .mine a ≡ true → readFirst limit item (a ∷ t) ≡ ask (aloneBody limit item) true 0 (a ∷ t)
+  first-read : (a : ℕ) (t : List ℕ) → item .mine a ≡ true → readFirst rules item (a ∷ t) ≡ ask (aloneBody rules item) true 0 (a ∷ t)
   unfolding readFirst check
   first-read a t o = rw o
 
-  first-refused : (a : ℕ) (t : List ℕ) → item .mine a ≡ false → readFirst limit item (a ∷ t) ≡ bad (at FaultKind.NoMessage 0)
+  first-refused : (a : ℕ) (t : List ℕ) → item .mine a ≡ false → readFirst rules item (a ∷ t) ≡ bad (at FaultKind.NoMessage 0)
   unfolding readFirst check
   first-refused a t o = rw o
 
-  short-read : (t : List ℕ) → length t ≤ mostOctets → locatedUpTo limit t ≡ readFirst limit item t
+  short-read : (t : List ℕ) → length t ≤ mostOctets → locatedUpTo rules t ≡ readFirst rules item t
   unfolding locatedUpTo check
   short-read t l = rw (le-leb (length t) mostOctets l)
 
-  long-read : (t : List ℕ) → leb (length t) mostOctets ≡ false → locatedUpTo limit t ≡ bad (at FaultKind.Overlong mostOctets)
+  long-read : (t : List ℕ) → leb (length t) mostOctets ≡ false → locatedUpTo rules t ≡ bad (at FaultKind.Overlong mostOctets)
   unfolding locatedUpTo check
   long-read t l = rw l
 
   -- a message that begins with the octet a, from what is read then
-  cons-read : (x : Got (Message Text)) (a : ℕ) (r t : List ℕ) → Alike 1 (a ∷ r) t → length t ≤ mostOctets → ((v : List ℕ) → t ≡ a ∷ v → readFirst limit item (a ∷ v) ≡ x) → locatedUpTo limit t ≡ x
-  cons-read x a r t e l h = let y : t ≡ a ∷ drop 1 t = alike-cons a r t e in short-read t l ∙ ap (readFirst limit item) y ∙ h (drop 1 t) y
+  cons-read : (x : Got (Message Text)) (a : ℕ) (r t : List ℕ) → Alike 1 (a ∷ r) t → length t ≤ mostOctets → ((v : List ℕ) → t ≡ a ∷ v → readFirst rules item (a ∷ v) ≡ x) → locatedUpTo rules t ≡ x
+  cons-read x a r t e l h = let y : t ≡ a ∷ drop 1 t = alike-cons a r t e in short-read t l ∙ ap (readFirst rules item) y ∙ h (drop 1 t) y
 
   not-mine : (R : List ℕ → Type 0) → ((t : List ℕ) → R t → length t ≤ mostOctets) → (a : ℕ) (r : List ℕ) → item .mine a ≡ false → Sees R (a ∷ r) (at FaultKind.NoMessage 0)
   unfolding kindOf placeOf
@@ -116,7 +116,7 @@ module _ (limit : ℕ) where
         alike = λ t l e. cons-read (bad (at FaultKind.NoMessage 0)) a r t (alike-less 1 (0 + 1) (a ∷ r) t (omega arith) e) (s t l) (λ v y. first-refused a v o);
       }
 
-  sees-asked : (a : ℕ) (r : List ℕ) → length (a ∷ r) ≤ mostOctets → item .mine a ≡ true → {x : Got (Message Text)} → Local (Level (a ∷ r)) 0 1 (ask (aloneBody limit item) true 0) 0 (a ∷ r) x → (f : Fault) → x ≡ bad f → Sees (Level (a ∷ r)) (a ∷ r) f
+  sees-asked : (a : ℕ) (r : List ℕ) → length (a ∷ r) ≤ mostOctets → item .mine a ≡ true → {x : Got (Message Text)} → Local (Level (a ∷ r)) 0 1 (ask (aloneBody rules item) true 0) 0 (a ∷ r) x → (f : Fault) → x ≡ bad f → Sees (Level (a ∷ r)) (a ∷ r) f
   sees-asked a r s o (sure b l g) f e = let z : _≡_ {A = ℕ} 0 1 = cc in absurd (omega arith)
   sees-asked a r s o (wrong {f = w} j q pl lk b l g) f e =
       let y : w ≡ f = cc in
@@ -126,10 +126,10 @@ module _ (limit : ℕ) where
         what = rw k at lk;
         there = omega arith;
         alike = λ t i h. let n : Alike (j + q) (a ∷ r) t = alike-less (j + q) (placeOf w + q) (a ∷ r) t (omega arith) h in
-            cons-read (bad w) a r t (alike-less 1 (j + q) (a ∷ r) t b n) (omega arith) (λ v c. first-read a v o ∙ ap (ask (aloneBody limit item) true 0) (sym c) ∙ g t i n);
+            cons-read (bad w) a r t (alike-less 1 (j + q) (a ∷ r) t b n) (omega arith) (λ v c. first-read a v o ∙ ap (ask (aloneBody rules item) true 0) (sym c) ∙ g t i n);
       })
 
-  sees-first : (m : List ℕ) → length m ≤ mostOctets → (f : Fault) → readFirst limit item m ≡ bad f → Sees (Level m) m f
+  sees-first : (m : List ℕ) → length m ≤ mostOctets → (f : Fault) → readFirst rules item m ≡ bad f → Sees (Level m) m f
   unfolding readFirst check kindOf placeOf
   sees-first [] s f e =
       let y : at FaultKind.CutOff 0 ≡ f = cc in
@@ -140,7 +140,7 @@ module _ (limit : ℕ) where
       by-mine true o = sees-asked a r s o (asked a r o) f (sym (first-read a r o) ∙ e)
       by-mine false o = let y : at FaultKind.NoMessage 0 ≡ f = bad-same (sym (first-refused a r o) ∙ e) in rw (← y) (not-mine (Level (a ∷ r)) (λ t l. omega arith) a r o)
 
-  pub fault-local : (m : List ℕ) (f : Fault) → locatedUpTo limit m ≡ bad f → Sees (Level m) m f
+  pub fault-local : (m : List ℕ) (f : Fault) → locatedUpTo rules m ≡ bad f → Sees (Level m) m f
   unfolding kindOf placeOf
   fault-local m f e = by-length (leb (length m) mostOctets) refl
     where
@@ -161,9 +161,9 @@ module _ (limit : ℕ) where
   first-of a r h (finite b s k n t z l) = first-tag a r b s t
   first-of a r h (unended b s t z l) = first-tag a r b s t
 
-  module _ (deep-enough : ltb 0 limit ≡ true) where
-    read-inside : (a : ℕ) (r : List ℕ) (h : Head) → item .mine a ≡ true → HeadOf (a ∷ r) h → readFirst limit item (a ∷ r) ≡ closing h (a ∷ r) (item .contents h 0 (a ∷ r))
-    read-inside a r h o i = first-read a r o ∙ ask-head (aloneBody limit item) true 0 (a ∷ r) h i refl deep-enough (rw (first-of a r h i) o)
+  module _ (deep-enough : ltb 0 (rules .limit) ≡ true) where
+    read-inside : (a : ℕ) (r : List ℕ) (h : Head) → item .mine a ≡ true → HeadOf (a ∷ r) h → readFirst rules item (a ∷ r) ≡ closing h (a ∷ r) (item .contents h 0 (a ∷ r))
+    read-inside a r h o i = first-read a r o ∙ ask-head (aloneBody rules item) true 0 (a ∷ r) h i refl deep-enough (rw (first-of a r h i) o)
 
     sees-inside : (a : ℕ) (r : List ℕ) (b u n : ℕ) → item .mine a ≡ true → HeadOf (a ∷ r) (head b u (definite n)) → (f : Fault) → (kindOf f ≡ FaultKind.OctetsAfter → ⊥)
         → {x : Got (Message Text)} → Local (Reaches (head b u (definite n)) (a ∷ r)) 0 u (item .contents (head b u (definite n)) 0) 0 (a ∷ r) x → closing (head b u (definite n)) (a ∷ r) x ≡ bad f
@@ -187,7 +187,7 @@ module _ (limit : ℕ) where
               cons-read (bad w) a r t (alike-less 1 (j + q) (a ∷ r) t (omega (arith, head-some (a ∷ r) h i)) m) (s .1) (λ v y. read-inside a v h o (rw y at c) ∙ refused-inside h (a ∷ v) (item .contents h 0 (a ∷ v)) w (rw y at (g t (s .0) m)));
         })
 
-    pub definite-local : (m : List ℕ) (b u n : ℕ) → HeadOf m (head b u (definite n)) → (f : Fault) → (kindOf f ≡ FaultKind.Overlong → ⊥) → (kindOf f ≡ FaultKind.OctetsAfter → ⊥) → locatedUpTo limit m ≡ bad f
+    pub definite-local : (m : List ℕ) (b u n : ℕ) → HeadOf m (head b u (definite n)) → (f : Fault) → (kindOf f ≡ FaultKind.Overlong → ⊥) → (kindOf f ≡ FaultKind.OctetsAfter → ⊥) → locatedUpTo rules m ≡ bad f
         → Sees (λ t. (u + n ≤ length t) × (length t ≤ mostOctets)) m f
     unfolding kindOf sizeOf
     definite-local [] b u n i f long after e = absurd (no-octets (head b u (definite n)) i)
@@ -196,7 +196,7 @@ module _ (limit : ℕ) where
         by-mine : length (a ∷ r) ≤ mostOctets → (c : Bool) → item .mine a ≡ c → Sees (λ t. (u + n ≤ length t) × (length t ≤ mostOctets)) (a ∷ r) f
         by-mine l true o =
             let h : Head = head b u (definite n) in
-            sees-inside a r b u n o i f after (messages limit .contents h 0 (a ∷ r) i deep-enough (rw (first-of a r h i) o)) (sym (read-inside a r h o i) ∙ sym (short-read (a ∷ r) l) ∙ e)
+            sees-inside a r b u n o i f after (messages rules .contents h 0 (a ∷ r) i deep-enough (rw (first-of a r h i) o)) (sym (read-inside a r h o i) ∙ sym (short-read (a ∷ r) l) ∙ e)
         by-mine l false o =
             let y : at FaultKind.NoMessage 0 ≡ f = bad-same (sym (first-refused a r o) ∙ sym (short-read (a ∷ r) l) ∙ e) in
             rw (← y) (not-mine (λ t. (u + n ≤ length t) × (length t ≤ mostOctets)) (λ t s. s .1) a r o)
@@ -214,16 +214,16 @@ pub record Depends (R : List ℕ → Type 0) (m : List ℕ) (r : Refusal) : Type
   pub there : r .place + looks ≤ length m
   pub alike : (t : List ℕ) → R t → take (r .place + looks) t ≡ take (r .place + looks) m → reading t ≡ reading m
 
-by-reading : (m : List ℕ) (x : Got (Message Text)) → locatedUpTo deepestLevel m ≡ x → (r : Refusal) → answered x .outcome ≡ Outcome.Refused r → (f : Fault) × (x ≡ bad f) × (refusalOf f ≡ r)
+by-reading : (m : List ℕ) (x : Got (Message Text)) → locatedUpTo the93 m ≡ x → (r : Refusal) → answered x .outcome ≡ Outcome.Refused r → (f : Fault) × (x ≡ bad f) × (refusalOf f ≡ r)
 unfolding answered
 by-reading m (got v n) e r h = let z : _≡_ {A = ℕ} 0 1 = cc in absurd (omega arith)
 by-reading m (bad f) e r h = (f, refl, cc)
 
-same-reading : (m t : List ℕ) (f : Fault) → locatedUpTo deepestLevel m ≡ bad f → locatedUpTo deepestLevel t ≡ bad f → reading t ≡ reading m
+same-reading : (m t : List ℕ) (f : Fault) → locatedUpTo the93 m ≡ bad f → locatedUpTo the93 t ≡ bad f → reading t ≡ reading m
 unfolding reading readingUpTo
 same-reading m t f e g = rw (e, g)
 
-depends : (R : List ℕ → Type 0) (m : List ℕ) (f : Fault) → locatedUpTo deepestLevel m ≡ bad f → Sees deepestLevel R m f → Depends R m (refusalOf f)
+depends : (R : List ℕ → Type 0) (m : List ℕ) (f : Fault) → locatedUpTo the93 m ≡ bad f → Sees the93 R m f → Depends R m (refusalOf f)
 unfolding refusalOf kindOf placeOf
 depends R m (fault k p o i t) e s = record { looks = s .looks; what = s .what; there = s .there; alike = λ v r h. same-reading m v (fault k p o i t) e (s .alike v r h) }
 
@@ -245,16 +245,16 @@ number-of e w = ap numberOf (sym e ∙ w)
 pub refusal-local : (m : List ℕ) (r : Refusal) → reading m .outcome ≡ Outcome.Refused r → Depends (Level m) m r
 unfolding reading readingUpTo
 refusal-local m r h =
-    let (f, e, q) = by-reading m (locatedUpTo deepestLevel m) refl r h in
-    rw q at (depends (Level m) m f e (fault-local deepestLevel m f e))
+    let (f, e, q) = by-reading m (locatedUpTo the93 m) refl r h in
+    rw q at (depends (Level m) m f e (fault-local the93 m f e))
 
 -- and if m has a definite length, of every t in which its contents are there, however many octets follow; but for 7 and 9, which look at the end
 pub definite-refusal-local : (m : List ℕ) (a u n : ℕ) → HeadOf m (head a u (definite n)) → (r : Refusal) → (numberOf (r .kind) ≡ 7 → ⊥) → (numberOf (r .kind) ≡ 9 → ⊥) → reading m .outcome ≡ Outcome.Refused r
     → Depends (λ t. (u + n ≤ length t) × (length t ≤ mostOctets)) m r
 unfolding reading readingUpTo
 definite-refusal-local m a u n i r long after h =
-    let (f, e, q) = by-reading m (locatedUpTo deepestLevel m) refl r h in
+    let (f, e, q) = by-reading m (locatedUpTo the93 m) refl r h in
     let k : kindOf f ≡ r .kind = kind-told f ∙ ap (λ (x : Refusal). x .kind) q in
-    let s : Sees deepestLevel (λ t. (u + n ≤ length t) × (length t ≤ mostOctets)) m f =
-    definite-local deepestLevel refl m a u n i f (λ w. long (number-of k w ∙ seven)) (λ w. after (number-of k w ∙ nine)) e in
+    let s : Sees the93 (λ t. (u + n ≤ length t) × (length t ≤ mostOctets)) m f =
+    definite-local the93 refl m a u n i f (λ w. long (number-of k w ∙ seven)) (λ w. after (number-of k w ∙ nine)) e in
     rw q at (depends (λ t. (u + n ≤ length t) × (length t ≤ mostOctets)) m f e s)

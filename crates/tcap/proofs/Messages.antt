@@ -17,7 +17,7 @@ use Rattle.element.specs.Parts.{aroundItem, mapItem, thenBody, bindBody, silent
 use Rattle.element.proofs.Insides.{ItemLaws, BodyLaws, leaf-laws, around-laws}
 use Rattle.element.proofs.Joins.{map-body-laws, or-laws, item-range, item-form, Image, image-out, image-laws, image-body-laws, pairs, thenForms, thenOks, bind-laws, only-laws, last-laws, optPairs, optForms, optOks, opt-laws, SeriesOk}
 use Rattle.tcap.specs.Meaning.{Originating, orig, Destination, dest, Component, Dialogue, Ending, silent, cause, says, Message, unidirectional, begin, finish, continue, abort, Meaning, octet, componentForm, componentsForm, dialogueForm, endingForm, origForm, destForm, messageForm}
-use Rattle.tcap.specs.WellFormed.{leftAt, mostComponents, idOk, ComponentOk, ComponentsOk, DialogueOk, EndingOk, OrigOk, DestOk, WellFormedUpTo}
+use Rattle.tcap.specs.WellFormed.{Rules, leftAt, mostComponents, idOk, ComponentOk, ComponentsOk, DialogueOk, EndingOk, OrigOk, DestOk, WellFormedUpTo}
 use Rattle.tcap.specs.Productions.{octetItem, origItem, destItem, carried, levelAt, componentsItem, dialogueItem, tailBody, uniBody, beginBody, endBody, continueBody, abortBody, messageItem}
 use Rattle.tcap.proofs.Strings.{octetsOf, componentAs, dialogueAs, endingAs, origAs, destAs, messageAs, forget}
 use Rattle.tcap.proofs.Components.{AtMost, id, octet-laws, components-laws, deep-at}
@@ -59,9 +59,9 @@ insideForm (finish e d cs) = then (destForm e) (then (maybe dialogueForm d) (com
 insideForm (continue o e d cs) = then (origForm o) (then (destForm e) (then (maybe dialogueForm d) (componentsForm cs)))
 insideForm (abort e s) = then (destForm e) (endingForm s)
 
-module _ (limit : ℕ) (big : 8 ≤ limit) where
-  at-2 : ltb 0 (leftAt limit 2) ≡ true
-  at-2 = deep-at limit 2 (omega arith)
+module _ (rules : Rules) (big : 8 ≤ rules .limit) where
+  at-2 : ltb 0 (leftAt rules 2) ≡ true
+  at-2 = deep-at rules 2 (omega arith)
 
   abbrev Components : Type 0
   Components = List (Component Octets)
@@ -85,19 +85,19 @@ module _ (limit : ℕ) (big : 8 ≤ limit) where
   portionForm cs = around 0x6C (seriesForm componentForm cs)
 
   abbrev PortionOk : Components → Type 0
-  PortionOk = SeriesOk {L = Component Text} (ComponentOk limit) none mostComponents
+  PortionOk = SeriesOk {L = Component Text} (ComponentOk rules) none mostComponents
 
   -- [6C]
   list-same : (v : Option (List (Component Text))) → componentsMeaning (orNone v) ≡ orNone (Option·map componentsMeaning v)
   list-same none = refl
   list-same (some l) = refl
 
-  list-there : (b : Components) (m : Octets) → ComponentsOk limit b → Matches document01 (componentsForm b) m → (a : Option Components) × (orNone a ≡ b) × Maybe PortionOk a × Matches document01 (maybe portionForm a) m
+  list-there : (b : Components) (m : Octets) → ComponentsOk rules b → Matches document01 (componentsForm b) m → (a : Option Components) × (orNone a ≡ b) × Maybe PortionOk a × Matches document01 (maybe portionForm a) m
   unfolding componentsForm
   list-there [] m o e = (none, refl, tt, e)
   list-there (c ∷ cs) m o e = (some (c ∷ cs), refl, (o .0, o .1, tt), e)
 
-  list-back : (a : Option Components) (m : Octets) → Maybe PortionOk a → Matches document01 (maybe portionForm a) m → ComponentsOk limit (orNone a) × Matches document01 (componentsForm (orNone a)) m
+  list-back : (a : Option Components) (m : Octets) → Maybe PortionOk a → Matches document01 (maybe portionForm a) m → ComponentsOk rules (orNone a) × Matches document01 (componentsForm (orNone a)) m
   unfolding componentsForm Every
   list-back none m o e = ((omega arith, tt), e)
   list-back (some []) m o e = absurd (o .2)
@@ -107,13 +107,13 @@ module _ (limit : ℕ) (big : 8 ≤ limit) where
   restForm = optForms dialogueForm componentsForm
 
   abbrev RestOk : Rest → Type 0
-  RestOk = optOks (DialogueOk limit) (ComponentsOk limit)
+  RestOk = optOks (DialogueOk rules) (ComponentsOk rules)
 
-  tail-laws : (n : ℕ) → BodyLaws n (tailBody limit) restMeaning restForm RestOk
+  tail-laws : (n : ℕ) → BodyLaws n (tailBody rules) restMeaning restForm RestOk
   tail-laws n =
-      opt-laws 0x6B (dialogueItem limit) _ dialogueMeaning componentsMeaning dialogueForm componentsForm (DialogueOk limit) (ComponentsOk limit) n (dialogue-laws limit big)
-      (map-body-laws orNone orNone (Option·map componentsMeaning) componentsMeaning list-same (maybe portionForm) (Maybe PortionOk) componentsForm (ComponentsOk limit) list-there list-back n _
-      (last-laws (levelAt limit 2) (componentsItem limit) componentsMeaning portionForm PortionOk n (components-laws limit big) at-2))
+      opt-laws 0x6B (dialogueItem rules) _ dialogueMeaning componentsMeaning dialogueForm componentsForm (DialogueOk rules) (ComponentsOk rules) n (dialogue-laws rules big)
+      (map-body-laws orNone orNone (Option·map componentsMeaning) componentsMeaning list-same (maybe portionForm) (Maybe PortionOk) componentsForm (ComponentsOk rules) list-there list-back n _
+      (last-laws (levelAt rules 2) (componentsItem rules) componentsMeaning portionForm PortionOk n (components-laws rules big) at-2))
       (λ a. refl) refl at-2 refl
 
   -- Unidirectional: [6B] 6C
@@ -121,18 +121,18 @@ module _ (limit : ℕ) (big : 8 ≤ limit) where
   sent v = unidirectional (v .0) (v .1)
 
   abbrev SentOk : Rest → Type 0
-  SentOk = optOks (DialogueOk limit) PortionOk
+  SentOk = optOks (DialogueOk rules) PortionOk
 
   sent-form : (d : Portion) (cs : Components) → PortionOk cs → insideForm (unidirectional d cs) ≡ then (maybe dialogueForm d) (portionForm cs)
   unfolding componentsForm
   sent-form d [] o = absurd (o .2)
   sent-form d (c ∷ cs) o = refl
 
-  uni-laws : (n : ℕ) → BodyLaws n (uniBody limit) forget insideForm (Image sent SentOk)
+  uni-laws : (n : ℕ) → BodyLaws n (uniBody rules) forget insideForm (Image sent SentOk)
   uni-laws n =
       image-body-laws (λ v. unidirectional (v .0) (v .1)) sent restMeaning forget (λ v. refl) (optForms dialogueForm portionForm) insideForm SentOk (λ v o. sent-form (v .0) (v .1) (o .1)) n _
-      (opt-laws 0x6B (dialogueItem limit) _ dialogueMeaning componentsMeaning dialogueForm portionForm (DialogueOk limit) PortionOk n (dialogue-laws limit big)
-      (only-laws (levelAt limit 2) (componentsItem limit) componentsMeaning portionForm PortionOk n (components-laws limit big) at-2)
+      (opt-laws 0x6B (dialogueItem rules) _ dialogueMeaning componentsMeaning dialogueForm portionForm (DialogueOk rules) PortionOk n (dialogue-laws rules big)
+      (only-laws (levelAt rules 2) (componentsItem rules) componentsMeaning portionForm PortionOk n (components-laws rules big) at-2)
       (λ a. refl) refl at-2 refl)
 
   -- Begin, End, Continue
@@ -142,10 +142,10 @@ module _ (limit : ℕ) (big : 8 ≤ limit) where
   abbrev BegunOk : Originating Octets × Rest → Type 0
   BegunOk = thenOks OrigOk (λ o. RestOk)
 
-  begin-laws : (n : ℕ) → BodyLaws n (beginBody limit) forget insideForm (Image begun BegunOk)
+  begin-laws : (n : ℕ) → BodyLaws n (beginBody rules) forget insideForm (Image begun BegunOk)
   begin-laws n =
       image-body-laws (λ v. begin (v .0) (v .1 .0) (v .1 .1)) begun (pairs (origAs octetsOf) restMeaning) forget (λ v. refl) (thenForms origForm (λ o. restForm)) insideForm BegunOk (λ v o. refl) n _
-      (bind-laws (levelAt limit 2) carried origItem _ (origAs octetsOf) restMeaning origForm (λ o. restForm) OrigOk (λ o. RestOk) n orig-laws (λ v. tail-laws n) at-2)
+      (bind-laws (levelAt rules 2) carried origItem _ (origAs octetsOf) restMeaning origForm (λ o. restForm) OrigOk (λ o. RestOk) n orig-laws (λ v. tail-laws n) at-2)
 
   abbrev ended : Destination Octets × Rest → Meaning
   ended v = finish (v .0) (v .1 .0) (v .1 .1)
@@ -153,10 +153,10 @@ module _ (limit : ℕ) (big : 8 ≤ limit) where
   abbrev EndedOk : Destination Octets × Rest → Type 0
   EndedOk = thenOks DestOk (λ e. RestOk)
 
-  dest-tail : (n : ℕ) → BodyLaws n (thenBody (levelAt limit 2) destItem (tailBody limit)) (pairs (destAs octetsOf) restMeaning) (thenForms destForm (λ e. restForm)) EndedOk
-  dest-tail n = bind-laws (levelAt limit 2) silently destItem _ (destAs octetsOf) restMeaning destForm (λ e. restForm) DestOk (λ e. RestOk) n dest-laws (λ v. tail-laws n) at-2
+  dest-tail : (n : ℕ) → BodyLaws n (thenBody (levelAt rules 2) destItem (tailBody rules)) (pairs (destAs octetsOf) restMeaning) (thenForms destForm (λ e. restForm)) EndedOk
+  dest-tail n = bind-laws (levelAt rules 2) silently destItem _ (destAs octetsOf) restMeaning destForm (λ e. restForm) DestOk (λ e. RestOk) n dest-laws (λ v. tail-laws n) at-2
 
-  end-laws : (n : ℕ) → BodyLaws n (endBody limit) forget insideForm (Image ended EndedOk)
+  end-laws : (n : ℕ) → BodyLaws n (endBody rules) forget insideForm (Image ended EndedOk)
   end-laws n = image-body-laws (λ v. finish (v .0) (v .1 .0) (v .1 .1)) ended (pairs (destAs octetsOf) restMeaning) forget (λ v. refl) (thenForms destForm (λ e. restForm)) insideForm EndedOk (λ v o. refl) n _ (dest-tail n)
 
   abbrev continued : Originating Octets × (Destination Octets × Rest) → Meaning
@@ -165,15 +165,15 @@ module _ (limit : ℕ) (big : 8 ≤ limit) where
   abbrev ContinuedOk : Originating Octets × (Destination Octets × Rest) → Type 0
   ContinuedOk = thenOks OrigOk (λ o. EndedOk)
 
-  continue-laws : (n : ℕ) → BodyLaws n (continueBody limit) forget insideForm (Image continued ContinuedOk)
+  continue-laws : (n : ℕ) → BodyLaws n (continueBody rules) forget insideForm (Image continued ContinuedOk)
   continue-laws n =
       image-body-laws (λ v. continue (v .0) (v .1 .0) (v .1 .1 .0) (v .1 .1 .1)) continued (pairs (origAs octetsOf) (pairs (destAs octetsOf) restMeaning)) forget (λ v. refl)
       (thenForms origForm (λ o. thenForms destForm (λ e. restForm))) insideForm ContinuedOk (λ v o. refl) n _
-      (bind-laws (levelAt limit 2) carried origItem _ (origAs octetsOf) (pairs (destAs octetsOf) restMeaning) origForm (λ o. thenForms destForm (λ e. restForm)) OrigOk (λ o. EndedOk) n orig-laws (λ v. dest-tail n) at-2)
+      (bind-laws (levelAt rules 2) carried origItem _ (origAs octetsOf) (pairs (destAs octetsOf) restMeaning) origForm (λ o. thenForms destForm (λ e. restForm)) OrigOk (λ o. EndedOk) n orig-laws (λ v. dest-tail n) at-2)
 
   -- Abort: nothing, 4A or 6B
   abbrev StopOk : Ending Octets → Type 0
-  StopOk s = Image cause (AtMost 4) s ⊎ Image says (DialogueOk limit) s
+  StopOk s = Image cause (AtMost 4) s ⊎ Image says (DialogueOk rules) s
 
   abbrev stopped : Destination Octets × Option (Ending Octets) → Meaning
   stopped v = abort (v .0) (orSilent (v .1))
@@ -190,17 +190,17 @@ module _ (limit : ℕ) (big : 8 ≤ limit) where
   stopped-same e none = refl
   stopped-same e (some s) = refl
 
-  abort-laws : (n : ℕ) → BodyLaws n (abortBody limit) forget insideForm (Image stopped StoppedOk)
+  abort-laws : (n : ℕ) → BodyLaws n (abortBody rules) forget insideForm (Image stopped StoppedOk)
   unfolding extendedOf codeZero endingForm
   abort-laws n =
       image-body-laws (λ v. abort (v .0) (orSilent (v .1))) stopped (pairs (destAs octetsOf) (Option·map (endingAs octetsOf))) forget (λ v. stopped-same (v .0) (v .1)) (thenForms destForm (λ e. maybe endingForm)) insideForm StoppedOk (λ v o. stopped-form (v .0) (v .1)) n _
-      (bind-laws (levelAt limit 2) silently destItem _ (destAs octetsOf) (Option·map (endingAs octetsOf)) destForm (λ e. maybe endingForm) DestOk (λ e. Maybe StopOk) n dest-laws
-      (λ v. last-laws (levelAt limit 2) _ (endingAs octetsOf) endingForm StopOk n
+      (bind-laws (levelAt rules 2) silently destItem _ (destAs octetsOf) (Option·map (endingAs octetsOf)) destForm (λ e. maybe endingForm) DestOk (λ e. Maybe StopOk) n dest-laws
+      (λ v. last-laws (levelAt rules 2) _ (endingAs octetsOf) endingForm StopOk n
       (or-laws 0x4A _ _ (image-laws cause cause id (endingAs octetsOf) (λ v. refl) (octet 0x4A) endingForm (AtMost 4) (λ n o. refl) _ (octet-laws 0x4A 4 refl refl))
-      (image-laws says says dialogueMeaning (endingAs octetsOf) (λ v. refl) dialogueForm endingForm (DialogueOk limit) (λ d o. refl) _ (dialogue-laws limit big)) (λ a. refl) refl) at-2) at-2)
+      (image-laws says says dialogueMeaning (endingAs octetsOf) (λ v. refl) dialogueForm endingForm (DialogueOk rules) (λ d o. refl) _ (dialogue-laws rules big)) (λ a. refl) refl) at-2) at-2)
 
   -- the five messages
-  message-kinds : (μ : Meaning) → WellFormedUpTo limit μ → Image sent SentOk μ ⊎ (Image begun BegunOk μ ⊎ (Image ended EndedOk μ ⊎ (Image continued ContinuedOk μ ⊎ Image stopped StoppedOk μ)))
+  message-kinds : (μ : Meaning) → WellFormedUpTo rules μ → Image sent SentOk μ ⊎ (Image begun BegunOk μ ⊎ (Image ended EndedOk μ ⊎ (Image continued ContinuedOk μ ⊎ Image stopped StoppedOk μ)))
   unfolding WellFormedUpTo
   message-kinds (unidirectional d []) o = absurd (omega (arith, o .1))
   message-kinds (unidirectional d (c ∷ cs)) o = inl ((d, c ∷ cs), refl, (o .0, (o .2 .0, o .2 .1, tt)))
@@ -215,9 +215,9 @@ module _ (limit : ℕ) (big : 8 ≤ limit) where
   some-sent [] o = absurd (o .2)
   some-sent (c ∷ cs) o = omega arith
 
-  stopped-fine : (s : Option (Ending Octets)) → Maybe StopOk s → EndingOk limit (orSilent s)
+  stopped-fine : (s : Option (Ending Octets)) → Maybe StopOk s → EndingOk rules (orSilent s)
   stopped-fine none o = tt
-  stopped-fine (some s) o = ⊎-elim (image-out (EndingOk limit) (λ n o. o) s) (image-out (EndingOk limit) (λ d o. o) s) o
+  stopped-fine (some s) o = ⊎-elim (image-out (EndingOk rules) (λ n o. o) s) (image-out (EndingOk rules) (λ d o. o) s) o
 
   -- a message of one kind: its tag around its contents
   module _ {A : Type 0} (t : ℕ) (b : Body (Message Text)) (g : A → Meaning) (ok : A → Type 0) (forms : (a : A) → around t (insideForm (g a)) ≡ messageForm (g a))
@@ -225,18 +225,18 @@ module _ (limit : ℕ) (big : 8 ≤ limit) where
     kind-laws : ItemLaws (aroundItem t b) forget messageForm (Image g ok)
     kind-laws = item-form (image-out (λ c. around t (insideForm c) ≡ messageForm c) (λ a o. forms a)) (around-laws t b laws e z k)
 
-  pub message-laws : ItemLaws (messageItem limit) forget messageForm (WellFormedUpTo limit)
+  pub message-laws : ItemLaws (messageItem rules) forget messageForm (WellFormedUpTo rules)
   unfolding extendedOf codeZero constructorOf messageForm WellFormedUpTo
   message-laws =
       item-range message-kinds
-      (λ μ. ⊎-elim (image-out (WellFormedUpTo limit) (λ v o. (o .0, some-sent (v .1) (o .1), (o .1 .0, o .1 .1))) μ)
-      (⊎-elim (image-out (WellFormedUpTo limit) (λ v o. (o .0, o .1 .0, o .1 .1)) μ)
-      (⊎-elim (image-out (WellFormedUpTo limit) (λ v o. (o .0, o .1 .0, o .1 .1)) μ)
-      (⊎-elim (image-out (WellFormedUpTo limit) (λ v o. (o .0, o .1 .0, o .1 .1 .0, o .1 .1 .1)) μ)
-      (image-out (WellFormedUpTo limit) (λ v o. (o .0, stopped-fine (v .1) (o .1))) μ)))))
-      (or-laws 0x61 _ _ (kind-laws 0x61 (uniBody limit) sent SentOk (λ v. refl) uni-laws refl refl refl)
-      (or-laws 0x62 _ _ (kind-laws 0x62 (beginBody limit) begun BegunOk (λ v. refl) begin-laws refl refl refl)
-      (or-laws 0x64 _ _ (kind-laws 0x64 (endBody limit) ended EndedOk (λ v. refl) end-laws refl refl refl)
-      (or-laws 0x65 _ _ (kind-laws 0x65 (continueBody limit) continued ContinuedOk (λ v. refl) continue-laws refl refl refl)
-      (kind-laws 0x67 (abortBody limit) stopped StoppedOk (λ v. refl) abort-laws refl refl refl)
+      (λ μ. ⊎-elim (image-out (WellFormedUpTo rules) (λ v o. (o .0, some-sent (v .1) (o .1), (o .1 .0, o .1 .1))) μ)
+      (⊎-elim (image-out (WellFormedUpTo rules) (λ v o. (o .0, o .1 .0, o .1 .1)) μ)
+      (⊎-elim (image-out (WellFormedUpTo rules) (λ v o. (o .0, o .1 .0, o .1 .1)) μ)
+      (⊎-elim (image-out (WellFormedUpTo rules) (λ v o. (o .0, o .1 .0, o .1 .1 .0, o .1 .1 .1)) μ)
+      (image-out (WellFormedUpTo rules) (λ v o. (o .0, stopped-fine (v .1) (o .1))) μ)))))
+      (or-laws 0x61 _ _ (kind-laws 0x61 (uniBody rules) sent SentOk (λ v. refl) uni-laws refl refl refl)
+      (or-laws 0x62 _ _ (kind-laws 0x62 (beginBody rules) begun BegunOk (λ v. refl) begin-laws refl refl refl)
+      (or-laws 0x64 _ _ (kind-laws 0x64 (endBody rules) ended EndedOk (λ v. refl) end-laws refl refl refl)
+      (or-laws 0x65 _ _ (kind-laws 0x65 (continueBody rules) continued ContinuedOk (λ v. refl) continue-laws refl refl refl)
+      (kind-laws 0x67 (abortBody rules) stopped StoppedOk (λ v. refl) abort-laws refl refl refl)
       (λ a. refl) refl) (λ a. refl) refl) (λ a. refl) refl) (λ a. refl) refl)

@@ -21,6 +21,7 @@ use Rattle.tcap.specs.Refused.{Right, primitive, definite as filled, ind
 use Rattle.tcap.proofs.Fronts.{endless-some, right-some, head-more}
 use Rattle.tcap.proofs.Found.{same-some, there-of}
 use Rattle.tcap.proofs.OneFront.{cut-tag, bad-tag, tagged-tag, zero-tag, wrong-length, definite-head, endless-head}
+use Rattle.tcap.specs.WellFormed.{Rules}
 
 -- What is wrong at a place is what `ask` answers there: a fault of the contents, one of an element (marked by an owner), or an element that may stand
 
@@ -33,9 +34,9 @@ otherOf (some k) b = FaultKind.UnknownComponent
 otherOf none true = FaultKind.Another
 otherOf none false = FaultKind.TooMany
 
-abbrev pub asked : ℕ → ℕ → Parts → Body (Option Head)
-asked limit l r =
-    record { ends = cond (mayEnd r) (some none) none; full = fullOf (position r); owner = inComponent 0; left = suc limit - l; mine = λ a. there (due r a); other = otherOf (position r) (someMay r); goes = λ d h p part. got (some h) 0 }
+abbrev pub asked : Rules → ℕ → Parts → Body (Option Head)
+asked rules l r =
+    record { ends = cond (mayEnd r) (some none) none; full = fullOf (position r); owner = inComponent 0; left = suc (rules .limit) - l; mine = λ a. there (due r a); other = otherOf (position r) (someMay r); goes = λ d h p part. got (some h) 0 }
 
 full-true : (x : Option ℕ) → x ≡ some 16 → fullOf x ≡ true
 full-true x e = rw e
@@ -71,28 +72,28 @@ one-shown around around = (refl, refl)
 one-shown here here = (refl, refl)
 one-shown (contents a b c) (contents d e f) = (refl, refl)
 
-module _ (limit l : ℕ) (d : Bool) (r : Parts) (p : ℕ) (part : List ℕ) where
+module _ (rules : Rules) (l : ℕ) (d : Bool) (r : Parts) (p : ℕ) (part : List ℕ) where
   -- an element with that head may stand here
-  pub head-asked : (h : Head) (g : Holds) → HeadOf part h → l ≤ limit → (position r ≡ some 16 → ⊥) → due r (firstOf h) ≡ some g → ask (asked limit l r) d p part ≡ got (some h) 0
-  head-asked h g i j free is = ask-head (asked limit l r) d p part h i (full-false (position r) free) (lt-ltb 0 (suc limit - l) (omega arith)) (there-of is)
+  pub head-asked : (h : Head) (g : Holds) → HeadOf part h → l ≤ rules .limit → (position r ≡ some 16 → ⊥) → due r (firstOf h) ≡ some g → ask (asked rules l r) d p part ≡ got (some h) 0
+  head-asked h g i j free is = ask-head (asked rules l r) d p part h i (full-false (position r) free) (lt-ltb 0 (suc (rules .limit) - l) (omega arith)) (there-of is)
 
   module _ (c o : Owner) where
-    faulty-shown : {k : FaultKind} → endOf d part ≡ more → (position r ≡ some 16 → ⊥) → Faulty limit l r part k → Shown r p part c o k o (ask (asked limit l r) d p part)
+    faulty-shown : {k : FaultKind} → endOf d part ≡ more → (position r ≡ some 16 → ⊥) → Faulty rules l r part k → Shown r p part c o k o (ask (asked rules l r) d p part)
     unfolding inComponent
-    faulty-shown e free (tagCut w) = rw (ask-tag (asked limit l r) d p part e (full-false (position r) free) FaultKind.CutOff (cut-tag w)) here
-    faulty-shown e free (tagBad w) = rw (ask-tag (asked limit l r) d p part e (full-false (position r) free) FaultKind.BadTag (bad-tag w)) here
-    faulty-shown e free (zeroCode {a = a} f z) = rw (ask-zero (asked limit l r) d p part e (full-false (position r) free) a 1 (zero-tag f z) z) here
-    faulty-shown e free (tooDeep {a = a} t j) = rw (ask-deep (asked limit l r) d p part e (full-false (position r) free) a _ (tagged-tag t .0) (t .plain) (le-ltb 0 (suc limit - l) (omega arith))) here
+    faulty-shown e free (tagCut w) = rw (ask-tag (asked rules l r) d p part e (full-false (position r) free) FaultKind.CutOff (cut-tag w)) here
+    faulty-shown e free (tagBad w) = rw (ask-tag (asked rules l r) d p part e (full-false (position r) free) FaultKind.BadTag (bad-tag w)) here
+    faulty-shown e free (zeroCode {a = a} f z) = rw (ask-zero (asked rules l r) d p part e (full-false (position r) free) a 1 (zero-tag f z) z) here
+    faulty-shown e free (tooDeep {a = a} t j) = rw (ask-deep (asked rules l r) d p part e (full-false (position r) free) a _ (tagged-tag t .0) (t .plain) (le-ltb 0 (suc (rules .limit) - l) (omega arith))) here
     faulty-shown e free (unfit {a = a} {k = k} t j is u) =
-        rw (ask-other (asked limit l r) d p part e (full-false (position r) free) a _ (tagged-tag t .0) (t .plain) (lt-ltb 0 (suc limit - l) (omega arith)) (rw is), unfit-other u) here
+        rw (ask-other (asked rules l r) d p part e (full-false (position r) free) a _ (tagged-tag t .0) (t .plain) (lt-ltb 0 (suc (rules .limit) - l) (omega arith)) (rw is), unfit-other u) here
     faulty-shown e free (lengthWrong {a = a} {k = k} t j is w) =
-        rw (ask-length (asked limit l r) d p part e (full-false (position r) free) a _ (tagged-tag t .0) (t .plain) k (lt-ltb 0 (suc limit - l) (omega arith)) (there-of is) (rw (tagged-tag t .1) (wrong-length w))) here
+        rw (ask-length (asked rules l r) d p part e (full-false (position r) free) a _ (tagged-tag t .0) (t .plain) k (lt-ltb 0 (suc (rules .limit) - l) (omega arith)) (there-of is) (rw (tagged-tag t .1) (wrong-length w))) here
     faulty-shown e free (badContents {a = a} {u = u} {n = n} {h = g} j is s z f) = rw (head-asked (head a u (definite n)) g (definite-head s) j free is) (contents is z f)
 
-    pub wrong-shown : {k : FaultKind} {w : Owner} → Wrong limit l d r part c o k w → Shown r p part c o k w (ask (asked limit l r) d p part)
-    wrong-shown (noPair e) = rw (ask-unfinished (asked limit l r) d p part e) around
-    wrong-shown (missing e f) = rw (ask-missing (asked limit l r) d p part e (rw f)) around
-    wrong-shown (seventeenth e f) = rw (ask-full (asked limit l r) d p part e (full-true (position r) f)) around
+    pub wrong-shown : {k : FaultKind} {w : Owner} → Wrong rules l d r part c o k w → Shown r p part c o k w (ask (asked rules l r) d p part)
+    wrong-shown (noPair e) = rw (ask-unfinished (asked rules l r) d p part e) around
+    wrong-shown (missing e f) = rw (ask-missing (asked rules l r) d p part e (rw f)) around
+    wrong-shown (seventeenth e f) = rw (ask-full (asked rules l r) d p part e (full-true (position r) f)) around
     wrong-shown (element e free f) = faulty-shown e free f
 
     -- where such an element stands, only its contents can be wrong
@@ -105,7 +106,7 @@ module _ (limit l : ℕ) (d : Bool) (r : Parts) (p : ℕ) (part : List ℕ) wher
         let q : g′ ≡ g = same-some (sym is′ ∙ (rw y at is)) in
         (rw q at z, (u, n, rw y refl, rw q at f))
 
-    pub wrong-head : {k : FaultKind} {w : Owner} (h : Head) (g : Holds) → Wrong limit l d r part c o k w → HeadOf part h → l ≤ limit → (position r ≡ some 16 → ⊥) → due r (firstOf h) ≡ some g
+    pub wrong-head : {k : FaultKind} {w : Owner} (h : Head) (g : Holds) → Wrong rules l d r part c o k w → HeadOf part h → l ≤ rules .limit → (position r ≡ some 16 → ⊥) → due r (firstOf h) ≡ some g
         → (contentsOf g ≡ none) × ((u : ℕ) × (n : ℕ) × (h ≡ head (firstOf h) u (definite n)) × (passes g (take n (drop u part)) ≡ false))
     wrong-head h g w i j free is = shown-head (wrong-shown w) (head-asked h g i j free is) is
 
@@ -120,17 +121,17 @@ one-head {part = part} {h = h} {h′ = h′} i j =
 
 -- One size
 
-pub right-head : {limit l a p n : ℕ} {h : Holds} {part : List ℕ} {x : Text} → Right limit l a h p part n x → (k : Head) × HeadOf part k × (firstOf k ≡ a)
+pub right-head : {rules : Rules} {l a p n : ℕ} {h : Holds} {part : List ℕ} {x : Text} → Right rules l a h p part n x → (k : Head) × HeadOf part k × (firstOf k ≡ a)
 right-head (primitive {a = a} {u = u} {n = n} j s c f) = (head a u (definite n), definite-head s, refl)
 right-head (filled {a = a} {u = u} {n = n} j s c w) = (head a u (definite n), definite-head s, refl)
 right-head (endlessly {a = a} {u = u} j s c w) = (head a u indefinite, endless-head s, refl)
 
-pub right-level : {limit l a p n : ℕ} {h : Holds} {part : List ℕ} {x : Text} → Right limit l a h p part n x → l ≤ limit
+pub right-level : {rules : Rules} {l a p n : ℕ} {h : Holds} {part : List ℕ} {x : Text} → Right rules l a h p part n x → l ≤ rules .limit
 right-level (primitive j s c f) = j
 right-level (filled j s c w) = j
 right-level (endlessly j s c w) = j
 
-pub same-first : {limit l l′ a a′ p p′ n n′ : ℕ} {h h′ : Holds} {part : List ℕ} {x x′ : Text} → Right limit l a h p part n x → Right limit l′ a′ h′ p′ part n′ x′ → a ≡ a′
+pub same-first : {rules : Rules} {l l′ a a′ p p′ n n′ : ℕ} {h h′ : Holds} {part : List ℕ} {x x′ : Text} → Right rules l a h p part n x → Right rules l′ a′ h′ p′ part n′ x′ → a ≡ a′
 same-first u v = let (k, i, e) = right-head u in let (k′, j, f) = right-head v in sym e ∙ ap firstOf (one-head i j) ∙ f
 
 pub not-ended : (d : Bool) (part : List ℕ) (h : Head) → endOf d part ≡ ended → HeadOf part h → ⊥
@@ -150,7 +151,7 @@ none-some e f = nothing-ends (sym e ∙ f)
 
 -- the fuel is twice the octets, and one more for contents
 mutual
-  pub right-one : (fuel : ℕ) {limit l a p n n′ : ℕ} {h : Holds} {part : List ℕ} {x x′ : Text} → 2 * length part ≤ fuel → Right limit l a h p part n x → Right limit l a h p part n′ x′ → (n ≡ n′) × (x ≡ x′)
+  pub right-one : (fuel : ℕ) {rules : Rules} {l a p n n′ : ℕ} {h : Holds} {part : List ℕ} {x x′ : Text} → 2 * length part ≤ fuel → Right rules l a h p part n x → Right rules l a h p part n′ x′ → (n ≡ n′) × (x ≡ x′)
   right-one zero b u v = absurd (omega (arith, b, right-some u .1))
   right-one (suc fuel) b (primitive j s c f) (primitive j′ s′ c′ f′) = let e = same-head (one-head (definite-head s) (definite-head s′)) in (rw (e .1, e .2) refl, rw (e .1, e .2) refl)
   right-one (suc fuel) b (primitive j s c f) (filled j′ s′ c′ w′) = absurd (none-some c c′)
@@ -167,7 +168,7 @@ mutual
       let k = fits-one fuel (omega (arith, b, y .0, y .1, length-drop u part)) w (rw (← (e .1), ← q) at w′) in
       (rw (e .1, k) refl, rw (e .1) refl)
 
-  pub fits-one : (fuel : ℕ) {limit l p k k′ : ℕ} {r : Parts} {d : Bool} {part : List ℕ} → 2 * length part + 1 ≤ fuel → Fits limit l r d p part k → Fits limit l r d p part k′ → k ≡ k′
+  pub fits-one : (fuel : ℕ) {rules : Rules} {l p k k′ : ℕ} {r : Parts} {d : Bool} {part : List ℕ} → 2 * length part + 1 ≤ fuel → Fits rules l r d p part k → Fits rules l r d p part k′ → k ≡ k′
   fits-one zero b u v = absurd (omega arith)
   fits-one (suc fuel) b (nothing e m) (nothing e′ m′) = refl
   fits-one (suc fuel) {d = d} {part = part} b (nothing e m) (also f is u w) = let y = right-head u in absurd (not-ended d part (y .0) e (y .1))

@@ -20,10 +20,11 @@ use Rattle.tcap.proofs.Fronts.{first-octet}
 use Rattle.tcap.proofs.Found.{same-some}
 use Rattle.tcap.proofs.OneFault.{right-head, same-first, none-some, right-one}
 use Rattle.tcap.proofs.OneTrail.{Fails, at-once, within as inside, withinEndless, beyond, trail-fails, right-wrong, right-within, right-within-endless, fits-fails, fails-one}
+use Rattle.tcap.specs.WellFormed.{Rules}
 
 -- The size of what is right
 
-fits-end : {limit l p k : ℕ} {r : Parts} {d : Bool} {part : List ℕ} → Fits limit l r d p part k → endOf d (drop k part) ≡ ended
+fits-end : {rules : Rules} {l p k : ℕ} {r : Parts} {d : Bool} {part : List ℕ} → Fits rules l r d p part k → endOf d (drop k part) ≡ ended
 fits-end (nothing e m) = e
 fits-end {d = d} {part = part} (also {n = n} {k = k} f is u w) = let e : endOf d (drop k (drop n part)) ≡ ended = fits-end w in rw (← drop-drop) e
 
@@ -45,7 +46,7 @@ none-left (x ∷ q) e = let z : _≡_ {A = ℕ} 0 1 = cc in absurd (omega arith)
 definite-size : {part : List ℕ} {a u n : ℕ} → Definitely part a u n → u + n ≤ length part
 definite-size {part} {a} {u} s = omega (arith, s .room, s .used, ap length (s .front), length-append ((a ∷ s .ext) ++ s .len) (drop u part))
 
-right-size : {limit l a p n : ℕ} {h : Holds} {part : List ℕ} {x : Text} → Right limit l a h p part n x → n ≤ length part
+right-size : {rules : Rules} {l a p n : ℕ} {h : Holds} {part : List ℕ} {x : Text} → Right rules l a h p part n x → n ≤ length part
 right-size (primitive j s c f) = definite-size s
 right-size (filled j s c w) = definite-size s
 right-size {part = part} (endlessly {a = a} {u = u} {k = k} j s c w) =
@@ -54,13 +55,13 @@ right-size {part = part} (endlessly {a = a} {u = u} {k = k} j s c w) =
 -- One fault, or none
 
 -- a message that is right has no fault inside
-right-alone : {limit a n : ℕ} {m : List ℕ} {h : Holds} {s : Known} {x : Text} {f : Fault} → find message a ≡ some h → Right limit 1 a h 0 m n x → Fails limit 1 true (must message end) s 0 m f → ⊥
+right-alone : {rules : Rules} {a n : ℕ} {m : List ℕ} {h : Holds} {s : Known} {x : Text} {f : Fault} → find message a ≡ some h → Right rules 1 a h 0 m n x → Fails rules 1 true (must message end) s 0 m f → ⊥
 right-alone is u (at-once w) = right-wrong u (λ e. nothing-ends e) is w
 right-alone is u (inside j free is′ z y x) = right-within (must message end) u is is′ z y x
 right-alone is u (withinEndless j free is′ z y x) = right-within-endless (must message end) u is is′ z y x
 right-alone is u (beyond j free is′ u′ x) = absurd (omega arith)
 
-one-orig : {limit : ℕ} {r : Parts} {x : Text} {t t′ : Option Text} → OrigOf limit r x t → OrigOf limit r x t′ → t ≡ t′
+one-orig : {rules : Rules} {r : Parts} {x : Text} {t t′ : Option Text} → OrigOf rules r x t → OrigOf rules r x t′ → t ≡ t′
 one-orig (without e) (without f) = refl
 one-orig (without e) (with f u) = absurd (none-some e f)
 one-orig (with e u) (without f) = absurd (none-some f e)
@@ -69,7 +70,7 @@ one-orig {x = x} (with e u) (with f v) = ap some (right-one (2 * length (x .1)) 
 same-after : {n n′ : ℕ} {t t′ : Option Text} → n ≡ n′ → t ≡ t′ → fault FaultKind.OctetsAfter n portion none t ≡ fault FaultKind.OctetsAfter n′ portion none t′
 same-after e f = rw (e, f) refl
 
-found-one : {limit : ℕ} {m : List ℕ} {f g : Fault} → Found limit m f → Found limit m g → f ≡ g
+found-one : {rules : Rules} {m : List ℕ} {f g : Fault} → Found rules m f → Found rules m g → f ≡ g
 found-one (found w x) (found w′ x′) = fails-one (trail-fails w (at-once x)) (trail-fails w′ (at-once x′))
 found-one (found w x) (after is z u n o) = absurd (right-alone is u (trail-fails w (at-once x)))
 found-one (after is z u n o) (found w x) = absurd (right-alone is u (trail-fails w (at-once x)))
@@ -87,7 +88,7 @@ pub same-front : {m : List ℕ} {a b : ℕ} {q r : List ℕ} → m ≡ a ∷ q �
 same-front e f = let z : _ ≡ _ = sym e ∙ f in cc
 
 -- no second fault
-pub refuses-one : {limit : ℕ} {m : List ℕ} {f g : Fault} → Refuses limit m f → Refuses limit m g → f ≡ g
+pub refuses-one : {rules : Rules} {m : List ℕ} {f g : Fault} → Refuses rules m f → Refuses rules m g → f ≡ g
 refuses-one (overlong b) (overlong c) = refl
 refuses-one (overlong b) (noOctets e) = absurd (omega (arith, b, ap length e))
 refuses-one (overlong b) (noMessage c e z) = absurd (omega arith)
@@ -106,15 +107,15 @@ refuses-one (within d f y x) (noMessage c e z) = absurd (none-some z (rw (← (s
 refuses-one (within d f y x) (within c e z w) = found-one x w
 
 -- what is allowed has none
-fits-alone : {limit k : ℕ} {m : List ℕ} → Fits limit 1 (must message end) true 0 m k → (a : ℕ) × (h : Holds) × (n : ℕ) × (x : Text) × (find message a ≡ some h) × Right limit 1 a h 0 m n x × (n ≡ length m)
+fits-alone : {rules : Rules} {k : ℕ} {m : List ℕ} → Fits rules 1 (must message end) true 0 m k → (a : ℕ) × (h : Holds) × (n : ℕ) × (x : Text) × (find message a ≡ some h) × Right rules 1 a h 0 m n x × (n ≡ length m)
 fits-alone (nothing e z) = absurd (false≢true z)
 fits-alone {m = m} (also {a = a} {n = n} {h = h} {x = x} free is u (nothing e z)) = (a, h, n, x, is, u, omega (arith, right-size u, none-left (drop n m) e, length-drop n m))
 fits-alone (also free is u (also free′ is′ u′ w)) = nothing-ends is′
 
-first-of : {limit l a p n : ℕ} {h : Holds} {part : List ℕ} {x : Text} → Right limit l a h p part n x → (q : List ℕ) × (part ≡ a ∷ q)
+first-of : {rules : Rules} {l a p n : ℕ} {h : Holds} {part : List ℕ} {x : Text} → Right rules l a h p part n x → (q : List ℕ) × (part ≡ a ∷ q)
 first-of u = let (k, i, e) = right-head u in let (q, f) = first-octet _ k i in (q, rw e at f)
 
-pub allowed-refuses : {limit : ℕ} {m : List ℕ} {f : Fault} → Allowed limit m → Refuses limit m f → ⊥
+pub allowed-refuses : {rules : Rules} {m : List ℕ} {f : Fault} → Allowed rules m → Refuses rules m f → ⊥
 allowed-refuses a (overlong b) = omega (arith, a .short)
 allowed-refuses a (noOctets e) = let (b, h, n, x, is, u, k) = fits-alone (a .fits) in empty-first e (first-of u .1)
 allowed-refuses a (noMessage c e z) = let (b, h, n, x, is, u, k) = fits-alone (a .fits) in none-some z (rw (same-front (first-of u .1) e) at is)

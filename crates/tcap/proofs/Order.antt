@@ -83,7 +83,7 @@ unfolding told
 ordered = refl
 
 -- the level is asked before the expected tag, which 16 levels never show: with 2 levels a component of unknown tag is too deep
-pub level-first : toldUpTo 2 (hex "62 07 48 01 05 6C 02 A5 00") ≡ refuses 5 7 (origAt 4 1) (problem 2 0 InvokeId.Null)
+pub level-first : toldUpTo (record { limit = 2 }) (hex "62 07 48 01 05 6C 02 A5 00") ≡ refuses 5 7 (origAt 4 1) (problem 2 0 InvokeId.Null)
 unfolding toldUpTo
 level-first = refl
 

@@ -25,7 +25,7 @@ use Rattle.element.proofs.Ends.{outer, Ends, held, failed, the-held, the-failed
 use Rattle.element.proofs.Laid.{Here, StandsAt, Laid, stop, stands-here, here-within, laid-wider, laid-append, laid-none, laid-each, nothing-ends, Claim, Keeps, Span, strung, ItemLaid, BodyLaid, leaf-laid, around-laid, kept-laid, item-weaken, map-laid, or-laid, bind-laid, only-laid, last-laid, opt-laid, map-body-laid, series-laid, series-unmarked, walk-laid}
 use Rattle.tcap.specs.declared.{Problem.Problem, Diagnostic.Diagnostic}
 use Rattle.tcap.specs.Meaning.{silent, Originating, orig, dest, Code, local, global, Component, invoke, last, notLast, error, reject, Dialogue, request, unidialogue, response, aborted, single, octets, Ending, cause, says, Message, unidirectional, begin, finish, continue, abort, structured, unstructured, version}
-use Rattle.tcap.specs.WellFormed.{mostOctets, mostComponents, leftAt, idOk, InvokeIdOk, OrigOk, WellFormedUpTo}
+use Rattle.tcap.specs.WellFormed.{Rules, mostOctets, mostComponents, leftAt, idOk, InvokeIdOk, OrigOk, WellFormedUpTo}
 use Rattle.tcap.specs.Productions.{single?, octetItem, nameItem, codeItem, problemItem, idOrNullItem, origItem, destItem, carried, noted, versionBody, levelAt, parameterItem, codeBody, invokeBody, bothItem, resultBody, errorBody, rejectBody, componentItem, componentAt, componentsItem, infoBody, contextItem, askedItem, numberItem, sourceItem, answeredItem, abortedItem, heldItem, externalBody, inside6B, dialogueItem, tailBody, uniBody, beginBody, endBody, continueBody, abortBody, messageItem}
 use Rattle.tcap.specs.Reading.{learnt, aloneBody, readFirst, locatedUpTo}
 use Rattle.tcap.proofs.Records.{Sits}
@@ -86,8 +86,8 @@ pub record RefusedFor (m : List ℕ) (f : Fault) : Type 0 where
   pub origId : Maybe (OrigHere m) (origOf f)
 
 -- with levels enough for the fixed parts of a message
-abbrev Refused : ℕ → List ℕ → Fault → Type 0
-Refused limit m f = 8 ≤ limit → RefusedFor m f
+abbrev Refused : Rules → List ℕ → Fault → Type 0
+Refused rules m f = 8 ≤ rules .limit → RefusedFor m f
 
 plain-not : (k : FaultKind) → Plain k → (n : ℕ) → outer n ≡ true → numberOf k ≡ n → ⊥
 plain-not k i n t e = false≢true (sym i ∙ ap outer e ∙ t)
@@ -243,40 +243,40 @@ module _ (m : List ℕ) where
   ending-strings none s lo hi i = i
   ending-strings (some e) s lo hi i = i
 
-  module _ (limit : ℕ) where
-    parameter-reads : (n : ℕ) → ItemReads (parameterItem limit n) whole
-    parameter-reads n = walk-laid _ (leftAt limit n)
+  module _ (rules : Rules) where
+    parameter-reads : (n : ℕ) → ItemReads (parameterItem rules n) whole
+    parameter-reads n = walk-laid _ (leftAt rules n)
 
-    code-body-reads : BodyReads (codeBody limit) (λ v. codeStrings (v .0) ++ optionStrings whole (v .1))
-    code-body-reads = then-reads (leftAt limit 4) code-reads (last-reads (leftAt limit 4) (parameter-reads 4))
+    code-body-reads : BodyReads (codeBody rules) (λ v. codeStrings (v .0) ++ optionStrings whole (v .1))
+    code-body-reads = then-reads (leftAt rules 4) code-reads (last-reads (leftAt rules 4) (parameter-reads 4))
 
-    invoke-reads : BodyReads (invokeBody limit) componentStrings
+    invoke-reads : BodyReads (invokeBody rules) componentStrings
     unfolding extendedOf
     invoke-reads =
         map-body-laid (λ v. invoke (v .0) (v .1 .0) (v .1 .1 .0) (v .1 .1 .1)) (λ v lo hi i. i)
-        (bind-reads (leftAt limit 4) noted id-laws (λ v lo hi i o. keeps-invoke m (some v) o) (integer-reads 0x02 1 refl) (mute-reads (integer-reads 0x80 1 refl) code-body-reads))
+        (bind-reads (leftAt rules 4) noted id-laws (λ v lo hi i o. keeps-invoke m (some v) o) (integer-reads 0x02 1 refl) (mute-reads (integer-reads 0x80 1 refl) code-body-reads))
 
-    both-reads : ItemReads (bothItem limit) bothStrings
-    both-reads = around-laid 0x30 (then-reads (leftAt limit 5) code-reads (only-laid (levelAt limit 5) plainly (parameter-reads 5)))
+    both-reads : ItemReads (bothItem rules) bothStrings
+    both-reads = around-laid 0x30 (then-reads (leftAt rules 5) code-reads (only-laid (levelAt rules 5) plainly (parameter-reads 5)))
 
-    result-reads : (f : ℤ → Option (Code Text × Text) → Component Text) → ((i : ℤ) (r : Option (Code Text × Text)) → optionStrings bothStrings r ≡ componentStrings (f i r)) → BodyReads (resultBody limit f) componentStrings
+    result-reads : (f : ℤ → Option (Code Text × Text) → Component Text) → ((i : ℤ) (r : Option (Code Text × Text)) → optionStrings bothStrings r ≡ componentStrings (f i r)) → BodyReads (resultBody rules f) componentStrings
     unfolding extendedOf
     result-reads f same =
         map-body-laid (λ v. f (v .0) (v .1)) (λ v lo hi i. rw (same (v .0) (v .1)) at i)
-        (bind-reads (leftAt limit 4) noted id-laws (λ v lo hi i o. keeps-invoke m (some v) o) (integer-reads 0x02 1 refl) (last-reads (leftAt limit 4) both-reads))
+        (bind-reads (leftAt rules 4) noted id-laws (λ v lo hi i o. keeps-invoke m (some v) o) (integer-reads 0x02 1 refl) (last-reads (leftAt rules 4) both-reads))
 
-    error-reads : BodyReads (errorBody limit) componentStrings
+    error-reads : BodyReads (errorBody rules) componentStrings
     unfolding extendedOf
     error-reads =
         map-body-laid (λ v. error (v .0) (v .1 .0) (v .1 .1)) (λ v lo hi i. i)
-        (bind-reads (leftAt limit 4) noted id-laws (λ v lo hi i o. keeps-invoke m (some v) o) (integer-reads 0x02 1 refl) code-body-reads)
+        (bind-reads (leftAt rules 4) noted id-laws (λ v lo hi i o. keeps-invoke m (some v) o) (integer-reads 0x02 1 refl) code-body-reads)
 
-    reject-reads : BodyReads (rejectBody limit) componentStrings
+    reject-reads : BodyReads (rejectBody rules) componentStrings
     reject-reads =
         map-body-laid (λ v. reject (v .0) (v .1)) (λ v lo hi i. i)
-        (bind-reads (leftAt limit 4) withInvokeId null-laws (λ v lo hi i o. keeps-invoke m v o) null-reads (only-laid (levelAt limit 4) plainly problem-reads))
+        (bind-reads (leftAt rules 4) withInvokeId null-laws (λ v lo hi i o. keeps-invoke m v o) null-reads (only-laid (levelAt rules 4) plainly problem-reads))
 
-    component-reads : ItemReads (componentItem limit) componentStrings
+    component-reads : ItemReads (componentItem rules) componentStrings
     component-reads =
         or-laid (around-laid 0xA1 invoke-reads)
         (or-laid (around-laid 0xA2 (result-reads last (λ i r. refl)))
@@ -284,101 +284,101 @@ module _ (m : List ℕ) where
         (or-laid (around-laid 0xA4 reject-reads)
         (around-laid 0xA7 (result-reads notLast (λ i r. refl))))))
 
-    pub rows-reads : BodyReads (seriesBody (componentAt limit) FaultKind.UnknownComponent (componentItem limit) none mostComponents 0) (seriesStrings componentStrings)
+    pub rows-reads : BodyReads (seriesBody (componentAt rules) FaultKind.UnknownComponent (componentItem rules) none mostComponents 0) (seriesStrings componentStrings)
     unfolding seriesStrings numberOf
     rows-reads =
-        series-laid (componentAt limit) FaultKind.UnknownComponent mostComponents (λ k h. keeps-component m k h) refl (λ p. stop (omega arith)) (λ v ws lo mid hi i j. laid-append i j) component-reads none (λ v i. nothing-ends i) mostComponents 0 (omega arith)
+        series-laid (componentAt rules) FaultKind.UnknownComponent mostComponents (λ k h. keeps-component m k h) refl (λ p. stop (omega arith)) (λ v ws lo mid hi i j. laid-append i j) component-reads none (λ v i. nothing-ends i) mostComponents 0 (omega arith)
 
-    components-reads : ItemReads (componentsItem limit) (seriesStrings componentStrings)
+    components-reads : ItemReads (componentsItem rules) (seriesStrings componentStrings)
     components-reads = around-laid 0x6C rows-reads
 
-    info-reads : BodyReads (infoBody limit) (optionStrings (tagged 0xBE))
+    info-reads : BodyReads (infoBody rules) (optionStrings (tagged 0xBE))
     unfolding extendedOf
-    info-reads = last-reads (leftAt limit 6) (kept-laid 0xBE refl (λ n. series-unmarked (leftAt limit 7) n (walk-laid _ (leftAt limit 7))))
+    info-reads = last-reads (leftAt rules 6) (kept-laid 0xBE refl (λ n. series-unmarked (leftAt rules 7) n (walk-laid _ (leftAt rules 7))))
 
-    context-reads : ItemReads (contextItem limit) (tagged 0x06)
-    context-reads = around-laid 0xA1 (only-laid (levelAt limit 7) plainly name-reads)
+    context-reads : ItemReads (contextItem rules) (tagged 0x06)
+    context-reads = around-laid 0xA1 (only-laid (levelAt rules 7) plainly name-reads)
 
-    asked-reads : (f : Text → Option Text → Dialogue Text) → ((n : Text) (u : Option Text) → namedStrings n u ≡ dialogueStrings (f n u)) → ItemReads (askedItem limit f) dialogueStrings
+    asked-reads : (f : Text → Option Text → Dialogue Text) → ((n : Text) (u : Option Text) → namedStrings n u ≡ dialogueStrings (f n u)) → ItemReads (askedItem rules f) dialogueStrings
     asked-reads f same =
-        around-laid 0x60 (map-body-laid (λ v. f (v .0) (v .1)) (λ v lo hi i. rw (same (v .0) (v .1)) at i) (version-reads (then-reads (leftAt limit 6) context-reads info-reads)))
+        around-laid 0x60 (map-body-laid (λ v. f (v .0) (v .1)) (λ v lo hi i. rw (same (v .0) (v .1)) at i) (version-reads (then-reads (leftAt rules 6) context-reads info-reads)))
 
-    number-reads : (t n most : ℕ) → ItemReads (numberItem limit t n most) (λ v. [])
+    number-reads : (t n most : ℕ) → ItemReads (numberItem rules t n most) (λ v. [])
     unfolding extendedOf
-    number-reads t n most = around-laid t (only-laid (levelAt limit n) plainly (octet-reads 0x02 most refl))
+    number-reads t n most = around-laid t (only-laid (levelAt rules n) plainly (octet-reads 0x02 most refl))
 
-    source-reads : ItemReads (sourceItem limit) (λ v. [])
-    source-reads = around-laid 0xA3 (only-laid (levelAt limit 7) plainly (or-laid (map-laid Diagnostic.ByUser (λ v lo hi i. i) (number-reads 0xA1 8 2)) (map-laid Diagnostic.ByProvider (λ v lo hi i. i) (number-reads 0xA2 8 2))))
+    source-reads : ItemReads (sourceItem rules) (λ v. [])
+    source-reads = around-laid 0xA3 (only-laid (levelAt rules 7) plainly (or-laid (map-laid Diagnostic.ByUser (λ v lo hi i. i) (number-reads 0xA1 8 2)) (map-laid Diagnostic.ByProvider (λ v lo hi i. i) (number-reads 0xA2 8 2))))
 
-    answered-reads : ItemReads (answeredItem limit) dialogueStrings
+    answered-reads : ItemReads (answeredItem rules) dialogueStrings
     answered-reads =
         around-laid 0x61
         (map-body-laid (λ v. response (v .0) (v .1 .0) (v .1 .1 .0) (v .1 .1 .1)) (λ v lo hi i. i)
-        (version-reads (then-reads (leftAt limit 6) context-reads (then-reads (leftAt limit 6) (number-reads 0xA2 7 1) (then-reads (leftAt limit 6) source-reads info-reads)))))
+        (version-reads (then-reads (leftAt rules 6) context-reads (then-reads (leftAt rules 6) (number-reads 0xA2 7 1) (then-reads (leftAt rules 6) source-reads info-reads)))))
 
-    aborted-reads : ItemReads (abortedItem limit) dialogueStrings
+    aborted-reads : ItemReads (abortedItem rules) dialogueStrings
     unfolding extendedOf
-    aborted-reads = around-laid 0x64 (map-body-laid (λ v. aborted (v .0) (v .1)) (λ v lo hi i. i) (then-reads (leftAt limit 6) (octet-reads 0x80 1 refl) info-reads))
+    aborted-reads = around-laid 0x64 (map-body-laid (λ v. aborted (v .0) (v .1)) (λ v lo hi i. i) (then-reads (leftAt rules 6) (octet-reads 0x80 1 refl) info-reads))
 
-    held-reads : (n : Text) (s u : Bool) → ItemLaid m (claim m) (heldItem limit n s u) (Following n)
+    held-reads : (n : Text) (s u : Bool) → ItemLaid m (claim m) (heldItem rules n s u) (Following n)
     unfolding extendedOf
     held-reads n true u =
         item-weaken (following n)
-        (around-laid 0xA0 (only-laid (levelAt limit 5) plainly (or-laid (asked-reads request (λ n u. refl)) (or-laid answered-reads aborted-reads))))
+        (around-laid 0xA0 (only-laid (levelAt rules 5) plainly (or-laid (asked-reads request (λ n u. refl)) (or-laid answered-reads aborted-reads))))
     held-reads n false true =
-        item-weaken (following n) (around-laid 0xA0 (only-laid (levelAt limit 5) plainly (asked-reads unidialogue (λ n u. refl))))
+        item-weaken (following n) (around-laid 0xA0 (only-laid (levelAt rules 5) plainly (asked-reads unidialogue (λ n u. refl))))
     held-reads n false false =
-        or-laid (map-laid (single n) (λ e lo hi i from j. laid-append j i) (around-laid 0xA0 (only-laid (levelAt limit 5) plainly (parameter-reads 5))))
+        or-laid (map-laid (single n) (λ e lo hi i from j. laid-append j i) (around-laid 0xA0 (only-laid (levelAt rules 5) plainly (parameter-reads 5))))
         (map-laid (octets n) (λ c lo hi i from j. laid-append j i) (leaf-laid 0x81 (λ c. true) refl))
 
-    external-reads : BodyReads (externalBody limit) dialogueStrings
+    external-reads : BodyReads (externalBody rules) dialogueStrings
     external-reads =
         map-body-laid (λ v. v .1) (λ v lo hi i. i)
-        (bind-laid (levelAt limit 4) silently {T = Following} {U = strung m (λ v. dialogueStrings (v .1))} plainly (λ v lo hi i. plainly) (λ n d lo mid hi i j. j lo i) name-reads
-        (λ n. only-laid (levelAt limit 4) plainly (held-reads n (same structured (n .1)) (same unstructured (n .1)))))
+        (bind-laid (levelAt rules 4) silently {T = Following} {U = strung m (λ v. dialogueStrings (v .1))} plainly (λ v lo hi i. plainly) (λ n d lo mid hi i j. j lo i) name-reads
+        (λ n. only-laid (levelAt rules 4) plainly (held-reads n (same structured (n .1)) (same unstructured (n .1)))))
 
-    pub inside-reads : BodyReads (onlyBody (inside6B limit) (aroundItem 0x28 (externalBody limit))) dialogueStrings
-    inside-reads = only-laid (inside6B limit) (keeps-dialogue m) (around-laid 0x28 external-reads)
+    pub inside-reads : BodyReads (onlyBody (inside6B rules) (aroundItem 0x28 (externalBody rules))) dialogueStrings
+    inside-reads = only-laid (inside6B rules) (keeps-dialogue m) (around-laid 0x28 external-reads)
 
-    pub dialogue-reads : ItemReads (dialogueItem limit) dialogueStrings
+    pub dialogue-reads : ItemReads (dialogueItem rules) dialogueStrings
     dialogue-reads = around-laid 0x6B inside-reads
 
-    pub sole-rows-reads : BodyReads (onlyBody (levelAt limit 2) (componentsItem limit)) (seriesStrings componentStrings)
-    sole-rows-reads = only-laid (levelAt limit 2) plainly components-reads
+    pub sole-rows-reads : BodyReads (onlyBody (levelAt rules 2) (componentsItem rules)) (seriesStrings componentStrings)
+    sole-rows-reads = only-laid (levelAt rules 2) plainly components-reads
 
-    pub last-rows-reads : BodyReads (lastBody (levelAt limit 2) (componentsItem limit)) (optionStrings (seriesStrings componentStrings))
-    last-rows-reads = last-reads (leftAt limit 2) components-reads
+    pub last-rows-reads : BodyReads (lastBody (levelAt rules 2) (componentsItem rules)) (optionStrings (seriesStrings componentStrings))
+    last-rows-reads = last-reads (leftAt rules 2) components-reads
 
-    tail-reads : BodyReads (tailBody limit) (λ v. restStrings (v .0) (v .1))
+    tail-reads : BodyReads (tailBody rules) (λ v. restStrings (v .0) (v .1))
     tail-reads = opt-reads dialogue-reads (map-body-laid (λ v. Option·getD v []) list-strings last-rows-reads)
 
-    uni-reads : BodyReads (uniBody limit) strings
+    uni-reads : BodyReads (uniBody rules) strings
     uni-reads = map-body-laid (λ v. unidirectional (v .0) (v .1)) (λ v lo hi i. i) (opt-reads dialogue-reads sole-rows-reads)
 
-    begin-reads : BodyReads (beginBody limit) strings
-    begin-reads = map-body-laid (λ v. begin (v .0) (v .1 .0) (v .1 .1)) (λ v lo hi i. i) (bind-reads (leftAt limit 2) carried orig-laws (keeps-carried m) orig-reads tail-reads)
+    begin-reads : BodyReads (beginBody rules) strings
+    begin-reads = map-body-laid (λ v. begin (v .0) (v .1 .0) (v .1 .1)) (λ v lo hi i. i) (bind-reads (leftAt rules 2) carried orig-laws (keeps-carried m) orig-reads tail-reads)
 
-    end-reads : BodyReads (endBody limit) strings
-    end-reads = map-body-laid (λ v. finish (v .0) (v .1 .0) (v .1 .1)) (λ v lo hi i. i) (then-reads (leftAt limit 2) dest-reads tail-reads)
+    end-reads : BodyReads (endBody rules) strings
+    end-reads = map-body-laid (λ v. finish (v .0) (v .1 .0) (v .1 .1)) (λ v lo hi i. i) (then-reads (leftAt rules 2) dest-reads tail-reads)
 
-    continue-reads : BodyReads (continueBody limit) strings
+    continue-reads : BodyReads (continueBody rules) strings
     continue-reads =
         map-body-laid (λ v. continue (v .0) (v .1 .0) (v .1 .1 .0) (v .1 .1 .1)) (λ v lo hi i. i)
-        (bind-reads (leftAt limit 2) carried orig-laws (keeps-carried m) orig-reads (then-reads (leftAt limit 2) dest-reads tail-reads))
+        (bind-reads (leftAt rules 2) carried orig-laws (keeps-carried m) orig-reads (then-reads (leftAt rules 2) dest-reads tail-reads))
 
-    pub stop-reads : ItemReads (orItem (mapItem cause (octetItem 0x4A 4)) (mapItem says (dialogueItem limit))) endingStrings
+    pub stop-reads : ItemReads (orItem (mapItem cause (octetItem 0x4A 4)) (mapItem says (dialogueItem rules))) endingStrings
     unfolding extendedOf
     stop-reads = or-laid (map-laid cause (λ v lo hi i. i) (octet-reads 0x4A 4 refl)) (map-laid says (λ v lo hi i. i) dialogue-reads)
 
-    pub ending-reads : BodyReads (lastBody (levelAt limit 2) (orItem (mapItem cause (octetItem 0x4A 4)) (mapItem says (dialogueItem limit)))) (optionStrings endingStrings)
-    ending-reads = last-reads (leftAt limit 2) stop-reads
+    pub ending-reads : BodyReads (lastBody (levelAt rules 2) (orItem (mapItem cause (octetItem 0x4A 4)) (mapItem says (dialogueItem rules)))) (optionStrings endingStrings)
+    ending-reads = last-reads (leftAt rules 2) stop-reads
 
-    abort-reads : BodyReads (abortBody limit) strings
+    abort-reads : BodyReads (abortBody rules) strings
     abort-reads =
         map-body-laid (λ v. abort (v .0) (Option·getD (v .1) silent)) (λ v lo hi i. ending-strings (v .1) (destStrings (v .0)) lo hi i)
-        (then-reads (leftAt limit 2) dest-reads ending-reads)
+        (then-reads (leftAt rules 2) dest-reads ending-reads)
 
-    message-reads : ItemReads (messageItem limit) strings
+    message-reads : ItemReads (messageItem rules) strings
     message-reads = or-laid (around-laid 0x61 uni-reads) (or-laid (around-laid 0x62 begin-reads) (or-laid (around-laid 0x64 end-reads) (or-laid (around-laid 0x65 continue-reads) (around-laid 0x67 abort-reads))))
 
     -- the message is all there is
@@ -390,7 +390,7 @@ module _ (m : List ℕ) where
     keeps-orig-read (orig s) l lo hi i h (fault k p o n t) q =
         record { place = q .place; owner = q .owner; inner = q .inner; overlong = q .overlong; noMessage = q .noMessage; invokeId = q .invokeId; origId = orig-here m s l lo hi i h }
 
-    keeps-learnt : (v : Message Text) (lo hi : ℕ) → Laid m lo hi (strings v) → WellFormedUpTo limit (forget v) → (f : Fault) → RefusedFor m f → RefusedFor m (learnt v f)
+    keeps-learnt : (v : Message Text) (lo hi : ℕ) → Laid m lo hi (strings v) → WellFormedUpTo rules (forget v) → (f : Fault) → RefusedFor m f → RefusedFor m (learnt v f)
     unfolding WellFormedUpTo
     keeps-learnt (unidirectional d cs) lo hi i h f q = q
     keeps-learnt (begin o d cs) lo hi i h f q = keeps-orig-read o _ lo hi i (h .0) f q
@@ -398,31 +398,31 @@ module _ (m : List ℕ) where
     keeps-learnt (continue o e d cs) lo hi i h f q = keeps-orig-read o _ lo hi i (h .0) f q
     keeps-learnt (abort e s) lo hi i h f q = q
 
-    alone-reads : Ends (λ v n. Laid m 0 (length m) (strings v)) (Refused limit m) (ask (aloneBody limit (messageItem limit)) true 0 m)
+    alone-reads : Ends (λ v n. Laid m 0 (length m) (strings v)) (Refused rules m) (ask (aloneBody rules (messageItem rules)) true 0 m)
     unfolding claim
     alone-reads =
-        ends-ask (aloneBody limit (messageItem limit)) true 0 m (λ v e f. nothing-ends e) (λ k i _. inside-message m (at k 0) (claim m .grows 0 (length m) (at k 0) (omega arith) (claim m .found k 0 i))) (λ _ f q. q) (λ _. no-message m) λ h i f k.
-        ends-next (ends-both (ends-weaken (message-reads .reads 0 m h all-here i k) (λ v n j. j) (λ f q _. inside-message m f (claim m .grows (0 + length m) (length m) f (omega arith) q))) (then-given _ (λ big. message-laws limit big .sound 0 m h i k))) λ v n j.
+        ends-ask (aloneBody rules (messageItem rules)) true 0 m (λ v e f. nothing-ends e) (λ k i _. inside-message m (at k 0) (claim m .grows 0 (length m) (at k 0) (omega arith) (claim m .found k 0 i))) (λ _ f q. q) (λ _. no-message m) λ h i f k.
+        ends-next (ends-both (ends-weaken (message-reads .reads 0 m h all-here i k) (λ v n j. j) (λ f q _. inside-message m f (claim m .grows (0 + length m) (length m) f (omega arith) q))) (then-given _ (λ big. message-laws rules big .sound 0 m h i k))) λ v n j.
         ends-blamed (learnt v) (λ f q big. keeps-learnt v 0 (0 + n) (j .0 .laid) (j .1 big .fine) f (q big))
         (ends-check (eqb n (length m)) _ (λ _ _. after-message m (0 + n) (omega (arith, j .0 .within))) λ _. held {a = v} {n = n} (laid-wider 0 (length m) (omega arith) (omega (arith, j .0 .within)) (j .0 .laid)))
 
-first-reads : (limit : ℕ) (m : List ℕ) → Ends (λ v n. Laid m 0 (length m) (strings v)) (Refused limit m) (readFirst limit (messageItem limit) m)
+first-reads : (rules : Rules) (m : List ℕ) → Ends (λ v n. Laid m 0 (length m) (strings v)) (Refused rules m) (readFirst rules (messageItem rules) m)
 unfolding readFirst claim numberOf
-first-reads limit [] = failed (λ _. inside-message [] (at FaultKind.CutOff 0) (claim [] .found FaultKind.CutOff 0 refl))
-first-reads limit (a ∷ r) = ends-check (messageItem limit .mine a) _ (λ _ _. no-message (a ∷ r)) λ _. alone-reads (a ∷ r) limit
+first-reads rules [] = failed (λ _. inside-message [] (at FaultKind.CutOff 0) (claim [] .found FaultKind.CutOff 0 refl))
+first-reads rules (a ∷ r) = ends-check (messageItem rules .mine a) _ (λ _ _. no-message (a ∷ r)) λ _. alone-reads (a ∷ r) rules
 
-located-reads : (limit : ℕ) (m : List ℕ) → Ends (λ v n. Laid m 0 (length m) (strings v)) (Refused limit m) (locatedUpTo limit m)
+located-reads : (rules : Rules) (m : List ℕ) → Ends (λ v n. Laid m 0 (length m) (strings v)) (Refused rules m) (locatedUpTo rules m)
 unfolding locatedUpTo
-located-reads limit m = ends-check (leb (length m) mostOctets) _ (λ e _. too-long m (omega (arith, leb-false (length m) mostOctets e))) λ _. first-reads limit m
+located-reads rules m = ends-check (leb (length m) mostOctets) _ (λ e _. too-long m (omega (arith, leb-false (length m) mostOctets e))) λ _. first-reads rules m
 
 -- The theorems
 
-pub strings-stand : (limit : ℕ) (m : List ℕ) (v : Message Text) (n : ℕ) → locatedUpTo limit m ≡ got v n → Laid m 0 (length m) (strings v)
-strings-stand limit m v n e = the-held {P = λ v n. Laid m 0 (length m) (strings v)} {n = n} (rw e at (located-reads limit m))
+pub strings-stand : (rules : Rules) (m : List ℕ) (v : Message Text) (n : ℕ) → locatedUpTo rules m ≡ got v n → Laid m 0 (length m) (strings v)
+strings-stand rules m v n e = the-held {P = λ v n. Laid m 0 (length m) (strings v)} {n = n} (rw e at (located-reads rules m))
 
-pub strings-sit : (limit : ℕ) (m : List ℕ) (v : Message Text) (n : ℕ) → locatedUpTo limit m ≡ got v n → Every (Sits m) (strings v)
+pub strings-sit : (rules : Rules) (m : List ℕ) (v : Message Text) (n : ℕ) → locatedUpTo rules m ≡ got v n → Every (Sits m) (strings v)
 unfolding Sits
-strings-sit limit m v n e = laid-each (λ s h. here-within (stands-here s h)) (strings-stand limit m v n e)
+strings-sit rules m v n e = laid-each (λ s h. here-within (stands-here s h)) (strings-stand rules m v n e)
 
-pub fault-placed : (limit : ℕ) → 8 ≤ limit → (m : List ℕ) (f : Fault) → locatedUpTo limit m ≡ bad f → RefusedFor m f
-fault-placed limit big m f e = the-failed {Q = Refused limit m} (rw e at (located-reads limit m)) big
+pub fault-placed : (rules : Rules) → 8 ≤ rules .limit → (m : List ℕ) (f : Fault) → locatedUpTo rules m ≡ bad f → RefusedFor m f
+fault-placed rules big m f e = the-failed {Q = Refused rules m} (rw e at (located-reads rules m)) big

@@ -24,7 +24,7 @@ use Rattle.element.proofs.Insides.{Reads as ItemReads, ItemLaws}
 use Rattle.element.proofs.Shortest.{cap, strictCap, Octets, document01-laws, ⊑-length, shortest-matches, shortest-least, never-longer}
 use Rattle.tcap.specs.declared.{Record.Record, Outcome.Outcome, Reading.Reading}
 use Rattle.tcap.specs.Meaning.{Message, unidirectional, begin, finish, continue, abort, Meaning, messageForm, written}
-use Rattle.tcap.specs.WellFormed.{mostOctets, mostComponents, deepestLevel, WellFormedUpTo, WellFormed, ReadsUpTo, Reads}
+use Rattle.tcap.specs.WellFormed.{Rules, mostOctets, mostComponents, the93, deepestLevel, WellFormedUpTo, WellFormed, ReadsUpTo, Reads}
 use Rattle.tcap.specs.Record.{recordOf, meaningOf, Same}
 use Rattle.tcap.specs.Productions.{messageItem}
 use Rattle.tcap.specs.Reading.{learnt, aloneBody, readFirst, locatedUpTo, refusalOf, answered, readingUpTo, reading}
@@ -49,52 +49,52 @@ check-of : {A : Type 0} {t : Bool} (f : Fault) (x : Got A) → t ≡ true → ch
 unfolding check
 check-of f x e = rw e
 
-module _ (limit : ℕ) (big : 8 ≤ limit) where
-  top : ltb 0 limit ≡ true
-  top = lt-ltb 0 limit (omega arith)
+module _ (rules : Rules) (big : 8 ≤ rules .limit) where
+  top : ltb 0 (rules .limit) ≡ true
+  top = lt-ltb 0 (rules .limit) (omega arith)
 
-  first-read : (m : List ℕ) (h : Head) → HeadOf m h → messageItem limit .mine (firstOf h) ≡ true → readFirst limit (messageItem limit) m ≡ ask (aloneBody limit (messageItem limit)) true 0 m
+  first-read : (m : List ℕ) (h : Head) → HeadOf m h → messageItem rules .mine (firstOf h) ≡ true → readFirst rules (messageItem rules) m ≡ ask (aloneBody rules (messageItem rules)) true 0 m
   unfolding readFirst
   first-read [] h i o = absurd (no-first h i)
   first-read (a ∷ r) h i o = check-of _ _ (rw (← (first-is a r h i)) o)
 
-  pub reads-located : (m : List ℕ) (μ : Meaning) → ReadsUpTo limit m μ → (v : Message Text) × (locatedUpTo limit m ≡ got v (length m)) × (forget v ≡ μ)
+  pub reads-located : (m : List ℕ) (μ : Meaning) → ReadsUpTo rules m μ → (v : Message Text) × (locatedUpTo rules m ≡ got v (length m)) × (forget v ≡ μ)
   unfolding locatedUpTo
   reads-located m μ r =
-      let c : ItemReads (messageItem limit) forget μ 0 m (length m) = rw append-nil at (message-laws limit big .complete μ m [] 0 (r .fine) (r .form)) in (
+      let c : ItemReads (messageItem rules) forget μ 0 m (length m) = rw append-nil at (message-laws rules big .complete μ m [] 0 (r .fine) (r .form)) in (
         c .value,
         check-of _ _ (le-leb (length m) mostOctets (r .short))
             ∙ first-read m (c .lead) (c .heads) (c .mine)
-            ∙ ask-head (aloneBody limit (messageItem limit)) true 0 m (c .lead) (c .heads) refl top (c .mine)
+            ∙ ask-head (aloneBody rules (messageItem rules)) true 0 m (c .lead) (c .heads) refl top (c .mine)
             ∙ next-of _ (c .reads)
             ∙ blamed-of (learnt (c .value)) (check-of _ _ (eq-eqb (length m) (length m) refl)),
         c .means,
       )
 
   abbrev Says : List ℕ → Message Text → ℕ → Type 0
-  Says m v n = WellFormedUpTo limit (forget v) × Matches document01 (messageForm (forget v)) m
+  Says m v n = WellFormedUpTo rules (forget v) × Matches document01 (messageForm (forget v)) m
 
-  alone-sound : (m : List ℕ) → Then (Says m) (ask (aloneBody limit (messageItem limit)) true 0 m)
+  alone-sound : (m : List ℕ) → Then (Says m) (ask (aloneBody rules (messageItem rules)) true 0 m)
   alone-sound m =
-      ask-sound _ (aloneBody limit (messageItem limit)) true 0 m (λ v e f. let z : _≡_ {A = ℕ} 0 1 = cc in absurd (omega arith)) λ h i o.
-      then-next (message-laws limit big .sound 0 m h i o) λ v n t. then-blamed (learnt v) (then-check (eqb n (length m)) (at FaultKind.OctetsAfter (0 + n)) λ w.
+      ask-sound _ (aloneBody rules (messageItem rules)) true 0 m (λ v e f. let z : _≡_ {A = ℕ} 0 1 = cc in absurd (omega arith)) λ h i o.
+      then-next (message-laws rules big .sound 0 m h i o) λ v n t. then-blamed (learnt v) (then-check (eqb n (length m)) (at FaultKind.OctetsAfter (0 + n)) λ w.
       fact {a = v} {n = n} (t .fine, rw (take-all n m (omega (arith, eqb-true n (length m) w))) at (t .matches)))
 
-  first-sound : (m : List ℕ) → Then (Says m) (readFirst limit (messageItem limit) m)
+  first-sound : (m : List ℕ) → Then (Says m) (readFirst rules (messageItem rules) m)
   unfolding readFirst
   first-sound [] = void
-  first-sound (a ∷ r) = then-check (messageItem limit .mine a) (at FaultKind.NoMessage 0) λ e. alone-sound (a ∷ r)
+  first-sound (a ∷ r) = then-check (messageItem rules .mine a) (at FaultKind.NoMessage 0) λ e. alone-sound (a ∷ r)
 
-  located-sound : (m : List ℕ) → Then (λ v n. ReadsUpTo limit m (forget v)) (locatedUpTo limit m)
+  located-sound : (m : List ℕ) → Then (λ v n. ReadsUpTo rules m (forget v)) (locatedUpTo rules m)
   unfolding locatedUpTo
   located-sound m = then-check (leb (length m) mostOctets) (at FaultKind.Overlong mostOctets) λ e. weak (leb-true (length m) mostOctets e) (first-sound m)
     where
-      weak : length m ≤ mostOctets → {x : Got (Message Text)} → Then (Says m) x → Then (λ v n. ReadsUpTo limit m (forget v)) x
+      weak : length m ≤ mostOctets → {x : Got (Message Text)} → Then (Says m) x → Then (λ v n. ReadsUpTo rules m (forget v)) x
       weak k (fact {a = v} {n = n} h) = fact {a = v} {n = n} (record { short = k; fine = h .0; form = h .1 })
       weak k void = void
 
-  pub located-reads : (m : List ℕ) (v : Message Text) (n : ℕ) → locatedUpTo limit m ≡ got v n → ReadsUpTo limit m (forget v)
-  located-reads m v n e = the-fact {P = λ v n. ReadsUpTo limit m (forget v)} {n = n} (rw e at (located-sound m))
+  pub located-reads : (m : List ℕ) (v : Message Text) (n : ℕ) → locatedUpTo rules m ≡ got v n → ReadsUpTo rules m (forget v)
+  located-reads m v n e = the-fact {P = λ v n. ReadsUpTo rules m (forget v)} {n = n} (rw e at (located-sound m))
 
 -- The record of what was read means it
 
@@ -105,33 +105,33 @@ count-kept (finish e d cs) = sym (length-map cs (componentAs octetsOf))
 count-kept (continue o e d cs) = sym (length-map cs (componentAs octetsOf))
 count-kept (abort e s) = refl
 
-few-components : (limit : ℕ) (μ : Meaning) → WellFormedUpTo limit μ → length (components μ) ≤ mostComponents
+few-components : (rules : Rules) (μ : Meaning) → WellFormedUpTo rules μ → length (components μ) ≤ mostComponents
 unfolding WellFormedUpTo
-few-components limit (unidirectional d cs) o = o .2 .0
-few-components limit (begin i d cs) o = o .2 .0
-few-components limit (finish i d cs) o = o .2 .0
-few-components limit (continue i j d cs) o = o .3 .0
-few-components limit (abort e s) o = omega arith
+few-components rules (unidirectional d cs) o = o .2 .0
+few-components rules (begin i d cs) o = o .2 .0
+few-components rules (finish i d cs) o = o .2 .0
+few-components rules (continue i j d cs) o = o .3 .0
+few-components rules (abort e s) o = omega arith
 
-module _ (limit : ℕ) (big : 8 ≤ limit) where
-  read-means : (m : List ℕ) (v : Message Text) (n : ℕ) → locatedUpTo limit m ≡ got v n → meaningOf (recordOf v) m ≡ some (forget v)
-  read-means m v n e = record-means m v (omega (arith, count-kept v, few-components limit (forget v) (located-reads limit big m v n e .fine))) (strings-sit limit m v n e)
+module _ (rules : Rules) (big : 8 ≤ rules .limit) where
+  read-means : (m : List ℕ) (v : Message Text) (n : ℕ) → locatedUpTo rules m ≡ got v n → meaningOf (recordOf v) m ≡ some (forget v)
+  read-means m v n e = record-means m v (omega (arith, count-kept v, few-components rules (forget v) (located-reads rules big m v n e .fine))) (strings-sit rules m v n e)
 
   -- demand 2: reading accepts m, with a record of meaning μ over m, exactly if m reads as μ
-  pub reads-accepted-up-to : (m : List ℕ) (μ : Meaning) → ReadsUpTo limit m μ → (readingUpTo limit m .outcome ≡ Outcome.Accepted) × (meaningOf (readingUpTo limit m .message) m ≡ some μ)
+  pub reads-accepted-up-to : (m : List ℕ) (μ : Meaning) → ReadsUpTo rules m μ → (readingUpTo rules m .outcome ≡ Outcome.Accepted) × (meaningOf (readingUpTo rules m .message) m ≡ some μ)
   unfolding readingUpTo answered
   reads-accepted-up-to m μ r =
-      let a = reads-located limit big m μ r in
+      let a = reads-located rules big m μ r in
       rw (a .1) (refl, read-means m (a .0) (length m) (a .1) ∙ ap (λ (ν : Meaning). some ν) (a .2))
 
-  by-outcome : (m : List ℕ) (x : Got (Message Text)) → locatedUpTo limit m ≡ x → answered x .outcome ≡ Outcome.Accepted → (μ : Meaning) × (meaningOf (answered x .message) m ≡ some μ) × ReadsUpTo limit m μ
+  by-outcome : (m : List ℕ) (x : Got (Message Text)) → locatedUpTo rules m ≡ x → answered x .outcome ≡ Outcome.Accepted → (μ : Meaning) × (meaningOf (answered x .message) m ≡ some μ) × ReadsUpTo rules m μ
   unfolding answered
-  by-outcome m (got v n) e h = (forget v, read-means m v n e, located-reads limit big m v n e)
+  by-outcome m (got v n) e h = (forget v, read-means m v n e, located-reads rules big m v n e)
   by-outcome m (bad f) e h = let z : _≡_ {A = ℕ} 0 1 = cc in absurd (omega arith)
 
-  pub accepted-reads-up-to : (m : List ℕ) → readingUpTo limit m .outcome ≡ Outcome.Accepted → (μ : Meaning) × (meaningOf (readingUpTo limit m .message) m ≡ some μ) × ReadsUpTo limit m μ
+  pub accepted-reads-up-to : (m : List ℕ) → readingUpTo rules m .outcome ≡ Outcome.Accepted → (μ : Meaning) × (meaningOf (readingUpTo rules m .message) m ≡ some μ) × ReadsUpTo rules m μ
   unfolding readingUpTo
-  accepted-reads-up-to m h = by-outcome m (locatedUpTo limit m) refl h
+  accepted-reads-up-to m h = by-outcome m (locatedUpTo rules m) refl h
 
 -- with document 01's 16 levels
 enough : 8 ≤ deepestLevel
@@ -139,11 +139,11 @@ enough = omega arith
 
 pub reads-accepted : (m : List ℕ) (μ : Meaning) → Reads m μ → (reading m .outcome ≡ Outcome.Accepted) × (meaningOf (reading m .message) m ≡ some μ)
 unfolding reading
-reads-accepted m μ r = reads-accepted-up-to deepestLevel enough m μ r
+reads-accepted m μ r = reads-accepted-up-to the93 enough m μ r
 
 pub accepted-reads : (m : List ℕ) → reading m .outcome ≡ Outcome.Accepted → (μ : Meaning) × (meaningOf (reading m .message) m ≡ some μ) × Reads m μ
 unfolding reading
-accepted-reads m h = accepted-reads-up-to deepestLevel enough m h
+accepted-reads m h = accepted-reads-up-to the93 enough m h
 
 -- no second meaning
 pub one-meaning : (m : List ℕ) (μ ν : Meaning) → Reads m μ → Reads m ν → μ ≡ ν

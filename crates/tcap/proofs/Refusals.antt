@@ -16,7 +16,7 @@ use Rattle.element.specs.Ask.{Got, got, bad}
 use Rattle.element.proofs.Laid.{StandsAt}
 use Rattle.tcap.specs.declared.{OptionalOrig.OptionalOrig, InvokeId.InvokeId, Answer.Answer, Ground.Ground, Refusal.Refusal, Outcome.Outcome}
 use Rattle.tcap.specs.Meaning.{Message, orig}
-use Rattle.tcap.specs.WellFormed.{mostOctets, deepestLevel, idOk, InvokeIdOk}
+use Rattle.tcap.specs.WellFormed.{mostOctets, the93, idOk, InvokeIdOk}
 use Rattle.tcap.specs.Record.{origField, blankRecord}
 use Rattle.tcap.specs.Reading.{locatedUpTo, groundOf, byOwner, answerFor, refusalOf, answered, readingUpTo, reading}
 use Rattle.tcap.proofs.Places.{OrigHere, RefusedFor, fault-placed}
@@ -96,12 +96,12 @@ carries m (fault k p o i t) q =
 refusal-inj : (f g : Refusal) → Outcome.Refused f ≡ Outcome.Refused g → f ≡ g
 refusal-inj f g e = cc
 
-refused-by : (m : List ℕ) (x : Got (Message Text)) → locatedUpTo deepestLevel m ≡ x → (f : Refusal) → answered x .outcome ≡ Outcome.Refused f → Carries m f × (answered x .message ≡ blankRecord)
+refused-by : (m : List ℕ) (x : Got (Message Text)) → locatedUpTo the93 m ≡ x → (f : Refusal) → answered x .outcome ≡ Outcome.Refused f → Carries m f × (answered x .message ≡ blankRecord)
 unfolding answered
 refused-by m (got v n) e f h = let z : _≡_ {A = ℕ} 0 1 = cc in absurd (omega arith)
-refused-by m (bad g) e f h = (rw (refusal-inj (refusalOf g) f h) at (carries m g (fault-placed deepestLevel (omega arith) m g e)), refl)
+refused-by m (bad g) e f h = (rw (refusal-inj (refusalOf g) f h) at (carries m g (fault-placed the93 (omega arith) m g e)), refl)
 
 -- and it hands back no components
 pub refused-carries : (m : List ℕ) (f : Refusal) → reading m .outcome ≡ Outcome.Refused f → Carries m f × (reading m .message ≡ blankRecord)
 unfolding reading readingUpTo
-refused-carries m f h = refused-by m (locatedUpTo deepestLevel m) refl f h
+refused-carries m f h = refused-by m (locatedUpTo the93 m) refl f h

@@ -8,6 +8,7 @@ use native.Mathlib.Omega.{arith}
 use Rattle.element.specs.declared.FaultKind.{FaultKind}
 use Rattle.tcap.specs.Due.{Parts, due}
 use Rattle.tcap.specs.Refused.{LengthWrong, gone, cut, reserved, endless, wasteful, passing, passingLong, Tagged, Unfit, unknown, another, tooMany, Faulty, tagCut, tagBad, zeroCode, tooDeep, unfit, lengthWrong, badContents}
+use Rattle.tcap.specs.WellFormed.{Rules}
 
 -- missing, and the three kinds of such an element, apart from all others
 unfoldable pub rank : FaultKind → ℕ
@@ -44,15 +45,15 @@ unfit-rank (another e f) = omega arith
 unfit-rank (tooMany e) = omega arith
 
 -- the element that an unfit kind speaks of
-pub record StrangeIn (limit l : ℕ) (r : Parts) (part : List ℕ) (k : FaultKind) : Type 0 where
+pub record StrangeIn (rules : Rules) (l : ℕ) (r : Parts) (part : List ℕ) (k : FaultKind) : Type 0 where
   pub tag : ℕ
   pub behind : List ℕ
   pub sound : Tagged part tag behind
-  pub deep : l ≤ limit
+  pub deep : l ≤ rules .limit
   pub strange : due r tag ≡ none
   pub kind : Unfit r k
 
-pub faulty-strange : {limit l : ℕ} {r : Parts} {part : List ℕ} {k : FaultKind} → Faulty limit l r part k → 1 ≤ rank k → StrangeIn limit l r part k
+pub faulty-strange : {rules : Rules} {l : ℕ} {r : Parts} {part : List ℕ} {k : FaultKind} → Faulty rules l r part k → 1 ≤ rank k → StrangeIn rules l r part k
 unfolding rank
 faulty-strange (tagCut w) h = absurd (omega arith)
 faulty-strange (tagBad w) h = absurd (omega arith)

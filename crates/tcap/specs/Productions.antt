@@ -6,7 +6,7 @@ use lib.{ListN.getD, Dec.leb, IntN.ℤ}
 use Rattle.base.specs.{Value.same}
 use Rattle.primitive.specs.{Primitive.identifierOk, Primitive.mostIntegerOctets}
 use Rattle.element.specs.{declared.FaultKind.FaultKind, Fault.Text, Fault.Fault, Fault.inDialogue, Fault.inComponent, Fault.withInvokeId, Fault.withOrigId, Ask.Body, Parts.Item, Parts.Where, Parts.level, Parts.leafItem, Parts.integerItem, Parts.aroundItem, Parts.keptItem, Parts.mapItem, Parts.orItem, Parts.bindBody, Parts.thenBody, Parts.silently, Parts.onlyBody, Parts.lastBody, Parts.optBody, Parts.mapBody, Parts.seriesBody, Walk.walkItem, Walk.walkTagItem}
-use Rattle.tcap.specs.{declared.Problem.Problem, declared.Diagnostic.Diagnostic, Meaning.Originating, Meaning.orig, Meaning.Destination, Meaning.dest, Meaning.Code, Meaning.local, Meaning.global, Meaning.Component, Meaning.invoke, Meaning.last, Meaning.notLast, Meaning.error, Meaning.reject, Meaning.Dialogue, Meaning.request, Meaning.unidialogue, Meaning.response, Meaning.aborted, Meaning.single, Meaning.octets, Meaning.Ending, Meaning.silent, Meaning.cause, Meaning.says, Meaning.Message, Meaning.unidirectional, Meaning.begin, Meaning.finish, Meaning.continue, Meaning.abort, Meaning.structured, Meaning.unstructured, Meaning.version, WellFormed.mostComponents, WellFormed.leftAt, WellFormed.idOk}
+use Rattle.tcap.specs.{declared.Problem.Problem, declared.Diagnostic.Diagnostic, Meaning.Originating, Meaning.orig, Meaning.Destination, Meaning.dest, Meaning.Code, Meaning.local, Meaning.global, Meaning.Component, Meaning.invoke, Meaning.last, Meaning.notLast, Meaning.error, Meaning.reject, Meaning.Dialogue, Meaning.request, Meaning.unidialogue, Meaning.response, Meaning.aborted, Meaning.single, Meaning.octets, Meaning.Ending, Meaning.silent, Meaning.cause, Meaning.says, Meaning.Message, Meaning.unidirectional, Meaning.begin, Meaning.finish, Meaning.continue, Meaning.abort, Meaning.structured, Meaning.unstructured, Meaning.version, WellFormed.Rules, WellFormed.mostComponents, WellFormed.leftAt, WellFormed.idOk}
 
 -- Fields
 
@@ -53,13 +53,13 @@ noted i = withInvokeId (some i)
 abbrev pub versionBody : {A : Type 0} → Body A → Body A
 versionBody b = mapBody (λ v. v .1) (optBody (leafItem 0x80 (same version)) b)
 
-module _ (limit : ℕ) where
+module _ (rules : Rules) where
   abbrev pub levelAt : ℕ → Where
-  levelAt n = level (leftAt limit n)
+  levelAt n = level (leftAt rules n)
 
   -- exactly one element
   abbrev pub parameterItem : ℕ → Item Text
-  parameterItem n = walkItem (leftAt limit n)
+  parameterItem n = walkItem (leftAt rules n)
 
   -- Components: their fields stand at level 4
 
@@ -91,7 +91,7 @@ module _ (limit : ℕ) where
 
   -- one or more, at most 16; an element at a component's position belongs to that component
   abbrev pub componentAt : ℕ → Where
-  componentAt k = record { left = leftAt limit 3; owner = inComponent k }
+  componentAt k = record { left = leftAt rules 3; owner = inComponent k }
 
   abbrev pub componentsItem : Item (List (Component Text))
   componentsItem = aroundItem 0x6C (seriesBody componentAt FaultKind.UnknownComponent componentItem none mostComponents 0)
@@ -100,7 +100,7 @@ module _ (limit : ℕ) where
 
   -- BE holds zero or more elements, each 28
   abbrev pub infoBody : Body (Option Text)
-  infoBody = lastBody (levelAt 6) (keptItem 0xBE (λ n. seriesBody (λ k. levelAt 7) FaultKind.Another (walkTagItem 0x28 (leftAt limit 7)) (some []) n 0))
+  infoBody = lastBody (levelAt 6) (keptItem 0xBE (λ n. seriesBody (λ k. levelAt 7) FaultKind.Another (walkTagItem 0x28 (leftAt rules 7)) (some []) n 0))
 
   abbrev pub contextItem : Item Text
   contextItem = aroundItem 0xA1 (onlyBody (levelAt 7) nameItem)
@@ -136,7 +136,7 @@ module _ (limit : ℕ) where
 
   -- what stands in 6B is inside its contents; a missing end pair of 6B itself is not
   abbrev pub inside6B : Where
-  inside6B = record { left = leftAt limit 3; owner = inDialogue }
+  inside6B = record { left = leftAt rules 3; owner = inDialogue }
 
   abbrev pub dialogueItem : Item (Dialogue Text)
   dialogueItem = aroundItem 0x6B (onlyBody inside6B (aroundItem 0x28 externalBody))

@@ -4,7 +4,7 @@ use Prim.Native.Nat.{ℕ, _+_}
 use mathlib.Core.{Bool.true, List.List, List.[], List._∷_, Option.Option, Option.none, Option.Option·map, Option.Option·getD}
 use lib.{ListN.length, Dec.leb, Dec.eqb, IntN.ℤ}
 use Rattle.element.specs.{Fault.Text, Fault.Owner, Fault.portion, Fault.dialogue, Fault.component, Fault.Fault, Fault.fault, Fault.at, Ask.Got, Ask.got, Ask.bad, Ask.next, Ask.check, Ask.blamed, Ask.Body, Ask.ask, Parts.Item, Parts.level, Parts.place, declared.FaultKind.FaultKind}
-use Rattle.tcap.specs.{declared.Answer.Answer, declared.Ground.Ground, declared.OptionalOrig.OptionalOrig, declared.Refusal.Refusal, declared.Outcome.Outcome, declared.Reading.Reading, Meaning.orig, Meaning.Message, Meaning.unidirectional, Meaning.begin, Meaning.finish, Meaning.continue, Meaning.abort, WellFormed.mostOctets, WellFormed.deepestLevel, Productions.carried, Productions.messageItem, Record.origField, Record.idField, Record.recordOf, Record.blankRecord}
+use Rattle.tcap.specs.{declared.Answer.Answer, declared.Ground.Ground, declared.OptionalOrig.OptionalOrig, declared.Refusal.Refusal, declared.Outcome.Outcome, declared.Reading.Reading, Meaning.orig, Meaning.Message, Meaning.unidirectional, Meaning.begin, Meaning.finish, Meaning.continue, Meaning.abort, WellFormed.Rules, WellFormed.mostOctets, WellFormed.the93, Productions.carried, Productions.messageItem, Record.origField, Record.idField, Record.recordOf, Record.blankRecord}
 
 abbrev pub learnt : Message Text → Fault → Fault
 learnt (unidirectional d cs) = λ f. f
@@ -14,19 +14,19 @@ learnt (continue o e d cs) = carried o
 learnt (abort e s) = λ f. f
 
 -- the message is all there is
-abbrev pub aloneBody : ℕ → Item (Message Text) → Body (Message Text)
-aloneBody limit x =
-    place (level limit) none (x .mine) FaultKind.NoMessage
+abbrev pub aloneBody : Rules → Item (Message Text) → Body (Message Text)
+aloneBody rules x =
+    place (level (rules .limit)) none (x .mine) FaultKind.NoMessage
     (λ d h p part. next (x .contents h p part) (λ v n. blamed (learnt v) (check (eqb n (length part)) (at FaultKind.OctetsAfter (p + n)) (got v n))))
 
 -- 8 goes by the first octet alone, before tag and level; `aloneBody` asks for the same tags, so its own 8 never answers
-unfoldable pub readFirst : ℕ → Item (Message Text) → List ℕ → Got (Message Text)
-readFirst limit x [] = bad (at FaultKind.CutOff 0)
-readFirst limit x (a ∷ r) = check (x .mine a) (at FaultKind.NoMessage 0) (ask (aloneBody limit x) true 0 (a ∷ r))
+unfoldable pub readFirst : Rules → Item (Message Text) → List ℕ → Got (Message Text)
+readFirst rules x [] = bad (at FaultKind.CutOff 0)
+readFirst rules x (a ∷ r) = check (x .mine a) (at FaultKind.NoMessage 0) (ask (aloneBody rules x) true 0 (a ∷ r))
 
 -- the message with its places, or the first fault
-unfoldable pub locatedUpTo : ℕ → List ℕ → Got (Message Text)
-locatedUpTo limit m = check (leb (length m) mostOctets) (at FaultKind.Overlong mostOctets) (readFirst limit (messageItem limit) m)
+unfoldable pub locatedUpTo : Rules → List ℕ → Got (Message Text)
+locatedUpTo rules m = check (leb (length m) mostOctets) (at FaultKind.Overlong mostOctets) (readFirst rules (messageItem rules) m)
 
 -- The standard answer, by the ground of the refusal and the owner
 
@@ -68,8 +68,8 @@ unfoldable pub answered : Got (Message Text) → Reading
 answered (got v n) = record { outcome = Outcome.Accepted; message = recordOf v }
 answered (bad f) = record { outcome = Outcome.Refused (refusalOf f); message = blankRecord }
 
-unfoldable pub readingUpTo : ℕ → List ℕ → Reading
-readingUpTo limit m = answered (locatedUpTo limit m)
+unfoldable pub readingUpTo : Rules → List ℕ → Reading
+readingUpTo rules m = answered (locatedUpTo rules m)
 
 unfoldable pub reading : List ℕ → Reading
-reading m = readingUpTo deepestLevel m
+reading m = readingUpTo the93 m

@@ -7,6 +7,7 @@ use Rattle.base.specs.{Number.numberFrom}
 use Rattle.primitive.specs.{Primitive.signedOf}
 use Rattle.element.specs.{Form.fewestOf, Element.IsTag, Element.constructorOf, Element.codeZero, Element.extendedOf, Element.Definitely, Element.Endlessly, Fault.Text, Fault.Owner, Fault.portion, Fault.dialogue as theDialogue, Fault.component as theComponent, Fault.Fault, Fault.fault, Fault.numberOf, Head.endOf, declared.FaultKind.FaultKind, declared.EndRead.EndRead}
 use Rattle.tcap.specs.{declared.OptionalOrig.OptionalOrig, declared.Refusal.Refusal, Meaning.orig, Record.origField, Standard.Standard, Due.Parts, Due.end, Due.must, Due.Holds, Due.octets, Due.origId, Due.invokeId, Due.parts, Due.dialogue, Due.message, Due.find, Due.due, Due.behind, Due.mayEnd, Due.someMay, Due.position, Due.passes, Due.contentsOf}
+use Rattle.tcap.specs.WellFormed.{Rules, the93}
 
 -- Octets that are right
 
@@ -17,20 +18,20 @@ Room r = position r ≡ some 16 → ⊥
 mutual
   -- n octets at the front of a part, which begins at place p, are an element at level l, with first octet a, that holds h, to its bottom; then the
   -- place of its contents, and these (of an indefinite one, from there to the end of the part)
-  pub data Right (limit : ℕ) : ℕ → ℕ → Holds → ℕ → List ℕ → ℕ → Text → Type 0 where
+  pub data Right (rules : Rules) : ℕ → ℕ → Holds → ℕ → List ℕ → ℕ → Text → Type 0 where
     -- tag, length and contents, of which is asked what a primitive here is asked
-    primitive : {l a p u n : ℕ} {h : Holds} {part : List ℕ} → l ≤ limit → Definitely part a u n → contentsOf h ≡ none → passes h (take n (drop u part)) ≡ true → Right limit l a h p part (u + n) (p + u, take n (drop u part))
+    primitive : {l a p u n : ℕ} {h : Holds} {part : List ℕ} → l ≤ rules .limit → Definitely part a u n → contentsOf h ≡ none → passes h (take n (drop u part)) ≡ true → Right rules l a h p part (u + n) (p + u, take n (drop u part))
     -- tag, length and contents, in which is what is due
-    definite : {l a p u n k : ℕ} {h : Holds} {r : Parts} {part : List ℕ} → l ≤ limit → Definitely part a u n → contentsOf h ≡ some r → Fits limit (suc l) r true (p + u) (take n (drop u part)) k → Right limit l a h p part (u + n) (p + u, take n (drop u part))
+    definite : {l a p u n k : ℕ} {h : Holds} {r : Parts} {part : List ℕ} → l ≤ rules .limit → Definitely part a u n → contentsOf h ≡ some r → Fits rules (suc l) r true (p + u) (take n (drop u part)) k → Right rules l a h p part (u + n) (p + u, take n (drop u part))
     -- tag, 80, contents in which is what is due, and the end pair
-    indefinite : {l a p u k : ℕ} {h : Holds} {r : Parts} {part : List ℕ} → l ≤ limit → Endlessly part a u → contentsOf h ≡ some r → Fits limit (suc l) r false (p + u) (drop u part) k → Right limit l a h p part (u + (k + 2)) (p + u, drop u part)
+    indefinite : {l a p u k : ℕ} {h : Holds} {r : Parts} {part : List ℕ} → l ≤ rules .limit → Endlessly part a u → contentsOf h ≡ some r → Fits rules (suc l) r false (p + u) (drop u part) k → Right rules l a h p part (u + (k + 2)) (p + u, drop u part)
 
   -- k octets at the front of a part are what is due in contents at level l, up to their end; d: the contents are definite
-  pub data Fits (limit : ℕ) : ℕ → Parts → Bool → ℕ → List ℕ → ℕ → Type 0 where
+  pub data Fits (rules : Rules) : ℕ → Parts → Bool → ℕ → List ℕ → ℕ → Type 0 where
     -- they end here, and may
-    nothing : {l p : ℕ} {r : Parts} {d : Bool} {part : List ℕ} → endOf d part ≡ EndRead.Ended → mayEnd r ≡ true → Fits limit l r d p part 0
+    nothing : {l p : ℕ} {r : Parts} {d : Bool} {part : List ℕ} → endOf d part ≡ EndRead.Ended → mayEnd r ≡ true → Fits rules l r d p part 0
     -- an element that may stand here and is right, and then the rest
-    also : {l a p n k : ℕ} {r : Parts} {h : Holds} {d : Bool} {part : List ℕ} {x : Text} → Room r → due r a ≡ some h → Right limit l a h p part n x → Fits limit l (behind r a (x .1)) d (p + n) (drop n part) k → Fits limit l r d p part (n + k)
+    also : {l a p n k : ℕ} {r : Parts} {h : Holds} {d : Bool} {part : List ℕ} {x : Text} → Room r → due r a ≡ some h → Right rules l a h p part n x → Fits rules l (behind r a (x .1)) d (p + n) (drop n part) k → Fits rules l r d p part (n + k)
 
 -- Where a place is
 
@@ -62,17 +63,17 @@ told (dialogue r) x s = s
 
 -- the place p of m: its level, whether the contents it is in are definite, what is still to come in them, what is known, and the octets from there
 -- to the end of these contents (of indefinite ones: to the end of the nearest definite contents around them)
-pub data Trail (limit : ℕ) (m : List ℕ) : ℕ → Bool → Parts → Known → ℕ → List ℕ → Type 0 where
+pub data Trail (rules : Rules) (m : List ℕ) : ℕ → Bool → Parts → Known → ℕ → List ℕ → Type 0 where
   -- the message is level 1
-  top : Trail limit m 1 true (must message end) (known portion portion none none) 0 m
+  top : Trail rules m 1 true (must message end) (known portion portion none none) 0 m
   -- into the contents of an element that may stand here
-  into : {l a u n p : ℕ} {d : Bool} {r q : Parts} {h : Holds} {c o : Owner} {i : Option ℤ} {t : Option Text} {part : List ℕ} → Trail limit m l d r (known c o i t) p part → l ≤ limit → Room r → due r a ≡ some h → contentsOf h ≡ some q → Definitely part a u n
-      → Trail limit m (suc l) true q (known (whose (position r) o) (inside h (whose (position r) o)) i t) (p + u) (take n (drop u part))
-  intoEndless : {l a u p : ℕ} {d : Bool} {r q : Parts} {h : Holds} {c o : Owner} {i : Option ℤ} {t : Option Text} {part : List ℕ} → Trail limit m l d r (known c o i t) p part → l ≤ limit → Room r → due r a ≡ some h → contentsOf h ≡ some q → Endlessly part a u
-      → Trail limit m (suc l) false q (known (whose (position r) o) (inside h (whose (position r) o)) i t) (p + u) (drop u part)
+  into : {l a u n p : ℕ} {d : Bool} {r q : Parts} {h : Holds} {c o : Owner} {i : Option ℤ} {t : Option Text} {part : List ℕ} → Trail rules m l d r (known c o i t) p part → l ≤ rules .limit → Room r → due r a ≡ some h → contentsOf h ≡ some q → Definitely part a u n
+      → Trail rules m (suc l) true q (known (whose (position r) o) (inside h (whose (position r) o)) i t) (p + u) (take n (drop u part))
+  intoEndless : {l a u p : ℕ} {d : Bool} {r q : Parts} {h : Holds} {c o : Owner} {i : Option ℤ} {t : Option Text} {part : List ℕ} → Trail rules m l d r (known c o i t) p part → l ≤ rules .limit → Room r → due r a ≡ some h → contentsOf h ≡ some q → Endlessly part a u
+      → Trail rules m (suc l) false q (known (whose (position r) o) (inside h (whose (position r) o)) i t) (p + u) (drop u part)
   -- past an element that may stand here and is right; past the message is no place
-  past : {l a p n : ℕ} {d : Bool} {r : Parts} {h : Holds} {s : Known} {part : List ℕ} {x : Text} → Trail limit m l d r s p part → 2 ≤ l → Room r → due r a ≡ some h → Right limit l a h p part n x
-      → Trail limit m l d (behind r a (x .1)) (told h x s) (p + n) (drop n part)
+  past : {l a p n : ℕ} {d : Bool} {r : Parts} {h : Holds} {s : Known} {part : List ℕ} {x : Text} → Trail rules m l d r s p part → 2 ≤ l → Room r → due r a ≡ some h → Right rules l a h p part n x
+      → Trail rules m l d (behind r a (x .1)) (told h x s) (p + n) (drop n part)
 
 -- What is wrong with the octets at a place
 
@@ -116,59 +117,59 @@ pub data Unfit (r : Parts) : FaultKind → Type 0 where
   tooMany : someMay r ≡ false → Unfit r FaultKind.TooMany
 
 -- an element that stands at level l where r is to come, in the order of document 01
-pub data Faulty (limit l : ℕ) (r : Parts) (part : List ℕ) : FaultKind → Type 0 where
+pub data Faulty (rules : Rules) (l : ℕ) (r : Parts) (part : List ℕ) : FaultKind → Type 0 where
   -- the tag (1, 2)
-  tagCut : TagCut part → Faulty limit l r part FaultKind.CutOff
-  tagBad : TagBad part → Faulty limit l r part FaultKind.BadTag
+  tagCut : TagCut part → Faulty rules l r part FaultKind.CutOff
+  tagBad : TagBad part → Faulty rules l r part FaultKind.BadTag
   -- code 0 (6)
-  zeroCode : {a : ℕ} {q : List ℕ} → part ≡ a ∷ q → codeZero a ≡ true → Faulty limit l r part FaultKind.CodeZero
+  zeroCode : {a : ℕ} {q : List ℕ} → part ≡ a ∷ q → codeZero a ≡ true → Faulty rules l r part FaultKind.CodeZero
   -- the level (5)
-  tooDeep : {a : ℕ} {q : List ℕ} → Tagged part a q → limit < l → Faulty limit l r part FaultKind.TooDeep
+  tooDeep : {a : ℕ} {q : List ℕ} → Tagged part a q → rules .limit < l → Faulty rules l r part FaultKind.TooDeep
   -- the expected tag (13, 15, 16)
-  unfit : {a : ℕ} {q : List ℕ} {k : FaultKind} → Tagged part a q → l ≤ limit → due r a ≡ none → Unfit r k → Faulty limit l r part k
+  unfit : {a : ℕ} {q : List ℕ} {k : FaultKind} → Tagged part a q → l ≤ rules .limit → due r a ≡ none → Unfit r k → Faulty rules l r part k
   -- the length (1, 3, 4)
-  lengthWrong : {a : ℕ} {q : List ℕ} {h : Holds} {k : FaultKind} → Tagged part a q → l ≤ limit → due r a ≡ some h → LengthWrong (constructorOf a) q k → Faulty limit l r part k
+  lengthWrong : {a : ℕ} {q : List ℕ} {h : Holds} {k : FaultKind} → Tagged part a q → l ≤ rules .limit → due r a ≡ some h → LengthWrong (constructorOf a) q k → Faulty rules l r part k
   -- the contents (11)
-  badContents : {a u n : ℕ} {h : Holds} → l ≤ limit → due r a ≡ some h → Definitely part a u n → contentsOf h ≡ none → passes h (take n (drop u part)) ≡ false → Faulty limit l r part FaultKind.BadContents
+  badContents : {a u n : ℕ} {h : Holds} → l ≤ rules .limit → due r a ≡ some h → Definitely part a u n → contentsOf h ≡ none → passes h (take n (drop u part)) ≡ false → Faulty rules l r part FaultKind.BadContents
 
 -- at a place in contents of c, where an element belongs to o: a fault's kind, and whom it belongs to
-pub data Wrong (limit l : ℕ) (d : Bool) (r : Parts) (part : List ℕ) (c o : Owner) : FaultKind → Owner → Type 0 where
+pub data Wrong (rules : Rules) (l : ℕ) (d : Bool) (r : Parts) (part : List ℕ) (c o : Owner) : FaultKind → Owner → Type 0 where
   -- the end of the contents: a missing end pair (1), something missing (14)
-  noPair : endOf d part ≡ EndRead.Unfinished → Wrong limit l d r part c o FaultKind.CutOff c
-  missing : endOf d part ≡ EndRead.Ended → mayEnd r ≡ false → Wrong limit l d r part c o FaultKind.Missing c
+  noPair : endOf d part ≡ EndRead.Unfinished → Wrong rules l d r part c o FaultKind.CutOff c
+  missing : endOf d part ≡ EndRead.Ended → mayEnd r ≡ false → Wrong rules l d r part c o FaultKind.Missing c
   -- a 17th component (12)
-  seventeenth : endOf d part ≡ EndRead.More → position r ≡ some 16 → Wrong limit l d r part c o FaultKind.Seventeenth c
+  seventeenth : endOf d part ≡ EndRead.More → position r ≡ some 16 → Wrong rules l d r part c o FaultKind.Seventeenth c
   -- an element
-  element : {k : FaultKind} → endOf d part ≡ EndRead.More → Room r → Faulty limit l r part k → Wrong limit l d r part c o k o
+  element : {k : FaultKind} → endOf d part ≡ EndRead.More → Room r → Faulty rules l r part k → Wrong rules l d r part c o k o
 
 -- The message
 
 -- the originating ID of a message with these parts and contents: none if 48 is not due there, else the contents of the 48 that stands first
-pub data OrigOf (limit : ℕ) (r : Parts) (x : Text) : Option Text → Type 0 where
-  without : due r 0x48 ≡ none → OrigOf limit r x none
-  with : {n : ℕ} {s : Text} → due r 0x48 ≡ some origId → Right limit 2 0x48 origId (x .0) (x .1) n s → OrigOf limit r x (some s)
+pub data OrigOf (rules : Rules) (r : Parts) (x : Text) : Option Text → Type 0 where
+  without : due r 0x48 ≡ none → OrigOf rules r x none
+  with : {n : ℕ} {s : Text} → due r 0x48 ≡ some origId → Right rules 2 0x48 origId (x .0) (x .1) n s → OrigOf rules r x (some s)
 
 -- a fault that is there: at a place, with what is known there; or octets stand behind the message (9)
-pub data Found (limit : ℕ) (m : List ℕ) : Fault → Type 0 where
-  found : {l p : ℕ} {d : Bool} {r : Parts} {c o w : Owner} {i : Option ℤ} {t : Option Text} {k : FaultKind} {part : List ℕ} → Trail limit m l d r (known c o i t) p part → Wrong limit l d r part c (whose (position r) o) k w → Found limit m (fault k p w i t)
-  after : {n a : ℕ} {h : Holds} {r : Parts} {x : Text} {t : Option Text} → find message a ≡ some h → contentsOf h ≡ some r → Right limit 1 a h 0 m n x → (n ≡ length m → ⊥) → OrigOf limit r x t → Found limit m (fault FaultKind.OctetsAfter n portion none t)
+pub data Found (rules : Rules) (m : List ℕ) : Fault → Type 0 where
+  found : {l p : ℕ} {d : Bool} {r : Parts} {c o w : Owner} {i : Option ℤ} {t : Option Text} {k : FaultKind} {part : List ℕ} → Trail rules m l d r (known c o i t) p part → Wrong rules l d r part c (whose (position r) o) k w → Found rules m (fault k p w i t)
+  after : {n a : ℕ} {h : Holds} {r : Parts} {x : Text} {t : Option Text} → find message a ≡ some h → contentsOf h ≡ some r → Right rules 1 a h 0 m n x → (n ≡ length m → ⊥) → OrigOf rules r x t → Found rules m (fault FaultKind.OctetsAfter n portion none t)
 
 -- the whole table: 7, 1 for no octets and 8 before all
-pub data Refuses (limit : ℕ) (m : List ℕ) : Fault → Type 0 where
+pub data Refuses (rules : Rules) (m : List ℕ) : Fault → Type 0 where
   -- over 255 octets (7)
-  overlong : 255 < length m → Refuses limit m (fault FaultKind.Overlong 255 portion none none)
+  overlong : 255 < length m → Refuses rules m (fault FaultKind.Overlong 255 portion none none)
   -- nothing at all (1)
-  noOctets : m ≡ [] → Refuses limit m (fault FaultKind.CutOff 0 portion none none)
+  noOctets : m ≡ [] → Refuses rules m (fault FaultKind.CutOff 0 portion none none)
   -- not one of the five message tags (8)
-  noMessage : {a : ℕ} {q : List ℕ} → length m ≤ 255 → m ≡ a ∷ q → find message a ≡ none → Refuses limit m (fault FaultKind.NoMessage 0 portion none none)
+  noMessage : {a : ℕ} {q : List ℕ} → length m ≤ 255 → m ≡ a ∷ q → find message a ≡ none → Refuses rules m (fault FaultKind.NoMessage 0 portion none none)
   -- else what is found inside the message, or behind it
-  within : {a : ℕ} {q : List ℕ} {h : Holds} {f : Fault} → length m ≤ 255 → m ≡ a ∷ q → find message a ≡ some h → Found limit m f → Refuses limit m f
+  within : {a : ℕ} {q : List ℕ} {h : Holds} {f : Fault} → length m ≤ 255 → m ≡ a ∷ q → find message a ≡ some h → Found rules m f → Refuses rules m f
 
 -- nothing to refuse: one message that is right, and the octets end behind it
-pub record Allowed (limit : ℕ) (m : List ℕ) : Type 0 where
+pub record Allowed (rules : Rules) (m : List ℕ) : Type 0 where
   pub short : length m ≤ 255
   pub size : ℕ
-  pub fits : Fits limit 1 (must message end) true 0 m size
+  pub fits : Fits rules 1 (must message end) true 0 m size
 
 -- a refusal is that of a fault that is there: its number, its place, the originating ID, and the standard answer
 pub record Checked (m : List ℕ) (r : Refusal) : Type 0 where
@@ -177,7 +178,7 @@ pub record Checked (m : List ℕ) (r : Refusal) : Type 0 where
   pub owner : Owner
   pub invokeId : Option ℤ
   pub origId : Option Text
-  pub there : Refuses 16 m (fault kind place owner invokeId origId)
+  pub there : Refuses the93 m (fault kind place owner invokeId origId)
   pub sameNumber : numberOf (r .kind) ≡ numberOf kind
   pub samePlace : r .place ≡ place
   pub sameOrig : r .orig ≡ Option·getD (Option·map (λ s. origField (orig s)) origId) OptionalOrig.NoOrig

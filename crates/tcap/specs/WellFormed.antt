@@ -18,9 +18,17 @@ mostComponents = 16
 abbrev pub deepestLevel : ℕ
 deepestLevel = 16
 
+-- the rules that a message is read and written by: every definition and law is over them
+pub record Rules : Type 0 where
+  pub limit : ℕ
+
+-- those of 1993
+abbrev pub the93 : Rules
+the93 = record { limit = deepestLevel }
+
 -- how many levels are left for an element at level n; the message is level 1
-abbrev pub leftAt : ℕ → ℕ → ℕ
-leftAt limit n = suc limit - n
+abbrev pub leftAt : Rules → ℕ → ℕ
+leftAt rules n = suc (rules .limit) - n
 
 -- a transaction ID: 1 to 4 octets
 unfoldable pub idOk : List ℕ → Bool
@@ -40,16 +48,16 @@ ProblemOk (Problem.OfInvoke n) = leb n 7 ≡ true
 ProblemOk (Problem.OfResult n) = leb n 2 ≡ true
 ProblemOk (Problem.OfError n) = leb n 4 ≡ true
 
-abbrev pub BothOk : ℕ → Code (List ℕ) × List ℕ → Type 0
-BothOk limit (c, p) = CodeOk c × Element (leftAt limit 5) p
+abbrev pub BothOk : Rules → Code (List ℕ) × List ℕ → Type 0
+BothOk rules (c, p) = CodeOk c × Element (leftAt rules 5) p
 
 -- a parameter stands at level 4, in a result at level 5
-unfoldable pub ComponentOk : ℕ → Component (List ℕ) → Type 0
-ComponentOk limit (invoke i k c p) = InvokeIdOk i × Maybe InvokeIdOk k × CodeOk c × Maybe (Element (leftAt limit 4)) p
-ComponentOk limit (last i r) = InvokeIdOk i × Maybe (BothOk limit) r
-ComponentOk limit (notLast i r) = InvokeIdOk i × Maybe (BothOk limit) r
-ComponentOk limit (error i c p) = InvokeIdOk i × CodeOk c × Maybe (Element (leftAt limit 4)) p
-ComponentOk limit (reject i q) = Maybe InvokeIdOk i × ProblemOk q
+unfoldable pub ComponentOk : Rules → Component (List ℕ) → Type 0
+ComponentOk rules (invoke i k c p) = InvokeIdOk i × Maybe InvokeIdOk k × CodeOk c × Maybe (Element (leftAt rules 4)) p
+ComponentOk rules (last i r) = InvokeIdOk i × Maybe (BothOk rules) r
+ComponentOk rules (notLast i r) = InvokeIdOk i × Maybe (BothOk rules) r
+ComponentOk rules (error i c p) = InvokeIdOk i × CodeOk c × Maybe (Element (leftAt rules 4)) p
+ComponentOk rules (reject i q) = Maybe InvokeIdOk i × ProblemOk q
 
 abbrev pub SourceOk : Diagnostic → Type 0
 SourceOk (Diagnostic.ByUser n) = leb n 2 ≡ true
@@ -60,21 +68,21 @@ abbrev pub Outside : List ℕ → Type 0
 Outside n = (identifierOk n ≡ true) × (same structured n ≡ false) × (same unstructured n ≡ false)
 
 -- the element in the A0 of an outside name stands at level 5, a 28 in BE at level 7
-unfoldable pub DialogueOk : ℕ → Dialogue (List ℕ) → Type 0
-DialogueOk limit (request n u) = (identifierOk n ≡ true) × Maybe (SeriesOf 0x28 (leftAt limit 7)) u
-DialogueOk limit (unidialogue n u) = (identifierOk n ≡ true) × Maybe (SeriesOf 0x28 (leftAt limit 7)) u
-DialogueOk limit (response n r s u) = (identifierOk n ≡ true) × (leb r 1 ≡ true) × SourceOk s × Maybe (SeriesOf 0x28 (leftAt limit 7)) u
-DialogueOk limit (aborted r u) = (leb r 1 ≡ true) × Maybe (SeriesOf 0x28 (leftAt limit 7)) u
-DialogueOk limit (single n e) = Outside n × Element (leftAt limit 5) e
-DialogueOk limit (octets n c) = Outside n
+unfoldable pub DialogueOk : Rules → Dialogue (List ℕ) → Type 0
+DialogueOk rules (request n u) = (identifierOk n ≡ true) × Maybe (SeriesOf 0x28 (leftAt rules 7)) u
+DialogueOk rules (unidialogue n u) = (identifierOk n ≡ true) × Maybe (SeriesOf 0x28 (leftAt rules 7)) u
+DialogueOk rules (response n r s u) = (identifierOk n ≡ true) × (leb r 1 ≡ true) × SourceOk s × Maybe (SeriesOf 0x28 (leftAt rules 7)) u
+DialogueOk rules (aborted r u) = (leb r 1 ≡ true) × Maybe (SeriesOf 0x28 (leftAt rules 7)) u
+DialogueOk rules (single n e) = Outside n × Element (leftAt rules 5) e
+DialogueOk rules (octets n c) = Outside n
 
-abbrev pub EndingOk : ℕ → Ending (List ℕ) → Type 0
-EndingOk limit silent = Unit {0}
-EndingOk limit (cause n) = leb n 4 ≡ true
-EndingOk limit (says d) = DialogueOk limit d
+abbrev pub EndingOk : Rules → Ending (List ℕ) → Type 0
+EndingOk rules silent = Unit {0}
+EndingOk rules (cause n) = leb n 4 ≡ true
+EndingOk rules (says d) = DialogueOk rules d
 
-abbrev pub ComponentsOk : ℕ → List (Component (List ℕ)) → Type 0
-ComponentsOk limit cs = (length cs ≤ mostComponents) × Every (ComponentOk limit) cs
+abbrev pub ComponentsOk : Rules → List (Component (List ℕ)) → Type 0
+ComponentsOk rules cs = (length cs ≤ mostComponents) × Every (ComponentOk rules) cs
 
 abbrev pub OrigOk : Originating (List ℕ) → Type 0
 OrigOk (orig i) = idOk i ≡ true
@@ -83,21 +91,21 @@ abbrev pub DestOk : Destination (List ℕ) → Type 0
 DestOk (dest i) = idOk i ≡ true
 
 -- with so many levels, of which the fixed parts of a message need 8
-unfoldable pub WellFormedUpTo : ℕ → Meaning → Type 0
-WellFormedUpTo limit (unidirectional d cs) = Maybe (DialogueOk limit) d × (1 ≤ length cs) × ComponentsOk limit cs
-WellFormedUpTo limit (begin o d cs) = OrigOk o × Maybe (DialogueOk limit) d × ComponentsOk limit cs
-WellFormedUpTo limit (finish e d cs) = DestOk e × Maybe (DialogueOk limit) d × ComponentsOk limit cs
-WellFormedUpTo limit (continue o e d cs) = OrigOk o × DestOk e × Maybe (DialogueOk limit) d × ComponentsOk limit cs
-WellFormedUpTo limit (abort e s) = DestOk e × EndingOk limit s
+unfoldable pub WellFormedUpTo : Rules → Meaning → Type 0
+WellFormedUpTo rules (unidirectional d cs) = Maybe (DialogueOk rules) d × (1 ≤ length cs) × ComponentsOk rules cs
+WellFormedUpTo rules (begin o d cs) = OrigOk o × Maybe (DialogueOk rules) d × ComponentsOk rules cs
+WellFormedUpTo rules (finish e d cs) = DestOk e × Maybe (DialogueOk rules) d × ComponentsOk rules cs
+WellFormedUpTo rules (continue o e d cs) = OrigOk o × DestOk e × Maybe (DialogueOk rules) d × ComponentsOk rules cs
+WellFormedUpTo rules (abort e s) = DestOk e × EndingOk rules s
 
 unfoldable pub WellFormed : Meaning → Type 0
-WellFormed μ = WellFormedUpTo deepestLevel μ
+WellFormed μ = WellFormedUpTo the93 μ
 
 -- the octets m are a message of the meaning μ
-pub record ReadsUpTo (limit : ℕ) (m : List ℕ) (μ : Meaning) : Type 0 where
+pub record ReadsUpTo (rules : Rules) (m : List ℕ) (μ : Meaning) : Type 0 where
   pub short : length m ≤ mostOctets
-  pub fine : WellFormedUpTo limit μ
+  pub fine : WellFormedUpTo rules μ
   pub form : Matches document01 (messageForm μ) m
 
 abbrev pub Reads : List ℕ → Meaning → Type 0
-Reads m μ = ReadsUpTo deepestLevel m μ
+Reads m μ = ReadsUpTo the93 m μ

@@ -12,7 +12,7 @@ use Rattle.base.specs.Value.{Every, Maybe}
 use Rattle.element.specs.Form.{Form, then, maybe, around, shortest}
 use Rattle.tcap.specs.declared.{MessageKind.MessageKind}
 use Rattle.tcap.specs.Meaning.{Originating, Destination, Component, Dialogue, Ending, silent, cause, says, unidirectional, begin, finish, continue, abort, Meaning, origForm, destForm, dialogueForm, endingForm, componentsForm, messageForm, written}
-use Rattle.tcap.specs.WellFormed.{DialogueOk, EndingOk, ComponentsOk, OrigOk, DestOk, deepestLevel, WellFormedUpTo, WellFormed}
+use Rattle.tcap.specs.WellFormed.{DialogueOk, EndingOk, ComponentsOk, OrigOk, DestOk, the93, WellFormedUpTo, WellFormed}
 use Rattle.tcap.specs.Record.{portionOf, partsMean, messageTag}
 use Rattle.judging.specs.Verdict.{partsFit}
 use Rattle.judging.specs.Forms.{octetsOf}
@@ -99,7 +99,7 @@ made-octets (continued {o} {e} {d}) = rw (portion-form d)
 made-octets broken = rw append-nil
 
 -- and when it is well-formed
-portion-ok : (d : Option (Dialogue (List ℕ))) → Maybe (DialogueOk deepestLevel) d ↔ EndingOk deepestLevel (portion d)
+portion-ok : (d : Option (Dialogue (List ℕ))) → Maybe (DialogueOk the93) d ↔ EndingOk the93 (portion d)
 portion-ok none = (λ o. o, λ o. o)
 portion-ok (some d) = (λ o. o, λ o. o)
 
@@ -109,7 +109,7 @@ portion-cause (some d) = refl
 
 abbrev pub PartsOk : MessageKind → Option (Originating (List ℕ)) → Option (Destination (List ℕ)) → Ending (List ℕ) → List (Component (List ℕ)) → Type 0
 PartsOk k o e s cs =
-    (partsFit k (there o) (there e) (caused s) (length cs) ≡ true) × Maybe OrigOk o × Maybe DestOk e × EndingOk deepestLevel s × ComponentsOk deepestLevel cs
+    (partsFit k (there o) (there e) (caused s) (length cs) ≡ true) × Maybe OrigOk o × Maybe DestOk e × EndingOk the93 s × ComponentsOk the93 cs
 
 pub made-ok : {k : MessageKind} {o : Option (Originating (List ℕ))} {e : Option (Destination (List ℕ))} {s : Ending (List ℕ)} {cs : List (Component (List ℕ))} {μ : Meaning} → Made k o e s cs μ → WellFormed μ ↔ PartsOk k o e s cs
 unfolding WellFormed WellFormedUpTo partsFit Every

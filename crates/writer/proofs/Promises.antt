@@ -17,7 +17,7 @@ use Rattle.element.specs.Ask.{Got, got, bad}
 use Rattle.element.proofs.Shortest.{⊑-length}
 use Rattle.tcap.specs.declared.{Record.Record, Outcome.Outcome}
 use Rattle.tcap.specs.Meaning.{Component, Message, unidirectional, begin, finish, continue, abort, Meaning, written}
-use Rattle.tcap.specs.WellFormed.{mostOctets, mostComponents, deepestLevel, WellFormed}
+use Rattle.tcap.specs.WellFormed.{mostOctets, mostComponents, the93, WellFormed}
 use Rattle.tcap.specs.Record.{rowOf, blankRow, recordOf, meaningOf, Same}
 use Rattle.tcap.specs.Reading.{locatedUpTo, answered, readingUpTo, reading}
 use Rattle.tcap.proofs.Promises.{reads-accepted, accepted-reads, written-reads, written-least}
@@ -150,7 +150,7 @@ record-full (abort e s) h = rows-full [] h
 
 reading-full : (s : List ℕ) → leb (reading s .message .count) mostComponents ≡ true → length (reading s .message .rows) ≡ mostComponents
 unfolding reading readingUpTo answered
-reading-full s h = by-got (locatedUpTo deepestLevel s) h
+reading-full s h = by-got (locatedUpTo the93 s) h
   where
     by-got : (x : Got (Message Text)) → leb (answered x .message .count) mostComponents ≡ true → length (answered x .message .rows) ≡ mostComponents
     by-got (got v n) h = record-full v h

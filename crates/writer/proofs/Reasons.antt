@@ -13,7 +13,7 @@ use Rattle.base.specs.Value.{Every, same}
 use Rattle.primitive.specs.Primitive.{identifierOk}
 use Rattle.tcap.specs.Meaning.{structured, unstructured}
 use Rattle.tcap.specs.declared.{OptionalSpan.OptionalSpan, OptionalOrig.OptionalOrig, OptionalDest.OptionalDest, InvokeId.InvokeId, LinkedId.LinkedId, Code.Code, Problem.Problem, Diagnostic.Diagnostic, Returned.Returned, ComponentKind.ComponentKind, Row.Row, Dialogue.Dialogue, MessageKind.MessageKind, Record.Record}
-use Rattle.tcap.specs.WellFormed.{mostComponents, deepestLevel, leftAt}
+use Rattle.tcap.specs.WellFormed.{mostComponents, the93, leftAt}
 use Rattle.layout.specs.Fits.{IdFits, LinkedFits}
 use Rattle.judging.specs.Verdict.{every, counted, origThere, destThere, causeThere, partsFit, idThere, rowPartsFit, allParts, ranges, origRanges, destRanges, codeRanges, problemRanges, returnedRanges, rowRanges, sourceRanges, dialogueRanges, allRanges, lies, optionLies, origLies, destLies, codeLies, returnedLies, rowLies, dialogueLies, allLie, isElement, isSeries, octetsIn, parameterShaped, infoShaped, codeShaped, returnedShaped, rowShaped, dialogueShaped, allShaped}
 use Rattle.writer.specs.Writing.{CodeTyped, ReturnedTyped, KindTyped, RowTyped, RecordTyped}
@@ -84,8 +84,8 @@ unfoldable shapedAs : Wanted → List ℕ → Bool
 shapedAs transaction c = true
 shapedAs identifier c = identifierOk c
 shapedAs outside c = identifierOk c && (not (same structured c) && not (same unstructured c))
-shapedAs (element l) c = isElement (leftAt deepestLevel l) c
-shapedAs series c = isSeries (leftAt deepestLevel 7) c
+shapedAs (element l) c = isElement (leftAt the93 l) c
+shapedAs series c = isSeries (leftAt the93 7) c
 shapedAs anything c = true
 
 module _ (m : List ℕ) where
@@ -149,8 +149,8 @@ unfolding shapedAs Shaped
 shape-tells transaction c = tells-not true (λ u. refl, λ e. tt)
 shape-tells identifier c = tells-not (identifierOk c) Iff·rfl
 shape-tells outside c = tells-not _ (outside-shape (identifierOk c) (same structured c) (same unstructured c))
-shape-tells (element l) c = tells-not _ (element-is (leftAt deepestLevel l) c)
-shape-tells series c = tells-not _ (series-is (leftAt deepestLevel 7) c)
+shape-tells (element l) c = tells-not _ (element-is (leftAt the93 l) c)
+shape-tells series c = tells-not _ (series-is (leftAt the93 7) c)
 shape-tells anything c = tells-not true (λ u. refl, λ e. tt)
 
 module _ (m : List ℕ) where

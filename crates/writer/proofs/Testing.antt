@@ -16,7 +16,7 @@ use Rattle.element.specs.Element.{Element, SeriesOf}
 use Rattle.element.proofs.Whole.{element-walk-is, series-walk-is}
 use Rattle.tcap.specs.declared.{Span.Span, OptionalSpan.OptionalSpan, OptionalOrig.OptionalOrig, OptionalDest.OptionalDest, InvokeId.InvokeId, LinkedId.LinkedId, Code.Code, Problem.Problem, Diagnostic.Diagnostic, Returned.Returned, ComponentKind.ComponentKind, Row.Row, Dialogue.Dialogue}
 use Rattle.tcap.specs.Meaning.{structured, unstructured}
-use Rattle.tcap.specs.WellFormed.{deepestLevel, leftAt, idOk, InvokeIdOk, CodeOk, ProblemOk, BothOk, ComponentOk, SourceOk, Outside, DialogueOk, EndingOk, OrigOk, DestOk}
+use Rattle.tcap.specs.WellFormed.{the93, leftAt, idOk, InvokeIdOk, CodeOk, ProblemOk, BothOk, ComponentOk, SourceOk, Outside, DialogueOk, EndingOk, OrigOk, DestOk}
 use Rattle.tcap.specs.Record.{idMeans, linkedMeans}
 use Rattle.judging.specs.Verdict.{every, ranges, idRanges, nameRanges, origRanges, destRanges, codeRanges, problemRanges, returnedRanges, rowRanges, sourceRanges, dialogueRanges, lies, optionLies, origLies, destLies, codeLies, returnedLies, rowLies, dialogueLies, tookAll, isElement, isSeries, octetsIn, parameterShaped, infoShaped, nameShaped, outsideShaped, codeShaped, returnedShaped, rowShaped, dialogueShaped}
 use Rattle.layout.specs.Fits.{IdFits, LinkedFits}
@@ -132,31 +132,31 @@ module _ (m : List ℕ) where
   code-is (Code.Local z) h = record { fine = λ f r k. f; told = λ o. (o, refl, refl) }
   code-is (Code.Global s) h = name-is s h
 
-  parameter-is : (u : OptionalSpan) → Maybe (Element (leftAt deepestLevel 4)) (optionIn m u) ↔ (parameterShaped m u ≡ true)
+  parameter-is : (u : OptionalSpan) → Maybe (Element (leftAt the93 4)) (optionIn m u) ↔ (parameterShaped m u ≡ true)
   unfolding parameterShaped
   parameter-is OptionalSpan.Absent = (λ x. refl, λ x. tt)
   parameter-is (OptionalSpan.Present s) = element-is _ (octetsIn m s)
 
-  info-is : (u : OptionalSpan) → Maybe (SeriesOf 0x28 (leftAt deepestLevel 7)) (optionIn m u) ↔ (infoShaped m u ≡ true)
+  info-is : (u : OptionalSpan) → Maybe (SeriesOf 0x28 (leftAt the93 7)) (optionIn m u) ↔ (infoShaped m u ≡ true)
   unfolding infoShaped
   info-is OptionalSpan.Absent = (λ x. refl, λ x. tt)
   info-is (OptionalSpan.Present s) = series-is _ (octetsIn m s)
 
-  both-is : (r : Returned) → returnedLies (length m) r ≡ true → Tested (Maybe (BothOk deepestLevel) (bothIn m r)) (ReturnedTyped r) (returnedRanges r) (returnedShaped m r)
+  both-is : (r : Returned) → returnedLies (length m) r ≡ true → Tested (Maybe (BothOk the93) (bothIn m r)) (ReturnedTyped r) (returnedRanges r) (returnedShaped m r)
   unfolding returnedLies returnedRanges returnedShaped
   both-is Returned.Bare h = record { fine = λ f r k. tt; told = λ o. (tt, refl, refl) }
   both-is (Returned.Both c p) h = tested-shape (code-is c (both-true _ _ h .0)) (element-is _ (octetsIn m p))
 
   coded-is : (c : Code) (u : OptionalSpan) → (codeLies (length m) c && optionLies (length m) u) ≡ true
-      → Tested (CodeOk (codeIn m c) × Maybe (Element (leftAt deepestLevel 4)) (optionIn m u)) (CodeTyped c) (codeRanges c) (codeShaped m c && parameterShaped m u)
+      → Tested (CodeOk (codeIn m c) × Maybe (Element (leftAt the93 4)) (optionIn m u)) (CodeTyped c) (codeRanges c) (codeShaped m c && parameterShaped m u)
   coded-is c u h = tested-shape (code-is c (both-true _ _ h .0)) (parameter-is u)
 
-  result-is : (i : InvokeId) (r : Returned) → returnedLies (length m) r ≡ true → Tested (InvokeIdOk (idIn m i) × Maybe (BothOk deepestLevel) (bothIn m r)) (IdFits i × ReturnedTyped r) (returnedRanges r) (returnedShaped m r)
+  result-is : (i : InvokeId) (r : Returned) → returnedLies (length m) r ≡ true → Tested (InvokeIdOk (idIn m i) × Maybe (BothOk the93) (bothIn m r)) (IdFits i × ReturnedTyped r) (returnedRanges r) (returnedShaped m r)
   result-is i r h =
       let j = both-is r h in
       record { fine = λ f g k. (id-is m i .1 (f .0), j .fine (f .1) g k); told = λ o. let q = j .told (o .1) in ((id-is m i .0 (o .0), q .0), q .1, q .2) }
 
-  row-is : (i : InvokeId) (k : ComponentKind) → rowLies (length m) k ≡ true → Tested (ComponentOk deepestLevel (rowIn m i k)) (IdFits i × KindTyped k) (rowRanges k) (rowShaped m k)
+  row-is : (i : InvokeId) (k : ComponentKind) → rowLies (length m) k ≡ true → Tested (ComponentOk the93 (rowIn m i k)) (IdFits i × KindTyped k) (rowRanges k) (rowShaped m k)
   unfolding rowLies rowRanges rowShaped ComponentOk
   row-is i (ComponentKind.Invoke l c p) h =
       let j = coded-is c p h in
@@ -179,10 +179,10 @@ module _ (m : List ℕ) where
       }
 
   named-is : (n : Span) (u : OptionalSpan) → (lies (length m) n && optionLies (length m) u) ≡ true
-      → Tested ((identifierOk (octetsIn m n) ≡ true) × Maybe (SeriesOf 0x28 (leftAt deepestLevel 7)) (optionIn m u)) (Unit {0}) (nameRanges n) (nameShaped m n && infoShaped m u)
+      → Tested ((identifierOk (octetsIn m n) ≡ true) × Maybe (SeriesOf 0x28 (leftAt the93 7)) (optionIn m u)) (Unit {0}) (nameRanges n) (nameShaped m n && infoShaped m u)
   named-is n u h = tested-shape (name-is n (both-true _ _ h .0)) (info-is u)
 
-  pub ending-is : (d : Dialogue) → dialogueLies (length m) d ≡ true → Tested (EndingOk deepestLevel (endingIn m d)) (Unit {0}) (dialogueRanges d) (dialogueShaped m d)
+  pub ending-is : (d : Dialogue) → dialogueLies (length m) d ≡ true → Tested (EndingOk the93 (endingIn m d)) (Unit {0}) (dialogueRanges d) (dialogueShaped m d)
   unfolding dialogueLies dialogueRanges dialogueShaped DialogueOk
   ending-is Dialogue.NoDialogue h = record { fine = λ f r k. tt; told = λ o. (tt, refl, refl) }
   ending-is (Dialogue.Cause n) h = record { fine = λ f r k. r; told = λ o. (tt, o, refl) }
@@ -199,7 +199,7 @@ module _ (m : List ℕ) where
   ending-is (Dialogue.OutsideOctets n c) h = outside-is n (both-true _ _ h .0)
 
   pub rows-are : (rs : List Row) → every (λ w. rowLies (length m) (w .kind)) rs ≡ true
-      → Tested (Every (ComponentOk deepestLevel) (rowsIn m rs)) (Every RowTyped rs) (every (λ w. rowRanges (w .kind)) rs) (every (λ w. rowShaped m (w .kind)) rs)
+      → Tested (Every (ComponentOk the93) (rowsIn m rs)) (Every RowTyped rs) (every (λ w. rowRanges (w .kind)) rs) (every (λ w. rowShaped m (w .kind)) rs)
   unfolding every Every RowTyped
   rows-are [] h = record { fine = λ f r k. tt; told = λ o. (tt, refl, refl) }
   rows-are (w ∷ rs) h = let z = both-true _ _ h in tested-both (row-is (w .id) (w .kind) (z .0)) (rows-are rs (z .1))

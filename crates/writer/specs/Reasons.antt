@@ -6,7 +6,7 @@ use lib.{ListN.length, ListN.take, ListN.drop, Dec.eqb, IntN.ℤ}
 use Rattle.base.specs.{Number.holds}
 use Rattle.primitive.specs.{Primitive.identifierOk, Primitive.mostIntegerOctets}
 use Rattle.element.specs.{Element.Element, Element.SeriesOf}
-use Rattle.tcap.specs.{declared.Span.Span, declared.OptionalSpan.OptionalSpan, declared.OptionalOrig.OptionalOrig, declared.OptionalDest.OptionalDest, declared.InvokeId.InvokeId, declared.LinkedId.LinkedId, declared.Code.Code, declared.Problem.Problem, declared.Diagnostic.Diagnostic, declared.Returned.Returned, declared.ComponentKind.ComponentKind, declared.Row.Row, declared.Dialogue.Dialogue, declared.MessageKind.MessageKind, declared.Record.Record, WellFormed.mostComponents, WellFormed.deepestLevel, WellFormed.leftAt, WellFormed.Outside}
+use Rattle.tcap.specs.{declared.Span.Span, declared.OptionalSpan.OptionalSpan, declared.OptionalOrig.OptionalOrig, declared.OptionalDest.OptionalDest, declared.InvokeId.InvokeId, declared.LinkedId.LinkedId, declared.Code.Code, declared.Problem.Problem, declared.Diagnostic.Diagnostic, declared.Returned.Returned, declared.ComponentKind.ComponentKind, declared.Row.Row, declared.Dialogue.Dialogue, declared.MessageKind.MessageKind, declared.Record.Record, WellFormed.mostComponents, WellFormed.the93, WellFormed.leftAt, WellFormed.Outside}
 
 -- what a kind must have, may have, may not have
 pub data Need : Type 0 where
@@ -144,8 +144,8 @@ unfoldable pub Shaped : Wanted → List ℕ → Type 0
 Shaped transaction c = Unit {0}
 Shaped identifier c = identifierOk c ≡ true
 Shaped outside c = Outside c
-Shaped (element l) c = Element (leftAt deepestLevel l) c
-Shaped series c = SeriesOf 0x28 (leftAt deepestLevel 7) c
+Shaped (element l) c = Element (leftAt the93 l) c
+Shaped series c = SeriesOf 0x28 (leftAt the93 7) c
 Shaped anything c = Unit {0}
 
 module _ (m : List ℕ) where

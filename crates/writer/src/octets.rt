@@ -45,7 +45,17 @@ pub fn write_octets(octets: &[u8], material: &[u8], out: &mut [u8]) -> Written
             if size > out.len() {
                 return Written::Refused(WriteFault::NoRoom);
             }
-            put_message(out, size, material, kind, orig, dest, dialogue, octets, looked);
+            put_message(
+                out,
+                size,
+                material,
+                kind,
+                orig,
+                dest,
+                dialogue,
+                octets,
+                looked,
+            );
             Written::Length(size)
         }
     }

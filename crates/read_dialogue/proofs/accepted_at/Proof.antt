@@ -5,7 +5,7 @@ use Rattle.read_place.proofs.Optional.{reads-within}
 use Rattle.read_place.proofs.Leaves.{leaves-all-far}
 use Rattle.read_dialogue.proofs.Pdus.{accepted-result, accepted-source, accepted-near}
 use Rattle.read_dialogue.proofs.PdusLeft.{accepted-left}
-use Rattle.tcap.specs.WellFormed.{deepestLevel}
+use Rattle.tcap.specs.WellFormed.{the93}
 use Rattle.tcap.specs.Productions.{sourceItem}
 use Rattle.read_dialogue.proofs.accepted_at.Statement.{statement}
 use Rattle.read_dialogue.proofs.accepted_at.Tie as tie
@@ -29,7 +29,7 @@ returns-2 : tie.Need-returns-2
 returns-2 c = search (accepted-source, leaves-all-far)
 
 info-at-requires : tie.Need-info-at-requires
-info-at-requires c κs = omega (arith, reads-within (sourceItem deepestLevel) _ _ _ _ (c .before .before .before .before .source-at .ensures .0) (c .before .if2 .left))
+info-at-requires c κs = omega (arith, reads-within (sourceItem the93) _ _ _ _ (c .before .before .before .before .source-at .ensures .0) (c .before .if2 .left))
 
 same-length-3 : tie.Need-same-length-3
 same-length-3 c = search needs
