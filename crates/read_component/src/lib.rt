@@ -12,6 +12,8 @@ use read_field::octet_at;
 use read_place::CUT_OFF;
 use read_place::FAULT;
 use read_place::MISSING;
+use read_place::OF_COMPONENT;
+use read_place::OF_PORTION;
 use read_place::SEVENTEENTH;
 use read_place::behind;
 use read_place::ended;
@@ -50,7 +52,7 @@ fn blame_component(m: &[u8], at: usize, stop: usize, k: usize, out: &mut [u8])
     ensures { λ r. ⌜ CarriesHere (idIn (now (out .exit))) (now (m .entry)) at stop ⌝ }
 {
     let id = known_id(m, at, stop);
-    out[0] = 2;
+    out[0] = OF_COMPONENT;
     out[1] = k as u8;
     out[2] = (id / 256) as u8;
     out[3] = (id % 256) as u8;
@@ -67,18 +69,18 @@ pub fn rows_at(m: &[u8], from: usize, stop: usize, out: &mut [u8]) -> usize
     loop {
         if ended(m, at, stop) {
             if k == 0 {
-                out[0] = 0;
+                out[0] = OF_PORTION;
                 return MISSING + at;
             }
             out[7] = k as u8;
             return behind(at, stop);
         }
         if unfinished(m, at, stop) {
-            out[0] = 0;
+            out[0] = OF_PORTION;
             return CUT_OFF + at;
         }
         if k == 16 {
-            out[0] = 0;
+            out[0] = OF_PORTION;
             return SEVENTEENTH + at;
         }
         let o = 44 + 24 * k;

@@ -23,6 +23,8 @@ use read_place::BAD_CONTENTS;
 use read_place::CUT_OFF;
 use read_place::FAULT;
 use read_place::MISSING;
+use read_place::OF_DIALOGUE;
+use read_place::OF_PORTION;
 use read_place::OPEN;
 use read_place::bad_field;
 use read_place::behind;
@@ -39,11 +41,6 @@ use read_place::unfinished;
 use read_place::walk_any;
 use read_place::wrong_at;
 use tcap::name_kind;
-
-// What octet 0 tells of a fault.
-pub const OF_PORTION: u8 = 0;
-
-const OF_DIALOGUE: u8 = 1;
 
 // The elements in BE, each 28, to the end of its contents.
 fn externals_at(m: &[u8], from: usize, stop: usize) -> usize

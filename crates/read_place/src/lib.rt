@@ -46,6 +46,13 @@ pub const SEVENTEENTH: usize = 983040;
 
 pub const UNKNOWN_COMPONENT: usize = 1048576;
 
+// Whom a fault belongs to, as it is told in the first of the octets lent to a reader; for a component its number follows.
+pub const OF_PORTION: u8 = 0;
+
+pub const OF_DIALOGUE: u8 = 1;
+
+pub const OF_COMPONENT: u8 = 2;
+
 // Whether contents end here.
 pub fn ended(m: &[u8], at: usize, stop: usize) -> bool
     requires { ⌜ Ready (now m) at stop ⌝ }

@@ -14,6 +14,8 @@ use primitive::signed_octet;
 use read_fault::kind_from;
 use read_field::transaction_id_at;
 use read_place::FAULT;
+use read_place::OF_DIALOGUE;
+use read_place::OF_PORTION;
 use read_place::OPEN;
 use read_place::entry_asked;
 use read_place::start_of;
@@ -64,10 +66,10 @@ fn answer_by(problem: u8, cause: u8, out: &[u8]) -> Answer
     requires { ⌜ 4 ≤ length (now out) ⌝ }
     ensures { λ r. ⌜ r ≡ byOwner problem cause (ownerIn (now (out .entry))) (idIn (now (out .entry))) ⌝ }
 {
-    if out[0] == 0 {
+    if out[0] == OF_PORTION {
         return Answer::AbortCause(cause);
     }
-    if out[0] == 1 {
+    if out[0] == OF_DIALOGUE {
         return Answer::AbortCause(3);
     }
     let id = id_in(out[2], out[3]);

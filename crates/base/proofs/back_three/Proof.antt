@@ -9,26 +9,11 @@ use native.Mathlib.Omega.{arith}
 use Rattle.base.proofs.back_three.Statement.{statement}
 use Rattle.base.proofs.back_three.Tie as tie
 
-sub-start : tie.Need-sub-start
-sub-start c = search needs
-
-slice-write-out : tie.Need-slice-write-out
-slice-write-out c = search needs
-
-add-out : tie.Need-add-out
-add-out c = search needs
-
 slice-write-out-2 : tie.Need-slice-write-out-2
 slice-write-out-2 c = simp length-set (omega arith)
 
-add-out-2 : tie.Need-add-out-2
-add-out-2 c = search needs
-
 slice-write-out-3 : tie.Need-slice-write-out-3
 slice-write-out-3 c = simp length-set (omega arith)
-
-same-length : tie.Need-same-length
-same-length c = search needs
 
 returns : tie.Need-returns
 returns c =
@@ -39,11 +24,11 @@ pub back-three-spec : {M : Type 1} → statement M
 back-three-spec =
     tie.close
     (tie.spec
-    sub-start
-    slice-write-out
-    add-out
+    (λ c. search needs)
+    (λ c. search needs)
+    (λ c. search needs)
     slice-write-out-2
-    add-out-2
+    (λ c. search needs)
     slice-write-out-3
-    same-length
+    (λ c. search needs)
     returns)

@@ -7,24 +7,12 @@ use native.Mathlib.Omega.{arith}
 use Rattle.base.proofs.back_two.Statement.{statement}
 use Rattle.base.proofs.back_two.Tie as tie
 
-sub-start : tie.Need-sub-start
-sub-start c = search needs
-
-slice-write-out : tie.Need-slice-write-out
-slice-write-out c = search needs
-
-add-out : tie.Need-add-out
-add-out c = search needs
-
 slice-write-out-2 : tie.Need-slice-write-out-2
 slice-write-out-2 c = simp length-set (omega arith)
-
-same-length : tie.Need-same-length
-same-length c = search needs
 
 returns : tie.Need-returns
 returns c = rw add-one (back-sets _ _ _ _ (omega arith) (omega arith))
 
 pub back-two-spec : {M : Type 1} → statement M
 back-two-spec =
-    tie.close (tie.spec sub-start slice-write-out add-out slice-write-out-2 same-length returns)
+    tie.close (tie.spec (λ c. search needs) (λ c. search needs) (λ c. search needs) slice-write-out-2 (λ c. search needs) returns)

@@ -21,9 +21,6 @@ loop-holds c = (omega arith, put-none _ _ (omega arith) (omega arith))
 shared-slice-read-put-octet : tie.Need-shared-slice-read-put-octet Inv-loop μ-loop
 shared-slice-read-put-octet c = omega arith
 
-put-octet-requires : tie.Need-put-octet-requires Inv-loop μ-loop
-put-octet-requires c κs = search needs
-
 add-i : tie.Need-add-i Inv-loop μ-loop
 add-i c = omega arith
 
@@ -47,7 +44,7 @@ put-each-spec =
     μ-loop
     loop-holds
     shared-slice-read-put-octet
-    put-octet-requires
+    (λ c κs. search needs)
     add-i
     loop-less
     loop-again

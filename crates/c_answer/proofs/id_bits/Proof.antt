@@ -10,15 +10,6 @@ use Rattle.c_answer.proofs.id_bits.Tie as tie
 enum-told : tie.Need-enum-told
 enum-told c = search needs
 
-enum-known-id : tie.Need-enum-known-id
-enum-known-id c = search needs
-
-octet-of-requires : tie.Need-octet-of-requires
-octet-of-requires c κs = search needs
-
-cast-result : tie.Need-cast-result
-cast-result c = search needs
-
 mul-result : tie.Need-mul-result
 mul-result c = omega (arith, c .octet-of .ok)
 
@@ -38,9 +29,9 @@ id-bits-spec =
     tie.close
     (tie.spec
     enum-told
-    enum-known-id
-    octet-of-requires
-    cast-result
+    (λ c. search needs)
+    (λ c κs. search needs)
+    (λ c. search needs)
     mul-result
     add-result
     returns

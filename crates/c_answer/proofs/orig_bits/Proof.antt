@@ -8,24 +8,6 @@ use Rattle.c_answer.proofs.orig_bits.Tie as tie
 enum-told : tie.Need-enum-told
 enum-told c = search needs
 
-enum-known-orig : tie.Need-enum-known-orig
-enum-known-orig c = search needs
-
-cast-result : tie.Need-cast-result
-cast-result c = search needs
-
-mul-result : tie.Need-mul-result
-mul-result c = search needs
-
-cast-result-2 : tie.Need-cast-result-2
-cast-result-2 c = search needs
-
-mul-result-2 : tie.Need-mul-result-2
-mul-result-2 c = search needs
-
-add-result : tie.Need-add-result
-add-result c = search needs
-
 returns : tie.Need-returns
 unfolding origBits origSpan
 returns c = rw (c .enum-told .given .1)
@@ -39,11 +21,11 @@ orig-bits-spec =
     tie.close
     (tie.spec
     enum-told
-    enum-known-orig
-    cast-result
-    mul-result
-    cast-result-2
-    mul-result-2
-    add-result
+    (λ c. search needs)
+    (λ c. search needs)
+    (λ c. search needs)
+    (λ c. search needs)
+    (λ c. search needs)
+    (λ c. search needs)
     returns
     returns-2)

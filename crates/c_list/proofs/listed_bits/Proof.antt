@@ -5,12 +5,6 @@ use Rattle.c_list.specs.List.{listedBits}
 use Rattle.c_list.proofs.listed_bits.Statement.{statement}
 use Rattle.c_list.proofs.listed_bits.Tie as tie
 
-enum-known-listed : tie.Need-enum-known-listed
-enum-known-listed c = search needs
-
-mul-result : tie.Need-mul-result
-mul-result c = search needs
-
 enum-told : tie.Need-enum-told
 enum-told c = search needs
 
@@ -23,4 +17,4 @@ unfolding listedBits
 returns-2 c = rw (c .enum-told .given .1)
 
 pub listed-bits-spec : {M : Type 1} → statement M
-listed-bits-spec = tie.close (tie.spec enum-known-listed mul-result enum-told returns returns-2)
+listed-bits-spec = tie.close (tie.spec (λ c. search needs) (λ c. search needs) enum-told returns returns-2)

@@ -19,17 +19,8 @@ returns : tie.Need-returns
 unfolding readAnswer readRoom
 returns c = (rw (lt-ltb _ _ (c .if1 .taken)), rw (lt-ltb _ _ (c .if1 .taken)))
 
-slice-aggregate-read-octets : tie.Need-slice-aggregate-read-octets
-slice-aggregate-read-octets c = search needs
-
-read-octets-requires : tie.Need-read-octets-requires
-read-octets-requires c κs = search needs
-
 enum-told : tie.Need-enum-told
 enum-told c = search needs
-
-array-read-count : tie.Need-array-read-count
-array-read-count c = search needs
 
 cast-count : tie.Need-cast-count
 cast-count c = omega (arith, held-few _ _ (sym (c .before .before .before .read-octets .ensures .0) ∙ c .enum-told .given .1) (c .before .before .before .read-octets .ensures .1))
@@ -45,18 +36,6 @@ array-share-prefix-octets c = omega (arith, held-few _ _ (sym (c .before .before
 
 slice-aggregate-put-part : tie.Need-slice-aggregate-put-part
 slice-aggregate-put-part c = sym (length-take-le _ _ (omega (arith, held-few _ _ (sym (c .before .before .before .before .before .read-octets .ensures .0) ∙ c .before .before .enum-told .given .1) (c .before .before .before .before .before .read-octets .ensures .1))))
-
-put-part-requires : tie.Need-put-part-requires
-put-part-requires c κs = search needs
-
-enum-known-outcome : tie.Need-enum-known-outcome
-enum-known-outcome c = search needs
-
-refusal-bits-requires : tie.Need-refusal-bits-requires
-refusal-bits-requires c κs = search needs
-
-same-length : tie.Need-same-length
-same-length c = search needs
 
 returns-2 : tie.Need-returns-2
 unfolding readAnswer readRoom outcomeBits recordRoom
@@ -76,18 +55,18 @@ read-answer-spec =
     tie.close
     (tie.spec
     returns
-    slice-aggregate-read-octets
-    read-octets-requires
+    (λ c. search needs)
+    (λ c κs. search needs)
     enum-told
-    array-read-count
+    (λ c. search needs)
     cast-count
     mul-octets
     add-octets
     array-share-prefix-octets
     slice-aggregate-put-part
-    put-part-requires
-    enum-known-outcome
-    refusal-bits-requires
-    same-length
+    (λ c κs. search needs)
+    (λ c. search needs)
+    (λ c κs. search needs)
+    (λ c. search needs)
     returns-2
     returns-3)

@@ -7,21 +7,6 @@ use Rattle.c_steer.proofs.steered_bits.Tie as tie
 enum-told : tie.Need-enum-told
 enum-told c = search needs
 
-enum-known-steered : tie.Need-enum-known-steered
-enum-known-steered c = search needs
-
-cast-result : tie.Need-cast-result
-cast-result c = search needs
-
-mul-result : tie.Need-mul-result
-mul-result c = search needs
-
-enum-known-steered-2 : tie.Need-enum-known-steered-2
-enum-known-steered-2 c = search needs
-
-refusal-bits-requires : tie.Need-refusal-bits-requires
-refusal-bits-requires c κs = search needs
-
 returns : tie.Need-returns
 unfolding steeredBits
 returns c = rw (c .enum-told .given .1)
@@ -39,11 +24,11 @@ steered-bits-spec =
     tie.close
     (tie.spec
     enum-told
-    enum-known-steered
-    cast-result
-    mul-result
-    enum-known-steered-2
-    refusal-bits-requires
+    (λ c. search needs)
+    (λ c. search needs)
+    (λ c. search needs)
+    (λ c. search needs)
+    (λ c κs. search needs)
     returns
     returns-2
     returns-3)

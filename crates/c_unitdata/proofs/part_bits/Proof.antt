@@ -5,15 +5,9 @@ use borrow.Author.Needs.{needs}
 use Rattle.c_unitdata.proofs.part_bits.Statement.{statement}
 use Rattle.c_unitdata.proofs.part_bits.Tie as tie
 
-mul-result : tie.Need-mul-result
-mul-result c = search needs
-
-add-result : tie.Need-add-result
-add-result c = search needs
-
 returns : tie.Need-returns
 unfolding partBits
 returns c = (omega arith, omega arith)
 
 pub part-bits-spec : {M : Type 1} → statement M
-part-bits-spec = tie.close (tie.spec mul-result add-result returns)
+part-bits-spec = tie.close (tie.spec (λ c. search needs) (λ c. search needs) returns)

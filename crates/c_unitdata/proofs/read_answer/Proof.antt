@@ -4,16 +4,10 @@ use borrow.Author.Needs.{needs}
 use Rattle.c_unitdata.proofs.read_answer.Statement.{statement}
 use Rattle.c_unitdata.proofs.read_answer.Tie as tie
 
-read-unitdata-requires : tie.Need-read-unitdata-requires
-read-unitdata-requires c κs = search needs
-
-unitdata-bits-requires : tie.Need-unitdata-bits-requires
-unitdata-bits-requires c κs = search needs
-
 returns : tie.Need-returns
 unfolding unitdataAnswer
 returns c = rw (← (c .before .read-unitdata .ensures)) (c .unitdata-bits .ensures)
 
 pub read-answer-spec : {M : Type 1} → statement M
 read-answer-spec =
-    tie.close (tie.spec read-unitdata-requires unitdata-bits-requires returns)
+    tie.close (tie.spec (λ c κs. search needs) (λ c κs. search needs) returns)

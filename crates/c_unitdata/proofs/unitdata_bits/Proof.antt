@@ -5,35 +5,14 @@ use borrow.Author.Needs.{needs}
 use Rattle.c_unitdata.proofs.unitdata_bits.Statement.{statement}
 use Rattle.c_unitdata.proofs.unitdata_bits.Tie as tie
 
-enum-known-read : tie.Need-enum-known-read
-enum-known-read c = search needs
-
-unitdata-number-requires : tie.Need-unitdata-number-requires
-unitdata-number-requires c κs = search needs
-
-cast-result : tie.Need-cast-result
-cast-result c = search needs
-
-enum-known-read-2 : tie.Need-enum-known-read-2
-enum-known-read-2 c = search needs
-
-part-bits-requires : tie.Need-part-bits-requires
-part-bits-requires c κs = search needs
-
 mul-addresses : tie.Need-mul-addresses
 mul-addresses c = omega arith
-
-part-bits-requires-2 : tie.Need-part-bits-requires-2
-part-bits-requires-2 c κs = search needs
 
 mul-addresses-2 : tie.Need-mul-addresses-2
 mul-addresses-2 c = omega arith
 
 add-addresses : tie.Need-add-addresses
 add-addresses c = omega arith
-
-part-bits-requires-3 : tie.Need-part-bits-requires-3
-part-bits-requires-3 c κs = search needs
 
 mul-result : tie.Need-mul-result
 mul-result c = omega arith
@@ -53,16 +32,16 @@ pub unitdata-bits-spec : {M : Type 1} → statement M
 unitdata-bits-spec =
     tie.close
     (tie.spec
-    enum-known-read
-    unitdata-number-requires
-    cast-result
-    enum-known-read-2
-    part-bits-requires
+    (λ c. search needs)
+    (λ c κs. search needs)
+    (λ c. search needs)
+    (λ c. search needs)
+    (λ c κs. search needs)
     mul-addresses
-    part-bits-requires-2
+    (λ c κs. search needs)
     mul-addresses-2
     add-addresses
-    part-bits-requires-3
+    (λ c κs. search needs)
     mul-result
     add-result
     returns

@@ -5,18 +5,6 @@ use Rattle.c_write.specs.Write.{writtenBits}
 use Rattle.c_write.proofs.written_bits.Statement.{statement}
 use Rattle.c_write.proofs.written_bits.Tie as tie
 
-enum-known-written : tie.Need-enum-known-written
-enum-known-written c = search needs
-
-mul-result : tie.Need-mul-result
-mul-result c = search needs
-
-enum-known-written-2 : tie.Need-enum-known-written-2
-enum-known-written-2 c = search needs
-
-write-number-requires : tie.Need-write-number-requires
-write-number-requires c κs = search needs
-
 returns : tie.Need-returns
 unfolding writtenBits lengthBits
 returns c = rw (c .before .written .given .1)
@@ -29,9 +17,9 @@ pub written-bits-spec : {M : Type 1} → statement M
 written-bits-spec =
     tie.close
     (tie.spec
-    enum-known-written
-    mul-result
-    enum-known-written-2
-    write-number-requires
+    (λ c. search needs)
+    (λ c. search needs)
+    (λ c. search needs)
+    (λ c κs. search needs)
     returns
     returns-2)

@@ -24,9 +24,6 @@ loop-holds c = (omega arith, put-none _ _ (omega arith) (omega arith))
 shared-slice-read-put-two-digits : tie.Need-shared-slice-read-put-two-digits Inv-loop μ-loop
 shared-slice-read-put-two-digits c = omega arith
 
-put-two-digits-requires : tie.Need-put-two-digits-requires Inv-loop μ-loop
-put-two-digits-requires c κs = search needs
-
 add-i : tie.Need-add-i Inv-loop μ-loop
 add-i c = omega arith
 
@@ -50,7 +47,7 @@ put-hex-spec =
     μ-loop
     loop-holds
     shared-slice-read-put-two-digits
-    put-two-digits-requires
+    (λ c κs. search needs)
     add-i
     loop-less
     loop-again

@@ -10,38 +10,11 @@ use Rattle.digits.proofs.put_signed.Tie as tie
 bits-requires : tie.Need-bits-requires
 bits-requires c κs = rw (toZ-ofZ (c .before .fits .value)) (omega (arith, c .before .fits .value .sfits))
 
-cast-put-decimal : tie.Need-cast-put-decimal
-cast-put-decimal c = search needs
-
-put-decimal-requires : tie.Need-put-decimal-requires
-put-decimal-requires c κs = search needs
-
-same-length : tie.Need-same-length
-same-length c = search needs
-
 returns : tie.Need-returns
 returns c =
     let s = c .before .before .before .before .before .before .before in
     let b = rw (toZ-ofZ (s .fits .value)) at (c .before .before .before .before .before .bits .ensures) in
     rw (signed-low (s .args .value) (c .before .before .before .before .before .bits .result) (omega (arith, s .fits .value .sfits)) b (c .before .before .before .before .if1 .taken)) (c .before .before .put-decimal .ensures)
-
-put-octet-requires : tie.Need-put-octet-requires
-put-octet-requires c κs = search needs
-
-sub-put-decimal : tie.Need-sub-put-decimal
-sub-put-decimal c = search needs
-
-cast-put-decimal-2 : tie.Need-cast-put-decimal-2
-cast-put-decimal-2 c = search needs
-
-add-put-decimal : tie.Need-add-put-decimal
-add-put-decimal c = search needs
-
-put-decimal-requires-2 : tie.Need-put-decimal-requires-2
-put-decimal-requires-2 c κs = search needs
-
-same-length-2 : tie.Need-same-length-2
-same-length-2 c = search needs
 
 returns-2 : tie.Need-returns-2
 returns-2 c =
@@ -54,14 +27,14 @@ put-signed-spec =
     tie.close
     (tie.spec
     bits-requires
-    cast-put-decimal
-    put-decimal-requires
-    same-length
+    (λ c. search needs)
+    (λ c κs. search needs)
+    (λ c. search needs)
     returns
-    put-octet-requires
-    sub-put-decimal
-    cast-put-decimal-2
-    add-put-decimal
-    put-decimal-requires-2
-    same-length-2
+    (λ c κs. search needs)
+    (λ c. search needs)
+    (λ c. search needs)
+    (λ c. search needs)
+    (λ c κs. search needs)
+    (λ c. search needs)
     returns-2)

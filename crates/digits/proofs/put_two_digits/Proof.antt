@@ -4,21 +4,6 @@ use Rattle.base.proofs.Puts.{put-then}
 use Rattle.digits.proofs.put_two_digits.Statement.{statement}
 use Rattle.digits.proofs.put_two_digits.Tie as tie
 
-hex-digit-requires : tie.Need-hex-digit-requires
-hex-digit-requires c κs = search needs
-
-hex-digit-requires-2 : tie.Need-hex-digit-requires-2
-hex-digit-requires-2 c κs = search needs
-
-put-octet-requires : tie.Need-put-octet-requires
-put-octet-requires c κs = search needs
-
-put-octet-requires-2 : tie.Need-put-octet-requires-2
-put-octet-requires-2 c κs = search needs
-
-same-length : tie.Need-same-length
-same-length c = search needs
-
 returns : tie.Need-returns
 returns c = rw (← c .before .before .before .before .before .before .before .before .before .hex-digit .ensures, ← c .before .before .before .before .before .before .before .before .hex-digit2 .ensures) (put-then (c .before .before .before .before .before .before .put-octet .ensures) (c .before .before .put-octet2 .ensures))
 
@@ -26,9 +11,9 @@ pub put-two-digits-spec : {M : Type 1} → statement M
 put-two-digits-spec =
     tie.close
     (tie.spec
-    hex-digit-requires
-    hex-digit-requires-2
-    put-octet-requires
-    put-octet-requires-2
-    same-length
+    (λ c κs. search needs)
+    (λ c κs. search needs)
+    (λ c κs. search needs)
+    (λ c κs. search needs)
+    (λ c. search needs)
     returns)

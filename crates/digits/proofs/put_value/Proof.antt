@@ -13,17 +13,8 @@ use Rattle.digits.proofs.put_value.Tie as tie
 wide-id : (z : ℤ) → SFits w8 z → SFits w32 z
 wide-id z h = record { sfits = omega (arith, h .sfits) }
 
-put-octet-requires : tie.Need-put-octet-requires
-put-octet-requires c κs = search needs
-
 cast-put-signed : tie.Need-cast-put-signed
 cast-put-signed c = rw (toZ-ofZ (c .before .before .before .before .before .before .fits .id)) (wide-id (c .before .before .before .before .before .before .args .id) (c .before .before .before .before .before .before .fits .id))
-
-put-signed-requires : tie.Need-put-signed-requires
-put-signed-requires c κs = search needs
-
-same-length : tie.Need-same-length
-same-length c = search needs
 
 returns : tie.Need-returns
 unfolding value
@@ -33,4 +24,4 @@ returns c =
 
 pub put-value-spec : {M : Type 1} → statement M
 put-value-spec =
-    tie.close (tie.spec put-octet-requires cast-put-signed put-signed-requires same-length returns)
+    tie.close (tie.spec (λ c κs. search needs) cast-put-signed (λ c κs. search needs) (λ c. search needs) returns)

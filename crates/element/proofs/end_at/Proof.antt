@@ -17,9 +17,6 @@ returns-3 : tie.Need-returns-3
 unfolding endTests
 returns-3 c = rw end-tests (search (tests, c .before .if1 .left))
 
-shared-slice-read-if4 : tie.Need-shared-slice-read-if4
-shared-slice-read-if4 c = search needs
-
 returns-4 : tie.Need-returns-4
 unfolding endTests
 returns-4 c = rw end-tests (search (tests, c .before .before .before .if1 .left))
@@ -27,9 +24,6 @@ returns-4 c = rw end-tests (search (tests, c .before .before .before .if1 .left)
 returns-5 : tie.Need-returns-5
 unfolding endTests
 returns-5 c = rw end-tests (search (tests, c .before .before .before .before .if1 .left))
-
-shared-slice-read-if6 : tie.Need-shared-slice-read-if6
-shared-slice-read-if6 c = search needs
 
 returns-6 : tie.Need-returns-6
 unfolding endTests
@@ -46,9 +40,9 @@ end-at-spec =
     returns
     returns-2
     returns-3
-    shared-slice-read-if4
+    (λ c. search needs)
     returns-4
     returns-5
-    shared-slice-read-if6
+    (λ c. search needs)
     returns-6
     returns-7)

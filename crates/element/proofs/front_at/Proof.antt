@@ -4,18 +4,6 @@ use borrow.Author.Needs.{needs}
 use Rattle.element.proofs.front_at.Statement.{statement}
 use Rattle.element.proofs.front_at.Tie as tie
 
-tag-at-requires : tie.Need-tag-at-requires
-tag-at-requires c κs = search needs
-
-enum-known-kind : tie.Need-enum-known-kind
-enum-known-kind c = search needs
-
-enum-known-first : tie.Need-enum-known-first
-enum-known-first c = search needs
-
-is-code-zero-requires : tie.Need-is-code-zero-requires
-is-code-zero-requires c κs = search needs
-
 returns : tie.Need-returns
 returns c = search front-zero
 
@@ -32,10 +20,10 @@ pub front-at-spec : {M : Type 1} → statement M
 front-at-spec =
     tie.close
     (tie.spec
-    tag-at-requires
-    enum-known-kind
-    enum-known-first
-    is-code-zero-requires
+    (λ c κs. search needs)
+    (λ c. search needs)
+    (λ c. search needs)
+    (λ c κs. search needs)
     returns
     returns-2
     returns-3

@@ -12,14 +12,8 @@ returns : tie.Need-returns
 unfolding within longOf lengthOf
 returns c = search tests
 
-shared-slice-read-b : tie.Need-shared-slice-read-b
-shared-slice-read-b c = search needs
-
 cast-b : tie.Need-cast-b
 cast-b c = omega (arith, c .shared-slice-known2 .given 0)
-
-sub-left : tie.Need-sub-left
-sub-left c = search needs
 
 returns-2 : tie.Need-returns-2
 unfolding within longOf lengthOf
@@ -45,21 +39,6 @@ returns-7 : tie.Need-returns-7
 unfolding within longOf lengthOf
 returns-7 c = search tests
 
-shared-slice-read-fewest : tie.Need-shared-slice-read-fewest
-shared-slice-read-fewest c = search needs
-
-fewest-requires : tie.Need-fewest-requires
-fewest-requires c κs = search needs
-
-piece-requires : tie.Need-piece-requires
-piece-requires c κs = search needs
-
-add-long-count : tie.Need-add-long-count
-add-long-count c = search needs
-
-long-count-requires : tie.Need-long-count-requires
-long-count-requires c κs = search needs
-
 returns-8 : tie.Need-returns-8
 unfolding within longOf lengthOf
 returns-8 c = search length-long
@@ -73,19 +52,19 @@ length-at-spec =
     tie.close
     (tie.spec
     returns
-    shared-slice-read-b
+    (λ c. search needs)
     cast-b
-    sub-left
+    (λ c. search needs)
     returns-2
     returns-3
     returns-4
     returns-5
     returns-6
     returns-7
-    shared-slice-read-fewest
-    fewest-requires
-    piece-requires
-    add-long-count
-    long-count-requires
+    (λ c. search needs)
+    (λ c κs. search needs)
+    (λ c κs. search needs)
+    (λ c. search needs)
+    (λ c κs. search needs)
     returns-8
     returns-9)

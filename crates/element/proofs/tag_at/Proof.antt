@@ -10,9 +10,6 @@ returns : tie.Need-returns
 unfolding tagOf first second third extendedOf
 returns c = search tests
 
-shared-slice-read-first : tie.Need-shared-slice-read-first
-shared-slice-read-first c = search needs
-
 returns-2 : tie.Need-returns-2
 unfolding tagOf first second third extendedOf
 returns-2 c = search tests
@@ -20,9 +17,6 @@ returns-2 c = search tests
 returns-3 : tie.Need-returns-3
 unfolding tagOf first second third extendedOf
 returns-3 c = search tests
-
-shared-slice-read-one : tie.Need-shared-slice-read-one
-shared-slice-read-one c = search needs
 
 returns-4 : tie.Need-returns-4
 unfolding tagOf first second third extendedOf
@@ -40,9 +34,6 @@ returns-7 : tie.Need-returns-7
 unfolding tagOf first second third extendedOf
 returns-7 c = search tests
 
-shared-slice-read-if8 : tie.Need-shared-slice-read-if8
-shared-slice-read-if8 c = search needs
-
 returns-8 : tie.Need-returns-8
 unfolding tagOf first second third extendedOf
 returns-8 c = search tests
@@ -50,9 +41,6 @@ returns-8 c = search tests
 returns-9 : tie.Need-returns-9
 unfolding tagOf first second third extendedOf
 returns-9 c = search tests
-
-shared-slice-read-if10 : tie.Need-shared-slice-read-if10
-shared-slice-read-if10 c = search needs
 
 returns-10 : tie.Need-returns-10
 unfolding tagOf first second third extendedOf
@@ -67,17 +55,17 @@ tag-at-spec =
     tie.close
     (tie.spec
     returns
-    shared-slice-read-first
+    (λ c. search needs)
     returns-2
     returns-3
-    shared-slice-read-one
+    (λ c. search needs)
     returns-4
     returns-5
     returns-6
     returns-7
-    shared-slice-read-if8
+    (λ c. search needs)
     returns-8
     returns-9
-    shared-slice-read-if10
+    (λ c. search needs)
     returns-10
     returns-11)

@@ -6,14 +6,8 @@ use borrow.Author.Needs.{needs}
 use Rattle.entry_octets.proofs.passed_eight.Statement.{statement}
 use Rattle.entry_octets.proofs.passed_eight.Tie as tie
 
-passed-four-requires : tie.Need-passed-four-requires
-passed-four-requires c κs = search needs
-
 returns : tie.Need-returns
 returns c = eight-short _ _ _ (c .before .passed-four .ensures) (c .if1 .taken)
-
-after-requires : tie.Need-after-requires
-after-requires c κs = search needs
 
 passed-four-requires-2 : tie.Need-passed-four-requires-2
 passed-four-requires-2 c κs = rw (c .after .ensures) (simp length-drop (omega arith))
@@ -28,9 +22,9 @@ pub passed-eight-spec : {M : Type 1} → statement M
 passed-eight-spec =
     tie.close
     (tie.spec
-    passed-four-requires
+    (λ c κs. search needs)
     returns
-    after-requires
+    (λ c κs. search needs)
     passed-four-requires-2
     add-result
     returns-2)

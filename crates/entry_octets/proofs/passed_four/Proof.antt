@@ -6,15 +6,9 @@ use borrow.Author.Needs.{needs}
 use Rattle.entry_octets.proofs.passed_four.Statement.{statement}
 use Rattle.entry_octets.proofs.passed_four.Tie as tie
 
-holds-in-requires : tie.Need-holds-in-requires
-holds-in-requires c κs = search needs
-
 returns : tie.Need-returns
 unfolding passedIn
 returns c = rw (← c .before .holds-in .ensures, c .if1 .taken)
-
-after-requires : tie.Need-after-requires
-after-requires c κs = search needs
 
 holds-in-requires-2 : tie.Need-holds-in-requires-2
 holds-in-requires-2 c κs = one-less (c .before .before .before .before .args .part .now) _ 12 (c .after .ensures) (omega arith)
@@ -51,9 +45,9 @@ pub passed-four-spec : {M : Type 1} → statement M
 passed-four-spec =
     tie.close
     (tie.spec
-    holds-in-requires
+    (λ c κs. search needs)
     returns
-    after-requires
+    (λ c κs. search needs)
     holds-in-requires-2
     returns-2
     after-requires-2

@@ -8,24 +8,9 @@ use Rattle.judging.proofs.Joining.{size-short, size-long, size-most}
 use Rattle.judging.proofs.around.Statement.{statement}
 use Rattle.judging.proofs.around.Tie as tie
 
-enum-known-contents : tie.Need-enum-known-contents
-enum-known-contents c = search needs
-
-enum-known-contents-2 : tie.Need-enum-known-contents-2
-enum-known-contents-2 c = search needs
-
-add-t6 : tie.Need-add-t6
-add-t6 c = search needs
-
 returns : tie.Need-returns
 unfolding wrapped
 returns c = rw (c .before .before .contents2 .given .1) (ap Judged.Fine (omega (arith, size-short (c .before .before .contents2 .given .0 .0) (omega arith))))
-
-sub-if2 : tie.Need-sub-if2
-sub-if2 c = search needs
-
-add-t8 : tie.Need-add-t8
-add-t8 c = search needs
 
 returns-2 : tie.Need-returns-2
 unfolding wrapped
@@ -43,12 +28,12 @@ pub around-spec : {M : Type 1} → statement M
 around-spec =
     tie.close
     (tie.spec
-    enum-known-contents
-    enum-known-contents-2
-    add-t6
+    (λ c. search needs)
+    (λ c. search needs)
+    (λ c. search needs)
     returns
-    sub-if2
-    add-t8
+    (λ c. search needs)
+    (λ c. search needs)
     returns-2
     returns-3
     returns-4)

@@ -7,20 +7,8 @@ use Rattle.judging.proofs.Joining.{passed, later-fine, later-bad, later
 use Rattle.judging.proofs.name_judged.Statement.{statement}
 use Rattle.judging.proofs.name_judged.Tie as tie
 
-sized-judged-requires : tie.Need-sized-judged-requires
-sized-judged-requires c κs = search needs
-
-enum-known-k : tie.Need-enum-known-k
-enum-known-k c = search needs
-
-enum-known-n : tie.Need-enum-known-n
-enum-known-n c = search needs
-
 octets-of-requires : tie.Need-octets-of-requires
 octets-of-requires c κs = passed _ _ _ _ _ _ (sym (c .before .before .before .sized-judged .ensures) ∙ c .before .n .given .1) .lies
-
-identifier-ok-requires : tie.Need-identifier-ok-requires
-identifier-ok-requires c κs = search needs
 
 returns : tie.Need-returns
 returns c = later-fine _ _ true _ _ _ (sym (c .before .before .before .before .before .before .sized-judged .ensures) ∙ c .before .before .before .before .n .given .1) (ap identifierOk (sym (c .before .before .octets-of .ensures)) ∙ sym (c .before .identifier-ok .ensures) ∙ c .if1 .taken)
@@ -35,11 +23,11 @@ pub name-judged-spec : {M : Type 1} → statement M
 name-judged-spec =
     tie.close
     (tie.spec
-    sized-judged-requires
-    enum-known-k
-    enum-known-n
+    (λ c κs. search needs)
+    (λ c. search needs)
+    (λ c. search needs)
     octets-of-requires
-    identifier-ok-requires
+    (λ c κs. search needs)
     returns
     returns-2
     returns-3)

@@ -7,18 +7,9 @@ use Rattle.judging.proofs.Leaves.{octets-length}
 use Rattle.judging.proofs.octets_judged.Statement.{statement}
 use Rattle.judging.proofs.octets_judged.Tie as tie
 
-lies-in-requires : tie.Need-lies-in-requires
-lies-in-requires c κs = search needs
-
 returns : tie.Need-returns
 unfolding rankOf judged
 returns c = rw (← c .before .lies-in .ensures, not-true (c .before .lies-in .result) (c .if1 .taken))
-
-cast-len : tie.Need-cast-len
-cast-len c = search needs
-
-capped-requires : tie.Need-capped-requires
-capped-requires c κs = search needs
 
 returns-2 : tie.Need-returns-2
 unfolding rankOf judged
@@ -28,8 +19,8 @@ pub octets-judged-spec : {M : Type 1} → statement M
 octets-judged-spec =
     tie.close
     (tie.spec
-    lies-in-requires
+    (λ c κs. search needs)
     returns
-    cast-len
-    capped-requires
+    (λ c. search needs)
+    (λ c κs. search needs)
     returns-2)

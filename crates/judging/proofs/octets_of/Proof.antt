@@ -5,12 +5,6 @@ use Rattle.judging.specs.Verdict.{lies, octetsIn}
 use Rattle.judging.proofs.octets_of.Statement.{statement}
 use Rattle.judging.proofs.octets_of.Tie as tie
 
-cast-place : tie.Need-cast-place
-cast-place c = search needs
-
-cast-len : tie.Need-cast-len
-cast-len c = search needs
-
 piece-requires : tie.Need-piece-requires
 unfolding lies
 piece-requires c κs = leb-true _ _ (c .before .before .before .pre)
@@ -23,7 +17,7 @@ pub octets-of-spec : {M : Type 1} → statement M
 octets-of-spec =
     tie.close
     (tie.spec
-    cast-place
-    cast-len
+    (λ c. search needs)
+    (λ c. search needs)
     piece-requires
     returns)

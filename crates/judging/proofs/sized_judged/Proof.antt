@@ -15,9 +15,6 @@ returns-2 : tie.Need-returns-2
 unfolding rankOf judged ranges
 returns-2 c = search tests
 
-octets-judged-requires : tie.Need-octets-judged-requires
-octets-judged-requires c κs = search needs
-
 returns-3 : tie.Need-returns-3
 unfolding ranges
 returns-3 c = rw (le-leb _ _ (c .before .before .if1 .left), le-leb _ _ (c .before .if2 .left)) (c .octets-judged .ensures)
@@ -28,5 +25,5 @@ sized-judged-spec =
     (tie.spec
     returns
     returns-2
-    octets-judged-requires
+    (λ c κs. search needs)
     returns-3)

@@ -6,18 +6,9 @@ use Rattle.judging.specs.Verdict.{tookAll}
 use Rattle.judging.proofs.walk_judged.Statement.{statement}
 use Rattle.judging.proofs.walk_judged.Tie as tie
 
-enum-known-walk : tie.Need-enum-known-walk
-enum-known-walk c = search needs
-
-enum-known-walk-2 : tie.Need-enum-known-walk-2
-enum-known-walk-2 c = search needs
-
 returns : tie.Need-returns
 unfolding rankOf judged tookAll
 returns c = rw (c .before .before .walk2 .given .1, ne-eqb _ _ (c .if1 .taken))
-
-capped-requires : tie.Need-capped-requires
-capped-requires c κs = search needs
 
 returns-2 : tie.Need-returns-2
 unfolding rankOf judged tookAll
@@ -31,9 +22,9 @@ pub walk-judged-spec : {M : Type 1} → statement M
 walk-judged-spec =
     tie.close
     (tie.spec
-    enum-known-walk
-    enum-known-walk-2
+    (λ c. search needs)
+    (λ c. search needs)
     returns
-    capped-requires
+    (λ c κs. search needs)
     returns-2
     returns-3)

@@ -6,28 +6,13 @@ use Rattle.listing.proofs.Room.{cut-length, too-long, has-room}
 use Rattle.listing.proofs.list_reading.Statement.{statement}
 use Rattle.listing.proofs.list_reading.Tie as tie
 
-slice-relend-prefix-put-reading : tie.Need-slice-relend-prefix-put-reading
-slice-relend-prefix-put-reading c = search needs
-
 slice-aggregate-put-reading : tie.Need-slice-aggregate-put-reading
 slice-aggregate-put-reading c = search (needs, cut-length)
-
-put-reading-requires : tie.Need-put-reading-requires
-put-reading-requires c κs = search needs
-
-same-length : tie.Need-same-length
-same-length c = search needs
 
 returns : tie.Need-returns
 returns c =
     let counted = c .before .before .before .put-reading .ensures in
     rw (put-nowhere counted) (too-long _ _ counted (rw (put-nowhere counted) at (c .if1 .taken)))
-
-put-reading-requires-2 : tie.Need-put-reading-requires-2
-put-reading-requires-2 c κs = search needs
-
-same-length-2 : tie.Need-same-length-2
-same-length-2 c = search needs
 
 returns-2 : tie.Need-returns-2
 returns-2 c =
@@ -38,11 +23,11 @@ pub list-reading-spec : {M : Type 1} → statement M
 list-reading-spec =
     tie.close
     (tie.spec
-    slice-relend-prefix-put-reading
+    (λ c. search needs)
     slice-aggregate-put-reading
-    put-reading-requires
-    same-length
+    (λ c κs. search needs)
+    (λ c. search needs)
     returns
-    put-reading-requires-2
-    same-length-2
+    (λ c κs. search needs)
+    (λ c. search needs)
     returns-2)

@@ -7,24 +7,9 @@ use Rattle.listing.proofs.put_reading.Tie as tie
 enum-told : tie.Need-enum-told
 enum-told c = search needs
 
-put-record-requires : tie.Need-put-record-requires
-put-record-requires c κs = search needs
-
-enum-known-outcome : tie.Need-enum-known-outcome
-enum-known-outcome c = search needs
-
-put-refusal-requires : tie.Need-put-refusal-requires
-put-refusal-requires c κs = search needs
-
-same-length : tie.Need-same-length
-same-length c = search needs
-
 returns : tie.Need-returns
 unfolding listingOf outcomeText
 returns c = rw (c .before .before .before .before .enum-told .given .1) (c .before .before .put-record .ensures)
-
-same-length-2 : tie.Need-same-length-2
-same-length-2 c = search needs
 
 returns-2 : tie.Need-returns-2
 unfolding listingOf outcomeText
@@ -35,10 +20,10 @@ put-reading-spec =
     tie.close
     (tie.spec
     enum-told
-    put-record-requires
-    enum-known-outcome
-    put-refusal-requires
-    same-length
+    (λ c κs. search needs)
+    (λ c. search needs)
+    (λ c κs. search needs)
+    (λ c. search needs)
     returns
-    same-length-2
+    (λ c. search needs)
     returns-2)

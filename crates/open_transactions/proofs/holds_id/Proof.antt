@@ -4,12 +4,6 @@ use borrow.Author.Needs.{needs}
 use Rattle.open_transactions.proofs.holds_id.Statement.{statement}
 use Rattle.open_transactions.proofs.holds_id.Tie as tie
 
-is-open-requires : tie.Need-is-open-requires
-is-open-requires c κs = search needs
-
-same-id-requires : tie.Need-same-id-requires
-same-id-requires c κs = search needs
-
 returns : tie.Need-returns
 unfolding holds
 returns c = rw (← c .before .before .is-open .ensures, c .before .if1 .taken) (c .same-id .ensures)
@@ -19,4 +13,4 @@ unfolding holds
 returns-2 c = rw (← c .before .is-open .ensures, c .if1 .left)
 
 pub holds-id-spec : {M : Type 1} → statement M
-holds-id-spec = tie.close (tie.spec is-open-requires same-id-requires returns returns-2)
+holds-id-spec = tie.close (tie.spec (λ c κs. search needs) (λ c κs. search needs) returns returns-2)

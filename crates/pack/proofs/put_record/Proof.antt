@@ -31,12 +31,6 @@ sixteen : (c : tie.Start Inv-loop μ-loop) → length (c .args .t2 .rows) ≡ 16
 unfolding laidOut
 sixteen c = fits c .sixteen
 
-least-requires : tie.Need-least-requires Inv-loop μ-loop
-least-requires c κs = search needs
-
-least-requires-2 : tie.Need-least-requires-2 Inv-loop μ-loop
-least-requires-2 c κs = search needs
-
 put-head-requires : tie.Need-put-head-requires Inv-loop μ-loop
 put-head-requires c κs = omega (arith, c .before .before .before .before .pre)
 
@@ -78,8 +72,8 @@ put-record-spec =
     (tie.spec
     Inv-loop
     μ-loop
-    least-requires
-    least-requires-2
+    (λ c κs. search needs)
+    (λ c κs. search needs)
     put-head-requires
     loop-holds
     mul-row

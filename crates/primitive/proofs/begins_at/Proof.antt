@@ -9,15 +9,9 @@ returns : tie.Need-returns
 unfolding beginsAt
 returns c = search tests
 
-sub-result : tie.Need-sub-result
-sub-result c = search needs
-
-shared-slice-read-result : tie.Need-shared-slice-read-result
-shared-slice-read-result c = search needs
-
 returns-2 : tie.Need-returns-2
 unfolding beginsAt
 returns-2 c = search tests
 
 pub begins-at-spec : {M : Type 1} → statement M
-begins-at-spec = tie.close (tie.spec returns sub-result shared-slice-read-result returns-2)
+begins-at-spec = tie.close (tie.spec returns (λ c. search needs) (λ c. search needs) returns-2)

@@ -14,9 +14,6 @@ use Rattle.primitive.proofs.bits.Tie as tie
 back : (c : tie.Start) → toZ w32 (ofZ w32 (c .args .value)) ≡ c .args .value
 back c = toZ-ofZ (c .fits .value)
 
-magnitude-requires : tie.Need-magnitude-requires
-magnitude-requires c κs = search needs
-
 sub-result : tie.Need-sub-result
 sub-result c =
     let far : c .before .magnitude .result ≡ mag (c .before .before .args .value) = rw (back (c .before .before)) at (c .before .magnitude .ensures) in
@@ -31,4 +28,4 @@ returns-2 c =
     rw (bits-by-sign, rw (back (c .before .before)) at (c .if1 .left), rw (back (c .before .before)) at (c .before .magnitude .ensures))
 
 pub bits-spec : {M : Type 1} → statement M
-bits-spec = tie.close (tie.spec magnitude-requires sub-result returns returns-2)
+bits-spec = tie.close (tie.spec (λ c κs. search needs) sub-result returns returns-2)

@@ -13,22 +13,13 @@ use Rattle.primitive.proofs.Integers.{range-far}
 use Rattle.primitive.proofs.fits.Statement.{statement}
 use Rattle.primitive.proofs.fits.Tie as tie
 
-lies-requires : tie.Need-lies-requires
-lies-requires c κs = search needs
-
 returns : tie.Need-returns
 unfolding holds topOf
 returns c = rw (c .before .if1 .taken) (rw (toZ-ofZ {w = w32} (c .before .before .fits .value)) at (c .lies .ensures) ∙ range-far 127 (c .before .before .args .value))
 
-lies-requires-2 : tie.Need-lies-requires-2
-lies-requires-2 c κs = search needs
-
 returns-2 : tie.Need-returns-2
 unfolding holds topOf
 returns-2 c = rw (c .before .if2 .taken) (rw (toZ-ofZ {w = w32} (c .before .before .before .fits .value)) at (c .lies2 .ensures) ∙ range-far 32767 (c .before .before .before .args .value))
-
-lies-requires-3 : tie.Need-lies-requires-3
-lies-requires-3 c κs = search needs
 
 returns-3 : tie.Need-returns-3
 unfolding holds topOf
@@ -43,4 +34,4 @@ returns-4 c =
 pub fits-spec : {M : Type 1} → statement M
 fits-spec =
     tie.close
-    (tie.spec lies-requires returns lies-requires-2 returns-2 lies-requires-3 returns-3 returns-4)
+    (tie.spec (λ c κs. search needs) returns (λ c κs. search needs) returns-2 (λ c κs. search needs) returns-3 returns-4)

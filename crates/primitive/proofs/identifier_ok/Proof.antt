@@ -52,9 +52,6 @@ loop-holds : tie.Need-loop-holds Inv-loop μ-loop
 unfolding beginsAt
 loop-holds c = (search needs, refl)
 
-goes-on-requires : tie.Need-goes-on-requires Inv-loop μ-loop
-goes-on-requires c κs = search needs
-
 returns-3 : tie.Need-returns-3 Inv-loop μ-loop
 unfolding identifierOk
 returns-3 c =
@@ -62,12 +59,6 @@ returns-3 c =
     let s = l .before .before .before .before .args .contents .now in
     let h : l .loop .at < length s = omega arith in
     rw (← l .loop .inv .1, one-more s (l .loop .at) (beginsAt (l .loop .at) s) h, ← c .before .goes-on .ensures, not-true (c .before .goes-on .result) (c .if3 .taken)) (search tests)
-
-add-at : tie.Need-add-at Inv-loop μ-loop
-add-at c = search needs
-
-loop-less : tie.Need-loop-less Inv-loop μ-loop
-loop-less c = search needs
 
 loop-again : tie.Need-loop-again Inv-loop μ-loop
 loop-again c =
@@ -77,9 +68,6 @@ loop-again c =
       omega arith,
       rw (one-more s (l .loop .at) (beginsAt (l .loop .at) s) h, ← c .before .goes-on .ensures, not-false (c .before .goes-on .result) (c .if3 .left)) at (l .loop .inv .1),
     )
-
-begins-at-requires : tie.Need-begins-at-requires Inv-loop μ-loop
-begins-at-requires c κs = search needs
 
 returns-4 : tie.Need-returns-4 Inv-loop μ-loop
 unfolding identifierOk
@@ -98,10 +86,10 @@ identifier-ok-spec =
     returns
     returns-2
     loop-holds
-    goes-on-requires
+    (λ c κs. search needs)
     returns-3
-    add-at
-    loop-less
+    (λ c. search needs)
+    (λ c. search needs)
     loop-again
-    begins-at-requires
+    (λ c κs. search needs)
     returns-4)

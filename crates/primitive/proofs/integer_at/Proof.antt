@@ -17,15 +17,9 @@ returns-2 : tie.Need-returns-2
 unfolding integerOf integerOk
 returns-2 c = search tests
 
-is-fewest-requires : tie.Need-is-fewest-requires
-is-fewest-requires c κs = search needs
-
 returns-3 : tie.Need-returns-3
 unfolding integerOf integerOk
 returns-3 c = rw (← c .before .is-fewest .ensures, not-true (c .before .is-fewest .result) (c .if3 .taken)) (search tests)
-
-value-of-requires : tie.Need-value-of-requires
-value-of-requires c κs = search needs
 
 returns-4 : tie.Need-returns-4
 unfolding integerOf integerOk
@@ -40,4 +34,4 @@ returns-4 c =
 
 pub integer-at-spec : {M : Type 1} → statement M
 integer-at-spec =
-    tie.close (tie.spec returns returns-2 is-fewest-requires returns-3 value-of-requires returns-4)
+    tie.close (tie.spec returns returns-2 (λ c κs. search needs) returns-3 (λ c κs. search needs) returns-4)

@@ -18,22 +18,13 @@ two c = sym (rw (toZ-ofZ {w = w32} (c .before .before .before .fits .value)) at 
 three : (c : tie.After-fits4) → holds 3 (c .before .before .before .before .before .args .value) ≡ c .fits4 .result
 three c = sym (rw (toZ-ofZ {w = w32} (c .before .before .before .before .before .fits .value)) at (c .fits4 .ensures))
 
-fits-requires : tie.Need-fits-requires
-fits-requires c κs = search needs
-
 returns : tie.Need-returns
 unfolding widthFrom
 returns c = rw (integer-length, one (c .before) ∙ c .if1 .taken)
 
-fits-requires-2 : tie.Need-fits-requires-2
-fits-requires-2 c κs = search needs
-
 returns-2 : tie.Need-returns-2
 unfolding widthFrom
 returns-2 c = rw (integer-length, one (c .before .before .before) ∙ c .before .before .if1 .left, two (c .before) ∙ c .if2 .taken)
-
-fits-requires-3 : tie.Need-fits-requires-3
-fits-requires-3 c κs = search needs
 
 returns-3 : tie.Need-returns-3
 unfolding widthFrom
@@ -58,4 +49,4 @@ returns-4 c =
 pub integer-size-spec : {M : Type 1} → statement M
 integer-size-spec =
     tie.close
-    (tie.spec fits-requires returns fits-requires-2 returns-2 fits-requires-3 returns-3 returns-4)
+    (tie.spec (λ c κs. search needs) returns (λ c κs. search needs) returns-2 (λ c κs. search needs) returns-3 returns-4)

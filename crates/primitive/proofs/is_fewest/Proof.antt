@@ -23,15 +23,6 @@ range c = let s = c .before .args .contents .now in fewest-range s (octets-known
 returns : tie.Need-returns
 returns c = rw (range (c .before)) (search tests)
 
-value-of-requires : tie.Need-value-of-requires
-value-of-requires c κs = search needs
-
-sub-fits : tie.Need-sub-fits
-sub-fits c = search needs
-
-fits-requires : tie.Need-fits-requires
-fits-requires c κs = search needs
-
 returns-2 : tie.Need-returns-2
 returns-2 c =
     rw (
@@ -43,4 +34,4 @@ returns-2 c =
     (search tests)
 
 pub is-fewest-spec : {M : Type 1} → statement M
-is-fewest-spec = tie.close (tie.spec returns value-of-requires sub-fits fits-requires returns-2)
+is-fewest-spec = tie.close (tie.spec returns (λ c κs. search needs) (λ c. search needs) (λ c κs. search needs) returns-2)

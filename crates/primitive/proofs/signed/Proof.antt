@@ -11,15 +11,6 @@ use Rattle.base.proofs.Numbers.{minus-one-less}
 use Rattle.primitive.proofs.signed.Statement.{statement}
 use Rattle.primitive.proofs.signed.Tie as tie
 
-cast-result : tie.Need-cast-result
-cast-result c = search needs
-
-sub-result : tie.Need-sub-result
-sub-result c = search needs
-
-cast-result-2 : tie.Need-cast-result-2
-cast-result-2 c = search needs
-
 sub-result-2 : tie.Need-sub-result-2
 sub-result-2 c =
     let h : c .before .args .top - c .before .args .bits < 2 ^ 31 = omega arith in
@@ -39,4 +30,4 @@ returns-2 c =
 
 pub signed-spec : {M : Type 1} → statement M
 signed-spec =
-    tie.close (tie.spec cast-result sub-result cast-result-2 sub-result-2 returns returns-2)
+    tie.close (tie.spec (λ c. search needs) (λ c. search needs) (λ c. search needs) sub-result-2 returns returns-2)

@@ -17,9 +17,6 @@ read c = toZ-ofZ {w = w32} {z = c .signed .result} (record { sfits = c .signed .
 held : (c : tie.After-signed) → SFits w8 (signedAt 255 (c .before .args .octet))
 held c = record { sfits = omega (arith, signed-small 255 (c .before .args .octet)) }
 
-signed-requires : tie.Need-signed-requires
-signed-requires c κs = search needs
-
 cast-result : tie.Need-cast-result
 cast-result c = rw (read c) (held c)
 
@@ -27,4 +24,4 @@ returns : tie.Need-returns
 returns c = rw (read c) (toZ-ofZ {w = w8} (held c))
 
 pub signed-octet-spec : {M : Type 1} → statement M
-signed-octet-spec = tie.close (tie.spec signed-requires cast-result returns)
+signed-octet-spec = tie.close (tie.spec (λ c κs. search needs) cast-result returns)

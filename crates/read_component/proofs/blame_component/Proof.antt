@@ -7,15 +7,6 @@ use Rattle.read_component.proofs.Filled.{blame-owner, blame-id}
 use Rattle.read_component.proofs.blame_component.Statement.{statement}
 use Rattle.read_component.proofs.blame_component.Tie as tie
 
-known-id-requires : tie.Need-known-id-requires
-known-id-requires c κs = search needs
-
-slice-write-out : tie.Need-slice-write-out
-slice-write-out c = search needs
-
-cast-out : tie.Need-cast-out
-cast-out c = search needs
-
 slice-write-out-2 : tie.Need-slice-write-out-2
 slice-write-out-2 c = simp length-set (omega arith)
 
@@ -25,14 +16,8 @@ cast-out-2 c = omega (arith, c .known-id .ensures .1)
 slice-write-out-3 : tie.Need-slice-write-out-3
 slice-write-out-3 c = simp length-set (omega arith)
 
-cast-out-3 : tie.Need-cast-out-3
-cast-out-3 c = search needs
-
 slice-write-out-4 : tie.Need-slice-write-out-4
 slice-write-out-4 c = simp length-set (omega arith)
-
-same-length : tie.Need-same-length
-same-length c = search needs
 
 returns : tie.Need-returns
 returns c = (blame-owner (c .before .before .before .args .k) (c .known-id .result) (c .before .before .before .args .out .now) (search needs), blame-id (c .before .before .before .args .k) (c .known-id .result) (c .before .before .before .args .out .now) (search needs) (now (c .before .before .before .args .m)) (c .before .before .before .args .at) (c .before .before .before .args .stop) (c .known-id .ensures .0))
@@ -41,13 +26,13 @@ pub blame-component-spec : {M : Type 1} → statement M
 blame-component-spec =
     tie.close
     (tie.spec
-    known-id-requires
-    slice-write-out
-    cast-out
+    (λ c κs. search needs)
+    (λ c. search needs)
+    (λ c. search needs)
     slice-write-out-2
     cast-out-2
     slice-write-out-3
-    cast-out-3
+    (λ c. search needs)
     slice-write-out-4
-    same-length
+    (λ c. search needs)
     returns)

@@ -8,20 +8,8 @@ use Rattle.read_component.proofs.Ids.{octet-inside, told-wrong, told-en
 use Rattle.read_component.proofs.known_id.Statement.{statement}
 use Rattle.read_component.proofs.known_id.Tie as tie
 
-shared-slice-read-tag : tie.Need-shared-slice-read-tag
-shared-slice-read-tag c = search needs
-
-is-component-requires : tie.Need-is-component-requires
-is-component-requires c κs = search needs
-
-entry-asked-requires : tie.Need-entry-asked-requires
-entry-asked-requires c κs = search needs
-
 returns : tie.Need-returns
 returns c = search (needs, told-entry)
-
-add-start-of : tie.Need-add-start-of
-add-start-of c = search needs
 
 start-of-requires : tie.Need-start-of-requires
 start-of-requires c κs = search (needs, entry-inside)
@@ -56,11 +44,11 @@ pub known-id-spec : {M : Type 1} → statement M
 known-id-spec =
     tie.close
     (tie.spec
-    shared-slice-read-tag
-    is-component-requires
-    entry-asked-requires
+    (λ c. search needs)
+    (λ c κs. search needs)
+    (λ c κs. search needs)
     returns
-    add-start-of
+    (λ c. search needs)
     start-of-requires
     octet-at-requires
     returns-2

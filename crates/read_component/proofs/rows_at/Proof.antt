@@ -21,14 +21,8 @@ abbrev μ-loop : tie.MeasureT-loop
 loop-holds : tie.Need-loop-holds Inv-loop μ-loop
 loop-holds c = search (needs, onward-start, telling-start, filling-start)
 
-ended-requires : tie.Need-ended-requires Inv-loop μ-loop
-ended-requires c κs = search needs
-
 slice-write-out : tie.Need-slice-write-out Inv-loop μ-loop
 slice-write-out c = omega (arith, c .before .before .before .loop .inv .4)
-
-add-result : tie.Need-add-result Inv-loop μ-loop
-add-result c = search needs
 
 same-length : tie.Need-same-length Inv-loop μ-loop
 same-length c = stored (c .before .before .before .loop .out) 0 0 ∙ c .before .before .before .loop .inv .4 ∙ sym (c .before .before .before .before .before .before .pre .1)
@@ -36,14 +30,8 @@ same-length c = stored (c .before .before .before .loop .out) 0 0 ∙ c .before 
 returns : tie.Need-returns Inv-loop μ-loop
 returns c = (rows-none _ _ _ _ _ (c .before .before .before .loop .inv .2) _ (c .before .before .ended .ensures) (c .before .if1 .taken) (c .if2 .taken), none-filled _ _ _ _ _ (c .before .before .before .loop .inv .2) (c .before .before .before .loop .inv .3) _ (c .before .before .before .loop .out) (omega (arith, c .before .before .before .loop .inv .4)) _ (c .before .before .ended .ensures) (c .before .if1 .taken) (c .if2 .taken))
 
-cast-out : tie.Need-cast-out Inv-loop μ-loop
-cast-out c = search needs
-
 slice-write-out-2 : tie.Need-slice-write-out-2 Inv-loop μ-loop
 slice-write-out-2 c = omega (arith, c .before .before .before .loop .inv .4)
-
-behind-requires : tie.Need-behind-requires Inv-loop μ-loop
-behind-requires c κs = search needs
 
 same-length-2 : tie.Need-same-length-2 Inv-loop μ-loop
 same-length-2 c = stored (c .before .before .before .before .loop .out) 7 (c .before .before .before .before .loop .k) ∙ c .before .before .before .before .loop .inv .4 ∙ sym (c .before .before .before .before .before .before .before .pre .1)
@@ -51,14 +39,8 @@ same-length-2 c = stored (c .before .before .before .before .loop .out) 7 (c .be
 returns-2 : tie.Need-returns-2 Inv-loop μ-loop
 returns-2 c = (rows-ended _ _ _ _ _ (c .before .before .before .before .loop .inv .2) (c .before .before .before .before .loop .inv .0) (c .before .before .before .before .before .before .before .pre .0 .0 .1) _ (c .before .before .before .ended .ensures) (c .before .before .if1 .taken) (c .before .if2 .left) _ (c .behind .ensures), ended-filled _ _ _ _ _ _ _ (c .before .before .before .before .loop .inv .5) _ (c .before .before .before .ended .ensures) (c .before .before .if1 .taken) (c .before .if2 .left))
 
-unfinished-requires : tie.Need-unfinished-requires Inv-loop μ-loop
-unfinished-requires c κs = search needs
-
 slice-write-out-3 : tie.Need-slice-write-out-3 Inv-loop μ-loop
 slice-write-out-3 c = omega (arith, c .before .before .before .before .loop .inv .4)
-
-add-result-2 : tie.Need-add-result-2 Inv-loop μ-loop
-add-result-2 c = search needs
 
 same-length-3 : tie.Need-same-length-3 Inv-loop μ-loop
 same-length-3 c = stored (c .before .before .before .before .loop .out) 0 0 ∙ c .before .before .before .before .loop .inv .4 ∙ sym (c .before .before .before .before .before .before .before .pre .1)
@@ -69,26 +51,11 @@ returns-3 c = (rows-cut _ _ _ _ _ (c .before .before .before .before .loop .inv 
 slice-write-out-4 : tie.Need-slice-write-out-4 Inv-loop μ-loop
 slice-write-out-4 c = omega (arith, c .before .before .before .before .before .loop .inv .4)
 
-add-result-3 : tie.Need-add-result-3 Inv-loop μ-loop
-add-result-3 c = search needs
-
 same-length-4 : tie.Need-same-length-4 Inv-loop μ-loop
 same-length-4 c = stored (c .before .before .before .before .before .loop .out) 0 0 ∙ c .before .before .before .before .before .loop .inv .4 ∙ sym (c .before .before .before .before .before .before .before .before .pre .1)
 
 returns-4 : tie.Need-returns-4 Inv-loop μ-loop
 returns-4 c = (rows-full _ _ _ _ _ (c .before .before .before .before .before .loop .inv .2) _ _ (c .before .before .before .before .ended .ensures) (c .before .before .unfinished .ensures) (c .before .before .before .if1 .left) (c .before .if3 .left) (c .if4 .taken), full-filled _ _ _ _ _ (c .before .before .before .before .before .loop .inv .2) (c .before .before .before .before .before .loop .inv .3) _ (c .before .before .before .before .before .loop .out) _ _ (c .before .before .before .before .ended .ensures) (c .before .before .unfinished .ensures) (c .before .before .before .if1 .left) (c .before .if3 .left) (omega (arith, c .before .before .before .before .before .loop .inv .4)) (c .if4 .taken))
-
-mul-o : tie.Need-mul-o Inv-loop μ-loop
-mul-o c = search needs
-
-add-o : tie.Need-add-o Inv-loop μ-loop
-add-o c = search needs
-
-add-e : tie.Need-add-e Inv-loop μ-loop
-add-e c = search needs
-
-sub-component-at : tie.Need-sub-component-at Inv-loop μ-loop
-sub-component-at c = search needs
 
 part-component-at-start : tie.Need-part-component-at-start Inv-loop μ-loop
 part-component-at-start c = omega arith
@@ -108,9 +75,6 @@ same-length-5 c = omega (arith, c .before .out2 .given, c .before .before .befor
 returns-5 : tie.Need-returns-5 Inv-loop μ-loop
 returns-5 c = (rows-far _ _ _ _ _ (c .before .before .before .before .before .before .before .before .before .before .before .before .before .before .loop .inv .2) _ _ (c .before .before .before .before .before .before .before .before .before .before .before .before .before .ended .ensures) (c .before .before .before .before .before .before .before .before .before .before .before .unfinished .ensures) (c .before .before .before .before .before .before .before .before .before .before .before .before .if1 .left) (c .before .before .before .before .before .before .before .before .before .before .if3 .left) (c .before .before .before .before .before .before .before .before .before .before .before .before .before .before .loop .inv .1) (c .before .before .before .before .before .before .before .before .before .if4 .left) _ (c .before .before .before .before .before .before .before .component-at .ensures .0) (c .before .before .before .before .if5 .taken), far-filled _ _ _ _ _ (c .before .before .before .before .before .before .before .before .before .before .before .before .before .before .loop .inv .2) (c .before .before .before .before .before .before .before .before .before .before .before .before .before .before .loop .inv .3) _ (c .before .before .before .before .before .before .before .before .before .before .before .before .before .before .loop .out) _ _ (c .before .before .before .before .before .before .before .before .before .before .before .before .before .ended .ensures) (c .before .before .before .before .before .before .before .before .before .before .before .unfinished .ensures) (c .before .before .before .before .before .before .before .before .before .before .before .before .if1 .left) (c .before .before .before .before .before .before .before .before .before .before .if3 .left) (c .before .before .before .before .before .before .before .before .before .before .before .before .before .before .loop .inv .1) (c .before .before .before .before .before .before .before .before .before .if4 .left) _ (c .before .before .before .before .before .before .before .component-at .ensures .0) (c .before .before .before .before .if5 .taken) _ (c .before .before .blame-component .ensures .0) (c .before .before .blame-component .ensures .1))
 
-add-k : tie.Need-add-k Inv-loop μ-loop
-add-k c = search needs
-
 loop-less : tie.Need-loop-less Inv-loop μ-loop
 loop-less c = omega (arith, c .before .before .before .before .before .before .before .before .before .before .loop .inv .1, c .before .before .before .before .before .if4 .left)
 
@@ -124,35 +88,35 @@ rows-at-spec =
     Inv-loop
     μ-loop
     loop-holds
-    ended-requires
+    (λ c κs. search needs)
     slice-write-out
-    add-result
+    (λ c. search needs)
     same-length
     returns
-    cast-out
+    (λ c. search needs)
     slice-write-out-2
-    behind-requires
+    (λ c κs. search needs)
     same-length-2
     returns-2
-    unfinished-requires
+    (λ c κs. search needs)
     slice-write-out-3
-    add-result-2
+    (λ c. search needs)
     same-length-3
     returns-3
     slice-write-out-4
-    add-result-3
+    (λ c. search needs)
     same-length-4
     returns-4
-    mul-o
-    add-o
-    add-e
-    sub-component-at
+    (λ c. search needs)
+    (λ c. search needs)
+    (λ c. search needs)
+    (λ c. search needs)
     part-component-at-start
     part-component-at-end
     component-at-requires
     blame-component-requires
     same-length-5
     returns-5
-    add-k
+    (λ c. search needs)
     loop-less
     loop-again)

@@ -7,23 +7,14 @@ use Rattle.read_dialogue.proofs.PdusLeft.{abort-left}
 use Rattle.read_dialogue.proofs.abort_at.Statement.{statement}
 use Rattle.read_dialogue.proofs.abort_at.Tie as tie
 
-entry-at-requires : tie.Need-entry-at-requires
-entry-at-requires c κs = search needs
-
 returns : tie.Need-returns
 returns c = search (abort-entry, leaves-far)
-
-add-start-of : tie.Need-add-start-of
-add-start-of c = search needs
 
 start-of-requires : tie.Need-start-of-requires
 start-of-requires c κs = search (needs, entry-inside)
 
 aborted-at-requires : tie.Need-aborted-at-requires
 aborted-at-requires c κs = search (needs, entry-from, entry-to)
-
-same-length : tie.Need-same-length
-same-length c = search needs
 
 returns-2 : tie.Need-returns-2
 returns-2 c = search (abort-near, abort-left)
@@ -32,10 +23,10 @@ pub abort-at-spec : {M : Type 1} → statement M
 abort-at-spec =
     tie.close
     (tie.spec
-    entry-at-requires
+    (λ c κs. search needs)
     returns
-    add-start-of
+    (λ c. search needs)
     start-of-requires
     aborted-at-requires
-    same-length
+    (λ c. search needs)
     returns-2)

@@ -9,20 +9,11 @@ use Rattle.read_dialogue.proofs.PdusLeft.{aborted-in, aborted-left}
 use Rattle.read_dialogue.proofs.aborted_at.Statement.{statement}
 use Rattle.read_dialogue.proofs.aborted_at.Tie as tie
 
-small-at-requires : tie.Need-small-at-requires
-small-at-requires c κs = search needs
-
 returns : tie.Need-returns
 returns c = search (aborted-far, leaves-all-far)
 
-add-out : tie.Need-add-out
-add-out c = search needs
-
 shared-slice-read-out : tie.Need-shared-slice-read-out
 shared-slice-read-out c = search aborted-in
-
-slice-write-out : tie.Need-slice-write-out
-slice-write-out c = search needs
 
 info-at-requires : tie.Need-info-at-requires
 info-at-requires c κs = search (needs, reads-within)
@@ -37,11 +28,11 @@ pub aborted-at-spec : {M : Type 1} → statement M
 aborted-at-spec =
     tie.close
     (tie.spec
-    small-at-requires
+    (λ c κs. search needs)
     returns
-    add-out
+    (λ c. search needs)
     shared-slice-read-out
-    slice-write-out
+    (λ c. search needs)
     info-at-requires
     same-length
     returns-2)

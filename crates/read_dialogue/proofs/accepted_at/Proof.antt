@@ -10,29 +10,17 @@ use Rattle.tcap.specs.Productions.{sourceItem}
 use Rattle.read_dialogue.proofs.accepted_at.Statement.{statement}
 use Rattle.read_dialogue.proofs.accepted_at.Tie as tie
 
-number-at-requires : tie.Need-number-at-requires
-number-at-requires c κs = search needs
-
-same-length : tie.Need-same-length
-same-length c = search needs
-
 returns : tie.Need-returns
 returns c = search (accepted-result, leaves-all-far)
 
 source-at-requires : tie.Need-source-at-requires
 source-at-requires c κs = search (needs, reads-within)
 
-same-length-2 : tie.Need-same-length-2
-same-length-2 c = search needs
-
 returns-2 : tie.Need-returns-2
 returns-2 c = search (accepted-source, leaves-all-far)
 
 info-at-requires : tie.Need-info-at-requires
 info-at-requires c κs = omega (arith, reads-within (sourceItem the93) _ _ _ _ (c .before .before .before .before .source-at .ensures .0) (c .before .if2 .left))
-
-same-length-3 : tie.Need-same-length-3
-same-length-3 c = search needs
 
 returns-3 : tie.Need-returns-3
 returns-3 c = search (accepted-near, accepted-left)
@@ -41,12 +29,12 @@ pub accepted-at-spec : {M : Type 1} → statement M
 accepted-at-spec =
     tie.close
     (tie.spec
-    number-at-requires
-    same-length
+    (λ c κs. search needs)
+    (λ c. search needs)
     returns
     source-at-requires
-    same-length-2
+    (λ c. search needs)
     returns-2
     info-at-requires
-    same-length-3
+    (λ c. search needs)
     returns-3)

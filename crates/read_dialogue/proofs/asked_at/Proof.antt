@@ -7,26 +7,17 @@ use Rattle.read_dialogue.proofs.PdusLeft.{asked-left}
 use Rattle.read_dialogue.proofs.asked_at.Statement.{statement}
 use Rattle.read_dialogue.proofs.asked_at.Tie as tie
 
-past-version-requires : tie.Need-past-version-requires
-past-version-requires c κs = search needs
-
 returns : tie.Need-returns
 returns c = search (named-version, leaves-all-far)
 
 context-at-requires : tie.Need-context-at-requires
 context-at-requires c κs = search (needs, passed-within)
 
-same-length : tie.Need-same-length
-same-length c = search needs
-
 returns-2 : tie.Need-returns-2
 returns-2 c = search (named-context, leaves-all-far)
 
 info-at-requires : tie.Need-info-at-requires
 info-at-requires c κs = search (needs, reads-within)
-
-same-length-2 : tie.Need-same-length-2
-same-length-2 c = search needs
 
 returns-3 : tie.Need-returns-3
 returns-3 c = search (named-near, asked-left)
@@ -35,11 +26,11 @@ pub asked-at-spec : {M : Type 1} → statement M
 asked-at-spec =
     tie.close
     (tie.spec
-    past-version-requires
+    (λ c κs. search needs)
     returns
     context-at-requires
-    same-length
+    (λ c. search needs)
     returns-2
     info-at-requires
-    same-length-2
+    (λ c. search needs)
     returns-3)

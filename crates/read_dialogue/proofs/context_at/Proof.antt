@@ -9,14 +9,8 @@ use Rattle.read_dialogue.proofs.PdusLeft.{context-left}
 use Rattle.read_dialogue.proofs.context_at.Statement.{statement}
 use Rattle.read_dialogue.proofs.context_at.Tie as tie
 
-entry-at-requires : tie.Need-entry-at-requires
-entry-at-requires c κs = search needs
-
 returns : tie.Need-returns
 returns c = search (context-entry, leaves-far)
-
-add-start-of : tie.Need-add-start-of
-add-start-of c = search needs
 
 start-of-requires : tie.Need-start-of-requires
 start-of-requires c κs = search (needs, entry-inside)
@@ -36,14 +30,8 @@ sub-put-text c = omega (arith, name-room _ _ _ _ (c .before .before .name-at .en
 sub-put-text-2 : tie.Need-sub-put-text-2
 sub-put-text-2 c = omega (arith, name-room _ _ _ _ (c .before .before .name-at .ensures) (c .before .if2 .left))
 
-put-text-requires : tie.Need-put-text-requires
-put-text-requires c κs = search needs
-
 leave-requires : tie.Need-leave-requires
 leave-requires c κs = search (needs, reads-within, entry-to)
-
-same-length : tie.Need-same-length
-same-length c = search needs
 
 returns-3 : tie.Need-returns-3
 returns-3 c = search (context-near, context-left)
@@ -52,16 +40,16 @@ pub context-at-spec : {M : Type 1} → statement M
 context-at-spec =
     tie.close
     (tie.spec
-    entry-at-requires
+    (λ c κs. search needs)
     returns
-    add-start-of
+    (λ c. search needs)
     start-of-requires
     name-at-requires
     returns-2
     add-put-text
     sub-put-text
     sub-put-text-2
-    put-text-requires
+    (λ c κs. search needs)
     leave-requires
-    same-length
+    (λ c. search needs)
     returns-3)

@@ -7,26 +7,11 @@ use lib.ListN.{length-set}
 use Rattle.read_dialogue.proofs.diagnostic_at.Statement.{statement}
 use Rattle.read_dialogue.proofs.diagnostic_at.Tie as tie
 
-stands-requires : tie.Need-stands-requires
-stands-requires c κs = search needs
-
-slice-write-out : tie.Need-slice-write-out
-slice-write-out c = search needs
-
-number-at-requires : tie.Need-number-at-requires
-number-at-requires c κs = search needs
-
 same-length : tie.Need-same-length
 same-length c = c .before .out .given ∙ length-set (c .before .before .before .before .before .before .before .before .args .out .now) 42 161
 
 returns : tie.Need-returns
 returns c = search (diagnostic-user, user-left)
-
-slice-write-out-2 : tie.Need-slice-write-out-2
-slice-write-out-2 c = search needs
-
-number-at-requires-2 : tie.Need-number-at-requires-2
-number-at-requires-2 c κs = search needs
 
 same-length-2 : tie.Need-same-length-2
 same-length-2 c = c .before .out2 .given ∙ length-set (c .before .before .before .before .before .before .before .before .args .out .now) 42 162
@@ -38,12 +23,12 @@ pub diagnostic-at-spec : {M : Type 1} → statement M
 diagnostic-at-spec =
     tie.close
     (tie.spec
-    stands-requires
-    slice-write-out
-    number-at-requires
+    (λ c κs. search needs)
+    (λ c. search needs)
+    (λ c κs. search needs)
     same-length
     returns
-    slice-write-out-2
-    number-at-requires-2
+    (λ c. search needs)
+    (λ c κs. search needs)
     same-length-2
     returns-2)

@@ -8,23 +8,11 @@ use Rattle.read_dialogue.proofs.Owners.{entry-told, inside-told, behind
 use Rattle.read_dialogue.proofs.dialogue_at.Statement.{statement}
 use Rattle.read_dialogue.proofs.dialogue_at.Tie as tie
 
-add-length-at : tie.Need-add-length-at
-add-length-at c = search needs
-
 length-at-requires : tie.Need-length-at-requires
 length-at-requires c κs = search (needs, stood-room)
 
-slice-write-out : tie.Need-slice-write-out
-slice-write-out c = search needs
-
-same-length : tie.Need-same-length
-same-length c = search needs
-
 returns : tie.Need-returns
 returns c = search (dialogue-entry, entry-told, stood)
-
-add-start-of : tie.Need-add-start-of
-add-start-of c = search needs
 
 start-of-requires : tie.Need-start-of-requires
 start-of-requires c κs = search (needs, stood-inside)
@@ -35,12 +23,6 @@ wrapped-at-requires c κs = search (needs, stood-from, stood-to)
 owner-at-requires : tie.Need-owner-at-requires
 owner-at-requires c κs = search (needs, stood-from, stood-to)
 
-slice-write-out-2 : tie.Need-slice-write-out-2
-slice-write-out-2 c = search needs
-
-same-length-2 : tie.Need-same-length-2
-same-length-2 c = search needs
-
 returns-2 : tie.Need-returns-2
 returns-2 c = (search (dialogue-far, stood), inside-told _ _ _ (c .before .before .before .before .before .before .before .before .before .before .before .pre .0) (c .before .before .before .before .before .before .before .before .before .before .before .pre .1) _ (c .before .before .before .before .before .before .before .before .length-at .ensures) _ (c .before .before .before .before .before .before .before .if1 .left) _ (c .before .before .before .before .before .before .start-of .ensures) _ (c .before .before .before .before .wrapped-at .ensures .0) (c .before .before .before .before .wrapped-at .last .1 .1 .1 .0) (c .before .if2 .taken) _ (c .owner-at .ensures) (omega arith))
 
@@ -50,17 +32,8 @@ leave-requires c κs = search (needs, reads-within, stood-to)
 owner-at-requires-2 : tie.Need-owner-at-requires-2
 owner-at-requires-2 c κs = search (needs, reads-within, stood-to)
 
-slice-write-out-3 : tie.Need-slice-write-out-3
-slice-write-out-3 c = search needs
-
-same-length-3 : tie.Need-same-length-3
-same-length-3 c = search needs
-
 returns-3 : tie.Need-returns-3
 returns-3 c = (search (dialogue-near, stood), behind-told _ _ _ (c .before .before .before .before .before .before .before .before .before .before .before .before .before .pre .0) (c .before .before .before .before .before .before .before .before .before .before .before .before .before .pre .1) _ (c .before .before .before .before .before .before .before .before .before .before .length-at .ensures) _ (c .before .before .before .before .before .before .before .before .before .if1 .left) _ (c .before .before .before .before .before .before .before .before .start-of .ensures) _ (c .before .before .before .before .before .before .wrapped-at .ensures .0) (c .before .before .before .before .before .before .wrapped-at .last .1 .1 .1 .0) (c .before .before .before .if2 .left) _ (c .before .before .leave .ensures) (c .before .if3 .taken) _ (c .owner-at2 .ensures) (omega arith))
-
-same-length-4 : tie.Need-same-length-4
-same-length-4 c = search needs
 
 returns-4 : tie.Need-returns-4
 returns-4 c = (search (dialogue-near, stood), dialogue-told _ _ _ (c .before .before .before .before .before .before .before .before .before .before .before .before .pre .0) (c .before .before .before .before .before .before .before .before .before .before .before .before .pre .1) _ (c .before .before .before .before .before .before .before .before .before .length-at .ensures) _ (c .before .before .before .before .before .before .before .before .if1 .left) _ (c .before .before .before .before .before .before .before .start-of .ensures) _ (c .before .before .before .before .before .wrapped-at .ensures .0) _ (c .before .before .if2 .left) _ (c .before .leave .ensures) (c .if3 .left) (c .before .before .before .before .before .wrapped-at .ensures .1))
@@ -69,22 +42,22 @@ pub dialogue-at-spec : {M : Type 1} → statement M
 dialogue-at-spec =
     tie.close
     (tie.spec
-    add-length-at
+    (λ c. search needs)
     length-at-requires
-    slice-write-out
-    same-length
+    (λ c. search needs)
+    (λ c. search needs)
     returns
-    add-start-of
+    (λ c. search needs)
     start-of-requires
     wrapped-at-requires
     owner-at-requires
-    slice-write-out-2
-    same-length-2
+    (λ c. search needs)
+    (λ c. search needs)
     returns-2
     leave-requires
     owner-at-requires-2
-    slice-write-out-3
-    same-length-3
+    (λ c. search needs)
+    (λ c. search needs)
     returns-3
-    same-length-4
+    (λ c. search needs)
     returns-4)

@@ -8,32 +8,14 @@ use Rattle.read_dialogue.proofs.NamesLeft.{octets-inside, octets-from, 
 use Rattle.read_dialogue.proofs.encoding_at.Statement.{statement}
 use Rattle.read_dialogue.proofs.encoding_at.Tie as tie
 
-stands-requires : tie.Need-stands-requires
-stands-requires c κs = search needs
-
-slice-write-out : tie.Need-slice-write-out
-slice-write-out c = search needs
-
-single-at-requires : tie.Need-single-at-requires
-single-at-requires c κs = search needs
-
 same-length : tie.Need-same-length
 same-length c = c .before .out .given ∙ length-set (c .before .before .before .before .before .before .before .before .args .out .now) 3 6
 
 returns : tie.Need-returns
 returns c = search (outside-single, outside-left)
 
-field-asked-requires : tie.Need-field-asked-requires
-field-asked-requires c κs = search needs
-
 returns-2 : tie.Need-returns-2
 returns-2 c = search (outside-octets, outside-left-far)
-
-slice-write-out-2 : tie.Need-slice-write-out-2
-slice-write-out-2 c = search needs
-
-add-start-of : tie.Need-add-start-of
-add-start-of c = search needs
 
 start-of-requires : tie.Need-start-of-requires
 start-of-requires c κs = search (needs, octets-inside)
@@ -54,15 +36,15 @@ pub encoding-at-spec : {M : Type 1} → statement M
 encoding-at-spec =
     tie.close
     (tie.spec
-    stands-requires
-    slice-write-out
-    single-at-requires
+    (λ c κs. search needs)
+    (λ c. search needs)
+    (λ c κs. search needs)
     same-length
     returns
-    field-asked-requires
+    (λ c κs. search needs)
     returns-2
-    slice-write-out-2
-    add-start-of
+    (λ c. search needs)
+    (λ c. search needs)
     start-of-requires
     sub-put-text
     put-text-requires

@@ -9,9 +9,6 @@ returns : tie.Need-returns
 unfolding contentsEnd
 returns c = search (lt-ltb, le-ltb)
 
-sub-result : tie.Need-sub-result
-sub-result c = search needs
-
 returns-2 : tie.Need-returns-2
 unfolding contentsEnd
 returns-2 c = search (lt-ltb, le-ltb)
@@ -21,5 +18,5 @@ end-before-spec =
     tie.close
     (tie.spec
     returns
-    sub-result
+    (λ c. search needs)
     returns-2)

@@ -15,20 +15,8 @@ abbrev μ-loop : tie.MeasureT-loop
 loop-holds : tie.Need-loop-holds Inv-loop μ-loop
 loop-holds c = search (needs, going-start)
 
-ended-requires : tie.Need-ended-requires Inv-loop μ-loop
-ended-requires c κs = search needs
-
-behind-requires : tie.Need-behind-requires Inv-loop μ-loop
-behind-requires c κs = search needs
-
 returns : tie.Need-returns Inv-loop μ-loop
 returns c = search externals-ended
-
-stands-requires : tie.Need-stands-requires Inv-loop μ-loop
-stands-requires c κs = search needs
-
-walk-any-requires : tie.Need-walk-any-requires Inv-loop μ-loop
-walk-any-requires c κs = search needs
 
 returns-2 : tie.Need-returns-2 Inv-loop μ-loop
 returns-2 c = search externals-far
@@ -38,9 +26,6 @@ loop-less c = search externals-less
 
 loop-again : tie.Need-loop-again Inv-loop μ-loop
 loop-again c = search (externals-to, externals-on)
-
-wrong-at-requires : tie.Need-wrong-at-requires Inv-loop μ-loop
-wrong-at-requires c κs = search needs
 
 returns-3 : tie.Need-returns-3 Inv-loop μ-loop
 returns-3 c = search externals-wrong
@@ -52,13 +37,13 @@ externals-at-spec =
     Inv-loop
     μ-loop
     loop-holds
-    ended-requires
-    behind-requires
+    (λ c κs. search needs)
+    (λ c κs. search needs)
     returns
-    stands-requires
-    walk-any-requires
+    (λ c κs. search needs)
+    (λ c κs. search needs)
     returns-2
     loop-less
     loop-again
-    wrong-at-requires
+    (λ c κs. search needs)
     returns-3)

@@ -10,23 +10,11 @@ use Rattle.read_dialogue.proofs.PdusLeft.{info-start, info-two, info-le
 use Rattle.read_dialogue.proofs.info_at.Statement.{statement}
 use Rattle.read_dialogue.proofs.info_at.Tie as tie
 
-ended-requires : tie.Need-ended-requires
-ended-requires c κs = search needs
-
-behind-requires : tie.Need-behind-requires
-behind-requires c κs = search needs
-
 returns : tie.Need-returns
 returns c = search (info-none, info-left-none)
 
-entry-at-requires : tie.Need-entry-at-requires
-entry-at-requires c κs = search needs
-
 returns-2 : tie.Need-returns-2
 returns-2 c = search (info-entry, leaves-all-far)
-
-add-start-of : tie.Need-add-start-of
-add-start-of c = search needs
 
 start-of-requires : tie.Need-start-of-requires
 start-of-requires c κs = search (needs, entry-inside)
@@ -36,9 +24,6 @@ externals-at-requires c κs = search (needs, entry-from, entry-to)
 
 returns-3 : tie.Need-returns-3
 returns-3 c = search (info-far, leaves-all-far)
-
-slice-write-out : tie.Need-slice-write-out
-slice-write-out c = search needs
 
 end-before-requires : tie.Need-end-before-requires
 end-before-requires c κs = search info-two
@@ -62,16 +47,16 @@ pub info-at-spec : {M : Type 1} → statement M
 info-at-spec =
     tie.close
     (tie.spec
-    ended-requires
-    behind-requires
+    (λ c κs. search needs)
+    (λ c κs. search needs)
     returns
-    entry-at-requires
+    (λ c κs. search needs)
     returns-2
-    add-start-of
+    (λ c. search needs)
     start-of-requires
     externals-at-requires
     returns-3
-    slice-write-out
+    (λ c. search needs)
     end-before-requires
     sub-put-text
     put-text-requires

@@ -7,14 +7,8 @@ use Rattle.read_dialogue.proofs.PdusLeft.{number-left, number-one, numb
 use Rattle.read_dialogue.proofs.number_at.Statement.{statement}
 use Rattle.read_dialogue.proofs.number_at.Tie as tie
 
-entry-at-requires : tie.Need-entry-at-requires
-entry-at-requires c κs = search needs
-
 returns : tie.Need-returns
 returns c = search (number-entry, leaves-far)
-
-add-start-of : tie.Need-add-start-of
-add-start-of c = search needs
 
 start-of-requires : tie.Need-start-of-requires
 start-of-requires c κs = search (needs, entry-inside)
@@ -31,14 +25,8 @@ sub-out c = search (number-one, entry-to)
 shared-slice-read-out : tie.Need-shared-slice-read-out
 shared-slice-read-out c = search (number-in, entry-to)
 
-slice-write-out : tie.Need-slice-write-out
-slice-write-out c = search needs
-
 leave-requires : tie.Need-leave-requires
 leave-requires c κs = search (needs, reads-within, entry-to)
-
-same-length : tie.Need-same-length
-same-length c = search needs
 
 returns-3 : tie.Need-returns-3
 returns-3 c = search (number-near, number-left)
@@ -47,15 +35,15 @@ pub number-at-spec : {M : Type 1} → statement M
 number-at-spec =
     tie.close
     (tie.spec
-    entry-at-requires
+    (λ c κs. search needs)
     returns
-    add-start-of
+    (λ c. search needs)
     start-of-requires
     small-at-requires
     returns-2
     sub-out
     shared-slice-read-out
-    slice-write-out
+    (λ c. search needs)
     leave-requires
-    same-length
+    (λ c. search needs)
     returns-3)

@@ -9,23 +9,8 @@ use Rattle.read_dialogue.proofs.NamesLeft.{other-bad-left, other-laid}
 use Rattle.read_dialogue.proofs.outside_at.Statement.{statement}
 use Rattle.read_dialogue.proofs.outside_at.Tie as tie
 
-add-piece : tie.Need-add-piece
-add-piece c = search needs
-
 piece-requires : tie.Need-piece-requires
 piece-requires c κs = let h = name-to (now (c .before .before .args .m)) _ _ _ (c .before .before .pre .0) (c .before .before .pre .1) in omega (arith, h, c .before .before .pre .0)
-
-identifier-ok-requires : tie.Need-identifier-ok-requires
-identifier-ok-requires c κs = search needs
-
-add-put-text : tie.Need-add-put-text
-add-put-text c = search needs
-
-put-text-requires : tie.Need-put-text-requires
-put-text-requires c κs = search needs
-
-add-encoding-at : tie.Need-add-encoding-at
-add-encoding-at c = search needs
 
 add-encoding-at-2 : tie.Need-add-encoding-at-2
 add-encoding-at-2 c = let h = name-to (now (c .before .before .before .before .before .before .before .before .before .args .m)) _ _ _ (c .before .before .before .before .before .before .before .before .before .pre .0) (c .before .before .before .before .before .before .before .before .before .pre .1) in omega (arith, h)
@@ -33,23 +18,14 @@ add-encoding-at-2 c = let h = name-to (now (c .before .before .before .before .b
 encoding-at-requires : tie.Need-encoding-at-requires
 encoding-at-requires c κs = search (needs, name-to)
 
-same-length : tie.Need-same-length
-same-length c = search needs
-
 returns : tie.Need-returns
 returns c = search (other-far, leaves-all-far)
 
 leave-requires : tie.Need-leave-requires
 leave-requires c κs = let w = holds-within false false (now (c .before .before .before .before .before .before .before .before .before .before .before .before .before .before .args .m)) _ _ _ (c .before .before .before .encoding-at .ensures .0) (c .if2 .left) in omega (arith, w, c .before .before .before .before .before .before .before .before .before .before .before .before .before .before .pre .0)
 
-same-length-2 : tie.Need-same-length-2
-same-length-2 c = search needs
-
 returns-2 : tie.Need-returns-2
 returns-2 c = search (other-near, other-laid)
-
-add-result : tie.Need-add-result
-add-result c = search needs
 
 returns-3 : tie.Need-returns-3
 returns-3 c = search (other-bad, other-bad-left)
@@ -58,18 +34,18 @@ pub outside-at-spec : {M : Type 1} → statement M
 outside-at-spec =
     tie.close
     (tie.spec
-    add-piece
+    (λ c. search needs)
     piece-requires
-    identifier-ok-requires
-    add-put-text
-    put-text-requires
-    add-encoding-at
+    (λ c κs. search needs)
+    (λ c. search needs)
+    (λ c κs. search needs)
+    (λ c. search needs)
     add-encoding-at-2
     encoding-at-requires
-    same-length
+    (λ c. search needs)
     returns
     leave-requires
-    same-length-2
+    (λ c. search needs)
     returns-2
-    add-result
+    (λ c. search needs)
     returns-3)

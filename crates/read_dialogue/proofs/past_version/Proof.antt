@@ -4,12 +4,6 @@ use Rattle.read_dialogue.proofs.Pdus.{passed-there, passed-not}
 use Rattle.read_dialogue.proofs.past_version.Statement.{statement}
 use Rattle.read_dialogue.proofs.past_version.Tie as tie
 
-stands-requires : tie.Need-stands-requires
-stands-requires c κs = search needs
-
-version-at-requires : tie.Need-version-at-requires
-version-at-requires c κs = search needs
-
 returns : tie.Need-returns
 returns c = search passed-there
 
@@ -20,7 +14,7 @@ pub past-version-spec : {M : Type 1} → statement M
 past-version-spec =
     tie.close
     (tie.spec
-    stands-requires
-    version-at-requires
+    (λ c κs. search needs)
+    (λ c κs. search needs)
     returns
     returns-2)

@@ -8,41 +8,17 @@ use Rattle.read_dialogue.proofs.PdusLeft.{pdu-response-left, pdu-abort-
 use Rattle.read_dialogue.proofs.pdu_at.Statement.{statement}
 use Rattle.read_dialogue.proofs.pdu_at.Tie as tie
 
-stands-requires : tie.Need-stands-requires
-stands-requires c κs = search needs
-
-slice-write-out : tie.Need-slice-write-out
-slice-write-out c = search needs
-
-response-at-requires : tie.Need-response-at-requires
-response-at-requires c κs = search needs
-
 same-length : tie.Need-same-length
 same-length c = c .before .out .given ∙ length-set (c .before .before .before .before .before .before .before .before .before .args .out .now) 3 3
 
 returns : tie.Need-returns
 returns c = search (pdu-response, pdu-response-left)
 
-stands-requires-2 : tie.Need-stands-requires-2
-stands-requires-2 c κs = search needs
-
-slice-write-out-2 : tie.Need-slice-write-out-2
-slice-write-out-2 c = search needs
-
-abort-at-requires : tie.Need-abort-at-requires
-abort-at-requires c κs = search needs
-
 same-length-2 : tie.Need-same-length-2
 same-length-2 c = c .before .out2 .given ∙ length-set (c .before .before .before .before .before .before .before .before .before .before .before .args .out .now) 3 4
 
 returns-2 : tie.Need-returns-2
 returns-2 c = search (pdu-abort, pdu-abort-left)
-
-slice-write-out-3 : tie.Need-slice-write-out-3
-slice-write-out-3 c = search needs
-
-slice-write-out-4 : tie.Need-slice-write-out-4
-slice-write-out-4 c = search needs
 
 request-at-requires : tie.Need-request-at-requires
 request-at-requires c κs = (search needs, ⊎-elim (λ w. ap length (w .5) ∙ length-set (c .before .before .before .before .args .out .now) 3 2 ∙ c .before .before .before .before .pre .1) (λ w. ap length (w .1) ∙ length-set (c .before .before .before .before .args .out .now) 3 5 ∙ c .before .before .before .before .pre .1) (c .before .if1 .came))
@@ -57,18 +33,18 @@ pub pdu-at-spec : {M : Type 1} → statement M
 pdu-at-spec =
     tie.close
     (tie.spec
-    stands-requires
-    slice-write-out
-    response-at-requires
+    (λ c κs. search needs)
+    (λ c. search needs)
+    (λ c κs. search needs)
     same-length
     returns
-    stands-requires-2
-    slice-write-out-2
-    abort-at-requires
+    (λ c κs. search needs)
+    (λ c. search needs)
+    (λ c κs. search needs)
     same-length-2
     returns-2
-    slice-write-out-3
-    slice-write-out-4
+    (λ c. search needs)
+    (λ c. search needs)
     request-at-requires
     same-length-3
     returns-3)

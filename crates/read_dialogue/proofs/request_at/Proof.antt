@@ -7,23 +7,14 @@ use Rattle.read_dialogue.proofs.PdusLeft.{request-left}
 use Rattle.read_dialogue.proofs.request_at.Statement.{statement}
 use Rattle.read_dialogue.proofs.request_at.Tie as tie
 
-entry-at-requires : tie.Need-entry-at-requires
-entry-at-requires c κs = search needs
-
 returns : tie.Need-returns
 returns c = search (request-entry, leaves-far)
-
-add-start-of : tie.Need-add-start-of
-add-start-of c = search needs
 
 start-of-requires : tie.Need-start-of-requires
 start-of-requires c κs = search (needs, entry-inside)
 
 asked-at-requires : tie.Need-asked-at-requires
 asked-at-requires c κs = search (needs, entry-from, entry-to)
-
-same-length : tie.Need-same-length
-same-length c = search needs
 
 returns-2 : tie.Need-returns-2
 returns-2 c = search (request-near, request-left)
@@ -32,10 +23,10 @@ pub request-at-spec : {M : Type 1} → statement M
 request-at-spec =
     tie.close
     (tie.spec
-    entry-at-requires
+    (λ c κs. search needs)
     returns
-    add-start-of
+    (λ c. search needs)
     start-of-requires
     asked-at-requires
-    same-length
+    (λ c. search needs)
     returns-2)

@@ -7,23 +7,14 @@ use Rattle.read_dialogue.proofs.PdusLeft.{response-left}
 use Rattle.read_dialogue.proofs.response_at.Statement.{statement}
 use Rattle.read_dialogue.proofs.response_at.Tie as tie
 
-entry-at-requires : tie.Need-entry-at-requires
-entry-at-requires c κs = search needs
-
 returns : tie.Need-returns
 returns c = search (response-entry, leaves-far)
-
-add-start-of : tie.Need-add-start-of
-add-start-of c = search needs
 
 start-of-requires : tie.Need-start-of-requires
 start-of-requires c κs = search (needs, entry-inside)
 
 answered-at-requires : tie.Need-answered-at-requires
 answered-at-requires c κs = search (needs, entry-from, entry-to)
-
-same-length : tie.Need-same-length
-same-length c = search needs
 
 returns-2 : tie.Need-returns-2
 returns-2 c = search (response-near, response-left)
@@ -32,10 +23,10 @@ pub response-at-spec : {M : Type 1} → statement M
 response-at-spec =
     tie.close
     (tie.spec
-    entry-at-requires
+    (λ c κs. search needs)
     returns
-    add-start-of
+    (λ c. search needs)
     start-of-requires
     answered-at-requires
-    same-length
+    (λ c. search needs)
     returns-2)

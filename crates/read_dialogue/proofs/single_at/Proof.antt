@@ -9,14 +9,8 @@ use Rattle.read_dialogue.proofs.NamesLeft.{walked-from, single-missing,
 use Rattle.read_dialogue.proofs.single_at.Statement.{statement}
 use Rattle.read_dialogue.proofs.single_at.Tie as tie
 
-entry-at-requires : tie.Need-entry-at-requires
-entry-at-requires c κs = search needs
-
 returns : tie.Need-returns
 returns c = search (single-entry, leaves-far)
-
-add-start-of : tie.Need-add-start-of
-add-start-of c = search needs
 
 start-of-requires : tie.Need-start-of-requires
 start-of-requires c κs = search (needs, entry-inside)
@@ -48,14 +42,8 @@ returns-4 c = search (single-far, leaves-far)
 sub-put-text : tie.Need-sub-put-text
 sub-put-text c = search walked-from
 
-put-text-requires : tie.Need-put-text-requires
-put-text-requires c κs = search needs
-
 leave-requires : tie.Need-leave-requires
 leave-requires c κs = let l = walked-near _ _ _ _ (c .before .before .before .before .before .walk-any .ensures) (c .before .before .before .before .if4 .left) in let h = entry-to _ _ _ 160 _ (omega arith) (omega arith) (c .before .before .before .before .before .before .before .before .before .before .before .before .entry-at .ensures) (c .before .before .before .before .before .before .before .before .before .before .before .if1 .left) (omega arith) _ (c .before .before .before .before .before .before .before .before .before .before .start-of .ensures) in omega (arith, l, h)
-
-same-length : tie.Need-same-length
-same-length c = search needs
 
 returns-5 : tie.Need-returns-5
 returns-5 c = search (single-walked, single-left)
@@ -64,9 +52,9 @@ pub single-at-spec : {M : Type 1} → statement M
 single-at-spec =
     tie.close
     (tie.spec
-    entry-at-requires
+    (λ c κs. search needs)
     returns
-    add-start-of
+    (λ c. search needs)
     start-of-requires
     ended-requires
     add-result
@@ -77,7 +65,7 @@ single-at-spec =
     walk-any-requires
     returns-4
     sub-put-text
-    put-text-requires
+    (λ c κs. search needs)
     leave-requires
-    same-length
+    (λ c. search needs)
     returns-5)

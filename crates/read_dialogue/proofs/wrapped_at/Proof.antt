@@ -7,23 +7,14 @@ use Rattle.read_dialogue.proofs.NamesLeft.{wrapped-left}
 use Rattle.read_dialogue.proofs.wrapped_at.Statement.{statement}
 use Rattle.read_dialogue.proofs.wrapped_at.Tie as tie
 
-entry-at-requires : tie.Need-entry-at-requires
-entry-at-requires c κs = search needs
-
 returns : tie.Need-returns
 returns c = search (wrapped-entry, leaves-far)
-
-add-start-of : tie.Need-add-start-of
-add-start-of c = search needs
 
 start-of-requires : tie.Need-start-of-requires
 start-of-requires c κs = search (needs, entry-inside)
 
 external-at-requires : tie.Need-external-at-requires
 external-at-requires c κs = search (needs, entry-from, entry-to)
-
-same-length : tie.Need-same-length
-same-length c = search needs
 
 returns-2 : tie.Need-returns-2
 returns-2 c = search (wrapped-near, wrapped-left)
@@ -32,10 +23,10 @@ pub wrapped-at-spec : {M : Type 1} → statement M
 wrapped-at-spec =
     tie.close
     (tie.spec
-    entry-at-requires
+    (λ c κs. search needs)
     returns
-    add-start-of
+    (λ c. search needs)
     start-of-requires
     external-at-requires
-    same-length
+    (λ c. search needs)
     returns-2)

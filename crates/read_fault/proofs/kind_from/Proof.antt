@@ -5,19 +5,13 @@ use Rattle.read_fault.specs.Faults.{kindFrom}
 use Rattle.read_fault.proofs.kind_from.Statement.{statement}
 use Rattle.read_fault.proofs.kind_from.Tie as tie
 
-early-kind-requires : tie.Need-early-kind-requires
-early-kind-requires c κs = search needs
-
 returns : tie.Need-returns
 unfolding kindFrom
 returns c = search tests
-
-late-kind-requires : tie.Need-late-kind-requires
-late-kind-requires c κs = search needs
 
 returns-2 : tie.Need-returns-2
 unfolding kindFrom
 returns-2 c = search tests
 
 pub kind-from-spec : {M : Type 1} → statement M
-kind-from-spec = tie.close (tie.spec early-kind-requires returns late-kind-requires returns-2)
+kind-from-spec = tie.close (tie.spec (λ c κs. search needs) returns (λ c κs. search needs) returns-2)

@@ -6,35 +6,17 @@ use Rattle.read_field.proofs.Fields.{name-none, name-good, name-bad, co
 use Rattle.read_field.proofs.name_at.Statement.{statement}
 use Rattle.read_field.proofs.name_at.Tie as tie
 
-count-at-requires : tie.Need-count-at-requires
-count-at-requires c κs = search needs
-
-bad-field-requires : tie.Need-bad-field-requires
-bad-field-requires c κs = search needs
-
 returns : tie.Need-returns
 returns c = search name-none
 
-add-piece : tie.Need-add-piece
-add-piece c = search needs
-
 piece-requires : tie.Need-piece-requires
 piece-requires c κs = search count-more
-
-identifier-ok-requires : tie.Need-identifier-ok-requires
-identifier-ok-requires c κs = search needs
-
-add-result : tie.Need-add-result
-add-result c = search needs
 
 add-result-2 : tie.Need-add-result-2
 add-result-2 c = let h = count-room (now (c .before .before .before .before .before .before .args .m)) _ _ 6 16 _ (c .before .before .before .before .count-at .ensures) (c .before .before .before .if1 .left) in omega (arith, h)
 
 returns-2 : tie.Need-returns-2
 returns-2 c = search name-good
-
-add-result-3 : tie.Need-add-result-3
-add-result-3 c = search needs
 
 returns-3 : tie.Need-returns-3
 returns-3 c = search name-bad
@@ -43,14 +25,14 @@ pub name-at-spec : {M : Type 1} → statement M
 name-at-spec =
     tie.close
     (tie.spec
-    count-at-requires
-    bad-field-requires
+    (λ c κs. search needs)
+    (λ c κs. search needs)
     returns
-    add-piece
+    (λ c. search needs)
     piece-requires
-    identifier-ok-requires
-    add-result
+    (λ c κs. search needs)
+    (λ c. search needs)
     add-result-2
     returns-2
-    add-result-3
+    (λ c. search needs)
     returns-3)

@@ -4,24 +4,15 @@ use Rattle.read_field.proofs.Choices.{null-far, null-good, null-bad}
 use Rattle.read_field.proofs.null_at.Statement.{statement}
 use Rattle.read_field.proofs.null_at.Tie as tie
 
-field-asked-requires : tie.Need-field-asked-requires
-field-asked-requires c κs = search needs
-
 returns : tie.Need-returns
 returns c = search null-far
 
-add-if2 : tie.Need-add-if2
-add-if2 c = search needs
-
 returns-2 : tie.Need-returns-2
 returns-2 c = search null-good
-
-add-result : tie.Need-add-result
-add-result c = search needs
 
 returns-3 : tie.Need-returns-3
 returns-3 c = search null-bad
 
 pub null-at-spec : {M : Type 1} → statement M
 null-at-spec =
-    tie.close (tie.spec field-asked-requires returns add-if2 returns-2 add-result returns-3)
+    tie.close (tie.spec (λ c κs. search needs) returns (λ c. search needs) returns-2 (λ c. search needs) returns-3)

@@ -8,21 +8,12 @@ use Rattle.read_field.proofs.Fields.{id-none, id-good}
 use Rattle.read_field.proofs.octet_at.Statement.{statement}
 use Rattle.read_field.proofs.octet_at.Tie as tie
 
-count-at-requires : tie.Need-count-at-requires
-count-at-requires c κs = search needs
-
-bad-field-requires : tie.Need-bad-field-requires
-bad-field-requires c κs = search needs
-
 returns : tie.Need-returns
 returns c = search id-none
-
-add-result : tie.Need-add-result
-add-result c = search needs
 
 returns-2 : tie.Need-returns-2
 returns-2 c = let low : (i : ℕ) → getD (now (c .before .before .before .args .m)) i 0 < 256 = λ i. omega (arith, c .before .before .shared-slice-known .given i) in search (id-good, low)
 
 pub octet-at-spec : {M : Type 1} → statement M
 octet-at-spec =
-    tie.close (tie.spec count-at-requires bad-field-requires returns add-result returns-2)
+    tie.close (tie.spec (λ c κs. search needs) (λ c κs. search needs) returns (λ c. search needs) returns-2)

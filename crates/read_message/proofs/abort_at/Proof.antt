@@ -8,20 +8,11 @@ use Rattle.read_message.proofs.Leaving.{abort-left-far, abort-left}
 use Rattle.read_message.proofs.abort_at.Statement.{statement}
 use Rattle.read_message.proofs.abort_at.Tie as tie
 
-dest-at-requires : tie.Need-dest-at-requires
-dest-at-requires c κs = search needs
-
-same-length : tie.Need-same-length
-same-length c = search needs
-
 returns : tie.Need-returns
 returns c = (abort-far _ _ _ _ (c .before .before .before .dest-at .ensures .0) (c .if1 .taken), abort-left-far _ _ _ _ (c .before .before .before .dest-at .ensures .0) _ _ (c .before .before .before .dest-at .ensures .1) (c .if1 .taken))
 
 last-ending-at-requires : tie.Need-last-ending-at-requires
 last-ending-at-requires c κs = omega (arith, reads-within _ (now (c .before .before .before .before .before .before .before .before .args .m)) _ _ _ (c .before .before .before .before .dest-at .ensures .0) (c .before .if1 .left))
-
-same-length-2 : tie.Need-same-length-2
-same-length-2 c = search needs
 
 returns-2 : tie.Need-returns-2
 returns-2 c = (abort-near _ _ _ _ (c .before .before .before .before .before .before .before .dest-at .ensures .0) (c .before .before .before .before .if1 .left) _ (c .before .before .last-ending-at .ensures .0), abort-left _ _ _ _ (c .before .before .before .before .before .before .before .dest-at .ensures .0) _ _ (c .before .before .before .before .before .before .before .dest-at .ensures .1) (c .before .before .before .before .if1 .left) _ (c .before .before .last-ending-at .ensures .1))
@@ -29,4 +20,4 @@ returns-2 c = (abort-near _ _ _ _ (c .before .before .before .before .before .be
 pub abort-at-spec : {M : Type 1} → statement M
 abort-at-spec =
     tie.close
-    (tie.spec dest-at-requires same-length returns last-ending-at-requires same-length-2 returns-2)
+    (tie.spec (λ c κs. search needs) (λ c. search needs) returns last-ending-at-requires (λ c. search needs) returns-2)

@@ -8,29 +8,14 @@ use Rattle.read_message.proofs.Leaving.{components-told, components-lai
 use Rattle.read_message.proofs.components_at.Statement.{statement}
 use Rattle.read_message.proofs.components_at.Tie as tie
 
-entry-at-requires : tie.Need-entry-at-requires
-entry-at-requires c κs = search needs
-
-portion-fault-requires : tie.Need-portion-fault-requires
-portion-fault-requires c κs = search needs
-
-same-length : tie.Need-same-length
-same-length c = search needs
-
 returns : tie.Need-returns
 returns c = (reads-as _ _ _ _ _ _ (search components-entry) (c .before .before .portion-fault .ensures .0), components-told _ _ _ _ (omega arith) (omega arith) (c .before .before .before .before .before .entry-at .ensures) _ (c .before .before .before .before .if1 .taken) (omega arith) _ (c .before .before .portion-fault .ensures .1))
-
-add-start-of : tie.Need-add-start-of
-add-start-of c = search needs
 
 start-of-requires : tie.Need-start-of-requires
 start-of-requires c κs = search (needs, entry-inside)
 
 rows-at-requires : tie.Need-rows-at-requires
 rows-at-requires c κs = search (needs, entry-from, entry-to)
-
-same-length-2 : tie.Need-same-length-2
-same-length-2 c = search needs
 
 returns-2 : tie.Need-returns-2
 returns-2 c = (search components-near, search components-laid)
@@ -39,12 +24,12 @@ pub components-at-spec : {M : Type 1} → statement M
 components-at-spec =
     tie.close
     (tie.spec
-    entry-at-requires
-    portion-fault-requires
-    same-length
+    (λ c κs. search needs)
+    (λ c κs. search needs)
+    (λ c. search needs)
     returns
-    add-start-of
+    (λ c. search needs)
     start-of-requires
     rows-at-requires
-    same-length-2
+    (λ c. search needs)
     returns-2)

@@ -8,44 +8,17 @@ use Rattle.read_message.proofs.Fields.{reads-as, says-laid, cause-told,
 use Rattle.read_message.proofs.ending_at.Statement.{statement}
 use Rattle.read_message.proofs.ending_at.Tie as tie
 
-stands-requires : tie.Need-stands-requires
-stands-requires c κs = search needs
-
 dialogue-at-requires : tie.Need-dialogue-at-requires
 dialogue-at-requires c κs = search (needs, sym (c .before .before .stands .ensures) ∙ c .before .if1 .taken)
-
-same-length : tie.Need-same-length
-same-length c = search needs
 
 returns : tie.Need-returns
 returns c = (ending-says _ _ _ _ (omega arith) _ (c .before .before .before .before .before .stands .ensures) (c .before .before .before .before .if1 .taken) (c .before .before .dialogue-at .ensures .0), says-laid _ _ _ 0 (omega arith) _ (c .before .before .before .before .before .stands .ensures) (c .before .before .before .before .if1 .taken) _ _ (c .before .before .dialogue-at .ensures .1))
 
-small-at-requires : tie.Need-small-at-requires
-small-at-requires c κs = search needs
-
-portion-fault-requires : tie.Need-portion-fault-requires
-portion-fault-requires c κs = search needs
-
-same-length-2 : tie.Need-same-length-2
-same-length-2 c = search needs
-
 returns-2 : tie.Need-returns-2
 returns-2 c = (ending-cause _ _ _ _ (omega arith) _ (c .before .before .before .before .before .before .before .stands .ensures) (c .before .before .before .before .before .before .if1 .left) (reads-as _ _ _ _ _ _ (c .before .before .before .before .before .small-at .ensures) (c .before .before .portion-fault .ensures .0)), cause-told _ _ _ _ (omega arith) _ (c .before .before .before .before .before .before .before .stands .ensures) (c .before .before .before .before .before .before .if1 .left) (c .before .before .before .before .before .small-at .ensures) _ _ (c .before .before .before .before .if2 .taken) (omega arith) (c .before .before .portion-fault .ensures .1))
 
-slice-write-out : tie.Need-slice-write-out
-slice-write-out c = search needs
-
-add-out : tie.Need-add-out
-add-out c = search needs
-
 shared-slice-read-out : tie.Need-shared-slice-read-out
 shared-slice-read-out c = cause-room (now (c .before .before .before .before .before .before .before .args .m)) _ _ _ (c .before .before .small-at .ensures) (c .before .if2 .left) (omega arith)
-
-slice-write-out-2 : tie.Need-slice-write-out-2
-slice-write-out-2 c = search needs
-
-same-length-3 : tie.Need-same-length-3
-same-length-3 c = search needs
 
 returns-3 : tie.Need-returns-3
 returns-3 c = (ending-cause _ _ _ _ (omega arith) _ (c .before .before .before .before .stands .ensures) (c .before .before .before .if1 .left) (c .before .before .small-at .ensures), cause-laid _ _ _ _ (omega arith) _ (c .before .before .before .before .stands .ensures) (c .before .before .before .if1 .left) (c .before .before .small-at .ensures) _ _ (c .before .if2 .left) refl)
@@ -54,17 +27,17 @@ pub ending-at-spec : {M : Type 1} → statement M
 ending-at-spec =
     tie.close
     (tie.spec
-    stands-requires
+    (λ c κs. search needs)
     dialogue-at-requires
-    same-length
+    (λ c. search needs)
     returns
-    small-at-requires
-    portion-fault-requires
-    same-length-2
+    (λ c κs. search needs)
+    (λ c κs. search needs)
+    (λ c. search needs)
     returns-2
-    slice-write-out
-    add-out
+    (λ c. search needs)
+    (λ c. search needs)
     shared-slice-read-out
-    slice-write-out-2
-    same-length-3
+    (λ c. search needs)
+    (λ c. search needs)
     returns-3)

@@ -6,14 +6,8 @@ use Rattle.read_message.proofs.Leaving.{lays-there, lays-not}
 use Rattle.read_message.proofs.past_dialogue.Statement.{statement}
 use Rattle.read_message.proofs.past_dialogue.Tie as tie
 
-stands-requires : tie.Need-stands-requires
-stands-requires c κs = search needs
-
 dialogue-at-requires : tie.Need-dialogue-at-requires
 dialogue-at-requires c κs = search (needs, sym (c .before .before .stands .ensures) ∙ c .before .if1 .taken)
-
-same-length : tie.Need-same-length
-same-length c = search needs
 
 returns : tie.Need-returns
 returns c = (search passed-there, lays-there _ _ _ _ (c .before .before .before .before .before .stands .ensures) (c .before .before .before .before .if1 .taken) _ _ (c .before .before .dialogue-at .ensures .1))
@@ -22,4 +16,4 @@ returns-2 : tie.Need-returns-2
 returns-2 c = (search passed-not, lays-not _ _ _ _ (c .before .stands .ensures) (c .if1 .left) _)
 
 pub past-dialogue-spec : {M : Type 1} → statement M
-past-dialogue-spec = tie.close (tie.spec stands-requires dialogue-at-requires same-length returns returns-2)
+past-dialogue-spec = tie.close (tie.spec (λ c κs. search needs) dialogue-at-requires (λ c. search needs) returns returns-2)

@@ -7,17 +7,8 @@ use Rattle.read_part.proofs.Laid.{fault-named, name-sizes, global-left,
 use Rattle.read_part.proofs.global_at.Statement.{statement}
 use Rattle.read_part.proofs.global_at.Tie as tie
 
-name-at-requires : tie.Need-name-at-requires
-name-at-requires c κs = search needs
-
 returns : tie.Need-returns
 returns c = fault-named _ _ _ _ _ _ _ _ _ (c .before .name-at .ensures) (c .if1 .taken)
-
-slice-write-row : tie.Need-slice-write-row
-slice-write-row c = search needs
-
-add-put-text : tie.Need-add-put-text
-add-put-text c = search needs
 
 sub-put-text : tie.Need-sub-put-text
 sub-put-text c = let s = name-sizes _ _ _ _ (search needs) (c .before .before .name-at .ensures) (c .before .if1 .left) in omega (arith, s)
@@ -38,10 +29,10 @@ pub global-at-spec : {M : Type 1} → statement M
 global-at-spec =
     tie.close
     (tie.spec
-    name-at-requires
+    (λ c κs. search needs)
     returns
-    slice-write-row
-    add-put-text
+    (λ c. search needs)
+    (λ c. search needs)
     sub-put-text
     sub-put-text-2
     put-text-requires

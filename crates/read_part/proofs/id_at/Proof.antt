@@ -8,26 +8,11 @@ use Rattle.read_part.proofs.Laid.{fault-one, octet-inside, id-left}
 use Rattle.read_part.proofs.id_at.Statement.{statement}
 use Rattle.read_part.proofs.id_at.Tie as tie
 
-octet-at-requires : tie.Need-octet-at-requires
-octet-at-requires c κs = search needs
-
 returns : tie.Need-returns
 returns c = fault-one _ _ _ _ _ _ _ _ (c .before .octet-at .ensures) (c .if1 .taken)
 
-slice-write-row : tie.Need-slice-write-row
-slice-write-row c = search needs
-
-add-row : tie.Need-add-row
-add-row c = search needs
-
 shared-slice-read-row : tie.Need-shared-slice-read-row
 shared-slice-read-row c = octet-inside _ _ _ _ (search needs) 2 (omega arith, omega arith, omega arith) (c .before .before .octet-at .ensures) (c .before .if1 .left)
-
-slice-write-row-2 : tie.Need-slice-write-row-2
-slice-write-row-2 c = search needs
-
-same-length : tie.Need-same-length
-same-length c = search needs
 
 returns-2 : tie.Need-returns-2
 returns-2 c = let low : (i : ℕ) → getD (now (c .before .before .before .before .before .args .m)) i 0 < 256 = λ i. omega (arith, c .before .before .before .before .shared-slice-known .given i) in (c .before .before .octet-at .ensures, id-left _ _ _ _ (search needs) 2 (omega arith, omega arith, omega arith) (c .before .before .octet-at .ensures) (c .before .if1 .left) low _)
@@ -36,11 +21,11 @@ pub id-at-spec : {M : Type 1} → statement M
 id-at-spec =
     tie.close
     (tie.spec
-    octet-at-requires
+    (λ c κs. search needs)
     returns
-    slice-write-row
-    add-row
+    (λ c. search needs)
+    (λ c. search needs)
     shared-slice-read-row
-    slice-write-row-2
-    same-length
+    (λ c. search needs)
+    (λ c. search needs)
     returns-2)

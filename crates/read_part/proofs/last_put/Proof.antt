@@ -10,32 +10,14 @@ use Rattle.read_part.proofs.Laid.{fault-all, walk-from, last-parameter,
 use Rattle.read_part.proofs.last_put.Statement.{statement}
 use Rattle.read_part.proofs.last_put.Tie as tie
 
-ended-requires : tie.Need-ended-requires
-ended-requires c κs = search needs
-
-behind-requires : tie.Need-behind-requires
-behind-requires c κs = search needs
-
 returns : tie.Need-returns
 returns c = search (last-ended, no-parameter)
-
-unfinished-requires : tie.Need-unfinished-requires
-unfinished-requires c κs = search needs
-
-add-result : tie.Need-add-result
-add-result c = search needs
 
 returns-2 : tie.Need-returns-2
 returns-2 c = fault-all _ _ _ _ (c .before .before .before .before .before .before .args .stop) (131072 + c .before .before .before .before .before .before .args .at) _ _ (search last-cut) (omega arith)
 
-walk-element-requires : tie.Need-walk-element-requires
-walk-element-requires c κs = search needs
-
 returns-3 : tie.Need-returns-3
 returns-3 c = fault-all _ _ _ _ (c .before .before .before .before .before .before .before .before .args .stop) (c .before .walk-element .result) _ _ (search last-walk-far) (c .if3 .taken)
-
-slice-write-row : tie.Need-slice-write-row
-slice-write-row c = search needs
 
 sub-put-text : tie.Need-sub-put-text
 sub-put-text c = search walk-from
@@ -56,15 +38,15 @@ pub last-put-spec : {M : Type 1} → statement M
 last-put-spec =
     tie.close
     (tie.spec
-    ended-requires
-    behind-requires
+    (λ c κs. search needs)
+    (λ c κs. search needs)
     returns
-    unfinished-requires
-    add-result
+    (λ c κs. search needs)
+    (λ c. search needs)
     returns-2
-    walk-element-requires
+    (λ c κs. search needs)
     returns-3
-    slice-write-row
+    (λ c. search needs)
     sub-put-text
     put-text-requires
     leave-requires

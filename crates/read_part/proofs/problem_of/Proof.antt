@@ -4,26 +4,11 @@ use Rattle.read_part.proofs.Laid.{fault-one, small-inside, small-left}
 use Rattle.read_part.proofs.problem_of.Statement.{statement}
 use Rattle.read_part.proofs.problem_of.Tie as tie
 
-small-at-requires : tie.Need-small-at-requires
-small-at-requires c κs = search needs
-
 returns : tie.Need-returns
 returns c = fault-one _ _ _ _ _ _ _ _ (c .before .small-at .ensures) (c .if1 .taken)
 
-slice-write-row : tie.Need-slice-write-row
-slice-write-row c = search needs
-
-add-row : tie.Need-add-row
-add-row c = search needs
-
 shared-slice-read-row : tie.Need-shared-slice-read-row
 shared-slice-read-row c = small-inside _ _ _ _ (search needs) _ _ (c .before .before .before .before .before .pre .1) (c .before .before .small-at .ensures) (c .before .if1 .left)
-
-slice-write-row-2 : tie.Need-slice-write-row-2
-slice-write-row-2 c = search needs
-
-same-length : tie.Need-same-length
-same-length c = search needs
 
 returns-2 : tie.Need-returns-2
 returns-2 c = (c .before .before .small-at .ensures, small-left _ _ _ _ (search needs) _ _ (c .before .before .before .before .before .pre .1) (c .before .before .small-at .ensures) (c .before .if1 .left) _)
@@ -32,11 +17,11 @@ pub problem-of-spec : {M : Type 1} → statement M
 problem-of-spec =
     tie.close
     (tie.spec
-    small-at-requires
+    (λ c κs. search needs)
     returns
-    slice-write-row
-    add-row
+    (λ c. search needs)
+    (λ c. search needs)
     shared-slice-read-row
-    slice-write-row-2
-    same-length
+    (λ c. search needs)
+    (λ c. search needs)
     returns-2)

@@ -5,20 +5,8 @@ use Rattle.read_part.proofs.Laid.{null-left, number-left}
 use Rattle.read_part.proofs.reject_id_at.Statement.{statement}
 use Rattle.read_part.proofs.reject_id_at.Tie as tie
 
-stands-requires : tie.Need-stands-requires
-stands-requires c κs = search needs
-
-null-at-requires : tie.Need-null-at-requires
-null-at-requires c κs = search needs
-
 returns : tie.Need-returns
 returns c = search (id-null, null-left)
-
-id-at-requires : tie.Need-id-at-requires
-id-at-requires c κs = search needs
-
-same-length : tie.Need-same-length
-same-length c = search needs
 
 returns-2 : tie.Need-returns-2
 returns-2 c = search (id-number, number-left)
@@ -26,4 +14,4 @@ returns-2 c = search (id-number, number-left)
 pub reject-id-at-spec : {M : Type 1} → statement M
 reject-id-at-spec =
     tie.close
-    (tie.spec stands-requires null-at-requires returns id-at-requires same-length returns-2)
+    (tie.spec (λ c κs. search needs) (λ c κs. search needs) returns (λ c κs. search needs) (λ c. search needs) returns-2)

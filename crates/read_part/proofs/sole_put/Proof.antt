@@ -10,32 +10,14 @@ use Rattle.read_part.proofs.Laid.{fault-all, walk-from, sole-parameter,
 use Rattle.read_part.proofs.sole_put.Statement.{statement}
 use Rattle.read_part.proofs.sole_put.Tie as tie
 
-ended-requires : tie.Need-ended-requires
-ended-requires c κs = search needs
-
-add-result : tie.Need-add-result
-add-result c = search needs
-
 returns : tie.Need-returns
 returns c = fault-all _ _ _ _ (c .before .before .before .before .args .stop) (720896 + c .before .before .before .before .args .at) _ _ (search sole-missing) (omega arith)
-
-unfinished-requires : tie.Need-unfinished-requires
-unfinished-requires c κs = search needs
-
-add-result-2 : tie.Need-add-result-2
-add-result-2 c = search needs
 
 returns-2 : tie.Need-returns-2
 returns-2 c = fault-all _ _ _ _ (c .before .before .before .before .before .before .args .stop) (131072 + c .before .before .before .before .before .before .args .at) _ _ (search sole-cut) (omega arith)
 
-walk-element-requires : tie.Need-walk-element-requires
-walk-element-requires c κs = search needs
-
 returns-3 : tie.Need-returns-3
 returns-3 c = fault-all _ _ _ _ (c .before .before .before .before .before .before .before .before .args .stop) (c .before .walk-element .result) _ _ (search sole-walk-far) (c .if3 .taken)
-
-slice-write-row : tie.Need-slice-write-row
-slice-write-row c = search needs
 
 sub-put-text : tie.Need-sub-put-text
 sub-put-text c = search walk-from
@@ -56,15 +38,15 @@ pub sole-put-spec : {M : Type 1} → statement M
 sole-put-spec =
     tie.close
     (tie.spec
-    ended-requires
-    add-result
+    (λ c κs. search needs)
+    (λ c. search needs)
     returns
-    unfinished-requires
-    add-result-2
+    (λ c κs. search needs)
+    (λ c. search needs)
     returns-2
-    walk-element-requires
+    (λ c κs. search needs)
     returns-3
-    slice-write-row
+    (λ c. search needs)
     sub-put-text
     put-text-requires
     leave-requires

@@ -7,25 +7,13 @@ use Rattle.base.proofs.Tests.{tests}
 use Rattle.read_place.proofs.count_at.Statement.{statement}
 use Rattle.read_place.proofs.count_at.Tie as tie
 
-add-if1 : tie.Need-add-if1
-add-if1 c = search needs
-
 returns : tie.Need-returns
 unfolding countOf
 returns c = search tests
 
-shared-slice-read-if2 : tie.Need-shared-slice-read-if2
-shared-slice-read-if2 c = search needs
-
 returns-2 : tie.Need-returns-2
 unfolding countOf
 returns-2 c = search tests
-
-add-n : tie.Need-add-n
-add-n c = search needs
-
-shared-slice-read-n : tie.Need-shared-slice-read-n
-shared-slice-read-n c = search needs
 
 cast-n : tie.Need-cast-n
 cast-n c = omega (arith, c .shared-slice-known2 .given (c .before .before .before .before .args .at + 1))
@@ -33,9 +21,6 @@ cast-n c = omega (arith, c .shared-slice-known2 .given (c .before .before .befor
 returns-3 : tie.Need-returns-3
 unfolding countOf
 returns-3 c = search tests
-
-add-if4 : tie.Need-add-if4
-add-if4 c = search needs
 
 add-if4-2 : tie.Need-add-if4-2
 add-if4-2 c = omega (arith, c .before .shared-slice-known2 .given (c .before .before .before .before .before .args .at + 1))
@@ -52,15 +37,15 @@ pub count-at-spec : {M : Type 1} → statement M
 count-at-spec =
     tie.close
     (tie.spec
-    add-if1
+    (λ c. search needs)
     returns
-    shared-slice-read-if2
+    (λ c. search needs)
     returns-2
-    add-n
-    shared-slice-read-n
+    (λ c. search needs)
+    (λ c. search needs)
     cast-n
     returns-3
-    add-if4
+    (λ c. search needs)
     add-if4-2
     returns-4
     returns-5)

@@ -10,15 +10,9 @@ returns : tie.Need-returns
 unfolding endedOf endBy
 returns c = search ended-closed
 
-sub-left : tie.Need-sub-left
-sub-left c = search needs
-
 returns-2 : tie.Need-returns-2
 unfolding endedOf endBy
 returns-2 c = search (tests, end-opened)
-
-shared-slice-read-if3 : tie.Need-shared-slice-read-if3
-shared-slice-read-if3 c = search needs
 
 returns-3 : tie.Need-returns-3
 unfolding endedOf endBy
@@ -27,12 +21,6 @@ returns-3 c = search (tests, end-opened)
 returns-4 : tie.Need-returns-4
 unfolding endedOf endBy
 returns-4 c = search (tests, end-opened)
-
-add-result : tie.Need-add-result
-add-result c = search needs
-
-shared-slice-read-result : tie.Need-shared-slice-read-result
-shared-slice-read-result c = search needs
 
 returns-5 : tie.Need-returns-5
 unfolding endedOf endBy
@@ -43,11 +31,11 @@ ended-spec =
     tie.close
     (tie.spec
     returns
-    sub-left
+    (λ c. search needs)
     returns-2
-    shared-slice-read-if3
+    (λ c. search needs)
     returns-3
     returns-4
-    add-result
-    shared-slice-read-result
+    (λ c. search needs)
+    (λ c. search needs)
     returns-5)

@@ -4,20 +4,11 @@ use Rattle.read_place.proofs.Fronts.{stands-inside, entry-stands, entry
 use Rattle.read_place.proofs.entry_asked.Statement.{statement}
 use Rattle.read_place.proofs.entry_asked.Tie as tie
 
-stands-requires : tie.Need-stands-requires
-stands-requires c κs = search needs
-
-add-length-at : tie.Need-add-length-at
-add-length-at c = search needs
-
 length-at-requires : tie.Need-length-at-requires
 length-at-requires c κs = search (needs, stands-inside)
 
 returns : tie.Need-returns
 returns c = search entry-stands
-
-wrong-at-requires : tie.Need-wrong-at-requires
-wrong-at-requires c κs = search needs
 
 returns-2 : tie.Need-returns-2
 returns-2 c = search entry-wrong
@@ -25,4 +16,4 @@ returns-2 c = search entry-wrong
 pub entry-asked-spec : {M : Type 1} → statement M
 entry-asked-spec =
     tie.close
-    (tie.spec stands-requires add-length-at length-at-requires returns wrong-at-requires returns-2)
+    (tie.spec (λ c κs. search needs) (λ c. search needs) length-at-requires returns (λ c κs. search needs) returns-2)

@@ -7,11 +7,5 @@ use Rattle.read_place.proofs.leave.Tie as tie
 returns : tie.Need-returns
 returns c = search leave-here
 
-left-at-requires : tie.Need-left-at-requires
-left-at-requires c κs = search needs
-
-returns-2 : tie.Need-returns-2
-returns-2 c = search needs
-
 pub leave-spec : {M : Type 1} → statement M
-leave-spec = tie.close (tie.spec returns left-at-requires returns-2)
+leave-spec = tie.close (tie.spec returns (λ c κs. search needs) (λ c. search needs))

@@ -11,21 +11,9 @@ returns : tie.Need-returns
 unfolding shortPlace
 returns c = search tests
 
-add-if2 : tie.Need-add-if2
-add-if2 c = search needs
-
 returns-2 : tie.Need-returns-2
 unfolding shortPlace
 returns-2 c = search tests
-
-shared-slice-read-first : tie.Need-shared-slice-read-first
-shared-slice-read-first c = search needs
-
-add-n : tie.Need-add-n
-add-n c = search needs
-
-shared-slice-read-n : tie.Need-shared-slice-read-n
-shared-slice-read-n c = search needs
 
 cast-n : tie.Need-cast-n
 cast-n c = omega (arith, c .shared-slice-known2 .given (c .before .before .before .before .args .at + 1))
@@ -42,9 +30,6 @@ returns-5 : tie.Need-returns-5
 unfolding shortPlace
 returns-5 c = search tests
 
-add-result : tie.Need-add-result
-add-result c = search needs
-
 returns-6 : tie.Need-returns-6
 unfolding shortPlace
 returns-6 c = search tests
@@ -57,21 +42,9 @@ returns-8 : tie.Need-returns-8
 unfolding shortPlace
 returns-8 c = search tests
 
-add-if9 : tie.Need-add-if9
-add-if9 c = search needs
-
-add-if9-2 : tie.Need-add-if9-2
-add-if9-2 c = search needs
-
 returns-9 : tie.Need-returns-9
 unfolding shortPlace
 returns-9 c = search tests
-
-add-result-2 : tie.Need-add-result-2
-add-result-2 c = search needs
-
-add-result-3 : tie.Need-add-result-3
-add-result-3 c = search needs
 
 returns-10 : tie.Need-returns-10
 unfolding shortPlace
@@ -82,22 +55,22 @@ short-at-spec =
     tie.close
     (tie.spec
     returns
-    add-if2
+    (λ c. search needs)
     returns-2
-    shared-slice-read-first
-    add-n
-    shared-slice-read-n
+    (λ c. search needs)
+    (λ c. search needs)
+    (λ c. search needs)
     cast-n
     returns-3
     returns-4
     returns-5
-    add-result
+    (λ c. search needs)
     returns-6
     returns-7
     returns-8
-    add-if9
-    add-if9-2
+    (λ c. search needs)
+    (λ c. search needs)
     returns-9
-    add-result-2
-    add-result-3
+    (λ c. search needs)
+    (λ c. search needs)
     returns-10)

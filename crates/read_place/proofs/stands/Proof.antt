@@ -9,12 +9,9 @@ returns : tie.Need-returns
 unfolding standsOf
 returns c = search tests
 
-shared-slice-read-result : tie.Need-shared-slice-read-result
-shared-slice-read-result c = search needs
-
 returns-2 : tie.Need-returns-2
 unfolding standsOf
 returns-2 c = search tests
 
 pub stands-spec : {M : Type 1} → statement M
-stands-spec = tie.close (tie.spec returns shared-slice-read-result returns-2)
+stands-spec = tie.close (tie.spec returns (λ c. search needs) returns-2)

@@ -6,21 +6,12 @@ use Rattle.base.proofs.Tests.{tests}
 use Rattle.read_place.proofs.start_of.Statement.{statement}
 use Rattle.read_place.proofs.start_of.Tie as tie
 
-shared-slice-read-b : tie.Need-shared-slice-read-b
-shared-slice-read-b c = search needs
-
 cast-b : tie.Need-cast-b
 cast-b c = omega (arith, c .shared-slice-known .given (c .before .args .from))
-
-add-result : tie.Need-add-result
-add-result c = search needs
 
 returns : tie.Need-returns
 unfolding lengthSize
 returns c = search tests
-
-sub-result : tie.Need-sub-result
-sub-result c = search needs
 
 add-result-2 : tie.Need-add-result-2
 add-result-2 c = omega (arith, c .before .shared-slice-known .given (c .before .before .args .from))
@@ -36,11 +27,11 @@ pub start-of-spec : {M : Type 1} → statement M
 start-of-spec =
     tie.close
     (tie.spec
-    shared-slice-read-b
+    (λ c. search needs)
     cast-b
-    add-result
+    (λ c. search needs)
     returns
-    sub-result
+    (λ c. search needs)
     add-result-2
     add-result-3
     returns-2)

@@ -10,15 +10,9 @@ returns : tie.Need-returns
 unfolding unfinishedOf endBy
 returns c = search (tests, end-closed, unfinished-not)
 
-sub-left : tie.Need-sub-left
-sub-left c = search needs
-
 returns-2 : tie.Need-returns-2
 unfolding unfinishedOf endBy
 returns-2 c = search (tests, end-opened)
-
-shared-slice-read-if3 : tie.Need-shared-slice-read-if3
-shared-slice-read-if3 c = search needs
 
 returns-3 : tie.Need-returns-3
 unfolding unfinishedOf endBy
@@ -30,4 +24,4 @@ returns-4 c = search (tests, end-opened, unfinished-same)
 
 pub unfinished-spec : {M : Type 1} → statement M
 unfinished-spec =
-    tie.close (tie.spec returns sub-left returns-2 shared-slice-read-if3 returns-3 returns-4)
+    tie.close (tie.spec returns (λ c. search needs) returns-2 (λ c. search needs) returns-3 returns-4)

@@ -4,26 +4,11 @@ use Rattle.read_place.proofs.Fronts.{tag-inside, asked-ended, asked-unf
 use Rattle.read_place.proofs.wrong_at.Statement.{statement}
 use Rattle.read_place.proofs.wrong_at.Tie as tie
 
-ended-requires : tie.Need-ended-requires
-ended-requires c κs = search needs
-
-add-result : tie.Need-add-result
-add-result c = search needs
-
 returns : tie.Need-returns
 returns c = search asked-ended
 
-unfinished-requires : tie.Need-unfinished-requires
-unfinished-requires c κs = search needs
-
-add-result-2 : tie.Need-add-result-2
-add-result-2 c = search needs
-
 returns-2 : tie.Need-returns-2
 returns-2 c = search asked-unfinished
-
-tag-at-requires : tie.Need-tag-at-requires
-tag-at-requires c κs = search needs
 
 returns-3 : tie.Need-returns-3
 returns-3 c = search (wrong-tag, more-here)
@@ -31,23 +16,14 @@ returns-3 c = search (wrong-tag, more-here)
 shared-slice-read-if4 : tie.Need-shared-slice-read-if4
 shared-slice-read-if4 c = search tag-inside
 
-add-result-3 : tie.Need-add-result-3
-add-result-3 c = search needs
-
 returns-4 : tie.Need-returns-4
 returns-4 c = search (wrong-zero, more-here)
 
 shared-slice-read-if5 : tie.Need-shared-slice-read-if5
 shared-slice-read-if5 c = search tag-inside
 
-add-result-4 : tie.Need-add-result-4
-add-result-4 c = search needs
-
 returns-5 : tie.Need-returns-5
 returns-5 c = search (wrong-code, more-here)
-
-add-result-5 : tie.Need-add-result-5
-add-result-5 c = search needs
 
 returns-6 : tie.Need-returns-6
 returns-6 c = search (wrong-other, more-here)
@@ -56,19 +32,19 @@ pub wrong-at-spec : {M : Type 1} → statement M
 wrong-at-spec =
     tie.close
     (tie.spec
-    ended-requires
-    add-result
+    (λ c κs. search needs)
+    (λ c. search needs)
     returns
-    unfinished-requires
-    add-result-2
+    (λ c κs. search needs)
+    (λ c. search needs)
     returns-2
-    tag-at-requires
+    (λ c κs. search needs)
     returns-3
     shared-slice-read-if4
-    add-result-3
+    (λ c. search needs)
     returns-4
     shared-slice-read-if5
-    add-result-4
+    (λ c. search needs)
     returns-5
-    add-result-5
+    (λ c. search needs)
     returns-6)

@@ -7,27 +7,6 @@ use Rattle.read_refusal.proofs.answer_of.Tie as tie
 enum-told : tie.Need-enum-told
 enum-told c = search needs
 
-enum-told-2 : tie.Need-enum-told-2
-enum-told-2 c = search needs
-
-enum-told-3 : tie.Need-enum-told-3
-enum-told-3 c = search needs
-
-answer-by-requires : tie.Need-answer-by-requires
-answer-by-requires c κs = search needs
-
-enum-told-4 : tie.Need-enum-told-4
-enum-told-4 c = search needs
-
-answer-by-requires-2 : tie.Need-answer-by-requires-2
-answer-by-requires-2 c κs = search needs
-
-enum-told-5 : tie.Need-enum-told-5
-enum-told-5 c = search needs
-
-answer-by-requires-3 : tie.Need-answer-by-requires-3
-answer-by-requires-3 c κs = search needs
-
 returns : tie.Need-returns
 unfolding answerFor
 returns c = rw (c .enum-told .given .1)
@@ -53,13 +32,13 @@ answer-of-spec =
     tie.close
     (tie.spec
     enum-told
-    enum-told-2
-    enum-told-3
-    answer-by-requires
-    enum-told-4
-    answer-by-requires-2
-    enum-told-5
-    answer-by-requires-3
+    (λ c. search needs)
+    (λ c. search needs)
+    (λ c κs. search needs)
+    (λ c. search needs)
+    (λ c κs. search needs)
+    (λ c. search needs)
+    (λ c κs. search needs)
     returns
     returns-2
     returns-3

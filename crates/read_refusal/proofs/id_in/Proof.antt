@@ -9,11 +9,8 @@ use Rattle.read_refusal.proofs.id_in.Tie as tie
 returns : tie.Need-returns
 returns c = search id-null
 
-signed-octet-requires : tie.Need-signed-octet-requires
-signed-octet-requires c κs = search needs
-
 returns-2 : tie.Need-returns-2
 returns-2 c = rw (toZ-ofZ {w = w8} (record { sfits = c .signed-octet .ok })) (id-known _ _ (c .before .if1 .left) _ (c .signed-octet .ensures))
 
 pub id-in-spec : {M : Type 1} → statement M
-id-in-spec = tie.close (tie.spec returns signed-octet-requires returns-2)
+id-in-spec = tie.close (tie.spec returns (λ c κs. search needs) returns-2)

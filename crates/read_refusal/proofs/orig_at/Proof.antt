@@ -7,9 +7,6 @@ use Rattle.read_refusal.proofs.Origs.{orig-entry, orig-unread, orig-wit
 use Rattle.read_refusal.proofs.orig_at.Statement.{statement}
 use Rattle.read_refusal.proofs.orig_at.Tie as tie
 
-entry-asked-requires : tie.Need-entry-asked-requires
-entry-asked-requires c κs = search needs
-
 returns : tie.Need-returns
 returns c = search orig-entry
 
@@ -31,9 +28,6 @@ sub-size c = let within = orig-within (now (c .before .before .before .before .b
 cast-t10 : tie.Need-cast-t10
 cast-t10 c = let within = orig-within (now (c .before .before .before .before .before .before .args .m)) _ (c .before .before .before .before .before .before .pre .0) (c .before .before .before .before .before .before .pre .1) (c .before .before .before .before .before .before .pre .2) _ (c .before .before .before .before .before .before .pre .3) (c .before .before .before .before .before .before .pre .4) _ (c .before .before .before .before .entry-asked .ensures) (c .before .before .before .if1 .left) _ (c .before .before .start-of .ensures) _ (c .before .transaction-id-at .ensures) (c .if2 .left) in omega (arith, within)
 
-cast-t11 : tie.Need-cast-t11
-cast-t11 c = search needs
-
 returns-3 : tie.Need-returns-3
 returns-3 c = search orig-read
 
@@ -41,7 +35,7 @@ pub orig-at-spec : {M : Type 1} → statement M
 orig-at-spec =
     tie.close
     (tie.spec
-    entry-asked-requires
+    (λ c κs. search needs)
     returns
     start-of-requires
     transaction-id-at-requires
@@ -49,5 +43,5 @@ orig-at-spec =
     add-place
     sub-size
     cast-t10
-    cast-t11
+    (λ c. search needs)
     returns-3)

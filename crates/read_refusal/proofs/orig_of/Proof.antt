@@ -10,20 +10,11 @@ returns c = search orig-long
 returns-2 : tie.Need-returns-2
 returns-2 c = search orig-empty
 
-shared-slice-read-tag : tie.Need-shared-slice-read-tag
-shared-slice-read-tag c = search needs
-
 orig-at-requires : tie.Need-orig-at-requires
 orig-at-requires c κs = search (needs, ided-begin)
 
-returns-3 : tie.Need-returns-3
-returns-3 c = search needs
-
 orig-at-requires-2 : tie.Need-orig-at-requires-2
 orig-at-requires-2 c κs = search (needs, ided-continue)
-
-returns-4 : tie.Need-returns-4
-returns-4 c = search needs
 
 returns-5 : tie.Need-returns-5
 returns-5 c = search orig-other
@@ -34,9 +25,9 @@ orig-of-spec =
     (tie.spec
     returns
     returns-2
-    shared-slice-read-tag
+    (λ c. search needs)
     orig-at-requires
-    returns-3
+    (λ c. search needs)
     orig-at-requires-2
-    returns-4
+    (λ c. search needs)
     returns-5)

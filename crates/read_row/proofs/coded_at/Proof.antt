@@ -7,20 +7,11 @@ use Rattle.read_row.proofs.Joined.{coded-left}
 use Rattle.read_row.proofs.coded_at.Statement.{statement}
 use Rattle.read_row.proofs.coded_at.Tie as tie
 
-code-at-requires : tie.Need-code-at-requires
-code-at-requires c κs = search needs
-
-same-length : tie.Need-same-length
-same-length c = search needs
-
 returns : tie.Need-returns
 returns c = fault-all _ _ _ _ (c .before .before .before .before .before .before .before .args .stop) (c .before .before .before .code-at .result) _ _ (search code-far) (c .if1 .taken)
 
 last-put-requires : tie.Need-last-put-requires
 last-put-requires c κs = search (needs, reads-within)
-
-same-length-2 : tie.Need-same-length-2
-same-length-2 c = search needs
 
 returns-2 : tie.Need-returns-2
 returns-2 c = search (code-near, coded-left)
@@ -28,4 +19,4 @@ returns-2 c = search (code-near, coded-left)
 pub coded-at-spec : {M : Type 1} → statement M
 coded-at-spec =
     tie.close
-    (tie.spec code-at-requires same-length returns last-put-requires same-length-2 returns-2)
+    (tie.spec (λ c κs. search needs) (λ c. search needs) returns last-put-requires (λ c. search needs) returns-2)

@@ -7,20 +7,11 @@ use Rattle.read_row.proofs.Joined.{contents-left-invoke, contents-left-
 use Rattle.read_row.proofs.contents_at.Statement.{statement}
 use Rattle.read_row.proofs.contents_at.Tie as tie
 
-slice-write-row : tie.Need-slice-write-row
-slice-write-row c = search needs
-
-invoke-at-requires : tie.Need-invoke-at-requires
-invoke-at-requires c κs = search needs
-
 same-length : tie.Need-same-length
 same-length c = c .before .row .given ∙ stored (c .before .before .before .before .before .before .before .args .row .now) 0 (c .before .before .before .before .before .before .before .args .tag)
 
 returns : tie.Need-returns
 returns c = search (contents-invoke, contents-left-invoke)
-
-error-at-requires : tie.Need-error-at-requires
-error-at-requires c κs = search needs
 
 same-length-2 : tie.Need-same-length-2
 same-length-2 c = c .before .row2 .given ∙ stored (c .before .before .before .before .before .before .before .before .args .row .now) 0 (c .before .before .before .before .before .before .before .before .args .tag)
@@ -28,17 +19,11 @@ same-length-2 c = c .before .row2 .given ∙ stored (c .before .before .before .
 returns-2 : tie.Need-returns-2
 returns-2 c = search (contents-error, contents-left-error)
 
-reject-at-requires : tie.Need-reject-at-requires
-reject-at-requires c κs = search needs
-
 same-length-3 : tie.Need-same-length-3
 same-length-3 c = c .before .row3 .given ∙ stored (c .before .before .before .before .before .before .before .before .before .args .row .now) 0 (c .before .before .before .before .before .before .before .before .before .args .tag)
 
 returns-3 : tie.Need-returns-3
 returns-3 c = search (contents-reject, contents-left-reject)
-
-returned-at-requires : tie.Need-returned-at-requires
-returned-at-requires c κs = search needs
 
 same-length-4 : tie.Need-same-length-4
 same-length-4 c = c .before .row4 .given ∙ stored (c .before .before .before .before .before .before .before .before .before .args .row .now) 0 (c .before .before .before .before .before .before .before .before .before .args .tag)
@@ -50,16 +35,16 @@ pub contents-at-spec : {M : Type 1} → statement M
 contents-at-spec =
     tie.close
     (tie.spec
-    slice-write-row
-    invoke-at-requires
+    (λ c. search needs)
+    (λ c κs. search needs)
     same-length
     returns
-    error-at-requires
+    (λ c κs. search needs)
     same-length-2
     returns-2
-    reject-at-requires
+    (λ c κs. search needs)
     same-length-3
     returns-3
-    returned-at-requires
+    (λ c κs. search needs)
     same-length-4
     returns-4)

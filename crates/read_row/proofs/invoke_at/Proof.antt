@@ -6,20 +6,11 @@ use Rattle.read_row.proofs.Joined.{invoke-left-far, invoke-left}
 use Rattle.read_row.proofs.invoke_at.Statement.{statement}
 use Rattle.read_row.proofs.invoke_at.Tie as tie
 
-id-at-requires : tie.Need-id-at-requires
-id-at-requires c κs = search needs
-
-same-length : tie.Need-same-length
-same-length c = search needs
-
 returns : tie.Need-returns
 returns c = search (invoke-far, invoke-left-far)
 
 linked-at-requires : tie.Need-linked-at-requires
 linked-at-requires c κs = search (needs, reads-within)
-
-same-length-2 : tie.Need-same-length-2
-same-length-2 c = search needs
 
 returns-2 : tie.Need-returns-2
 returns-2 c = search (invoke-near, invoke-left)
@@ -27,4 +18,4 @@ returns-2 c = search (invoke-near, invoke-left)
 pub invoke-at-spec : {M : Type 1} → statement M
 invoke-at-spec =
     tie.close
-    (tie.spec id-at-requires same-length returns linked-at-requires same-length-2 returns-2)
+    (tie.spec (λ c κs. search needs) (λ c. search needs) returns linked-at-requires (λ c. search needs) returns-2)

@@ -12,26 +12,11 @@ use Rattle.read_row.proofs.Joined.{unlinked-left, linked-on-left}
 use Rattle.read_row.proofs.linked_at.Statement.{statement}
 use Rattle.read_row.proofs.linked_at.Tie as tie
 
-stands-requires : tie.Need-stands-requires
-stands-requires c κs = search needs
-
-octet-at-requires : tie.Need-octet-at-requires
-octet-at-requires c κs = search needs
-
 returns : tie.Need-returns
 returns c = fault-all _ _ _ _ (c .before .before .before .before .before .before .args .stop) (c .before .octet-at .result) _ _ (search linked-far) (c .if2 .taken)
 
-slice-write-row : tie.Need-slice-write-row
-slice-write-row c = search needs
-
-add-row : tie.Need-add-row
-add-row c = search needs
-
 shared-slice-read-row : tie.Need-shared-slice-read-row
 shared-slice-read-row c = octet-inside _ _ _ _ (search needs) 128 (omega arith, omega arith, omega arith) (c .before .before .octet-at .ensures) (c .before .if2 .left)
-
-slice-write-row-2 : tie.Need-slice-write-row-2
-slice-write-row-2 c = search needs
 
 coded-at-requires : tie.Need-coded-at-requires
 coded-at-requires c κs = (search (needs, reads-within), simp length-set (omega arith))
@@ -42,12 +27,6 @@ same-length c = c .before .row .given ∙ stored (set (c .before .before .before
 returns-2 : tie.Need-returns-2
 returns-2 c = let low : (i : ℕ) → getD (now (c .before .before .before .before .before .before .before .before .before .before .before .args .m)) i 0 < 256 = λ i. omega (arith, c .before .before .before .before .before .before .before .before .before .before .shared-slice-known .given i) in (search linked-near, linked-on-left _ _ _ (search needs) (search needs) _ (c .before .before .before .before .before .before .before .before .stands .ensures) _ _ (c .before .before .before .before .before .before .before .if1 .taken) _ (c .before .before .before .before .before .before .octet-at .ensures) (c .before .before .before .before .before .if2 .left) low (c .before .before .coded-at .ensures .1))
 
-coded-at-requires-2 : tie.Need-coded-at-requires-2
-coded-at-requires-2 c κs = search needs
-
-same-length-2 : tie.Need-same-length-2
-same-length-2 c = search needs
-
 returns-3 : tie.Need-returns-3
 returns-3 c = search (linked-none, unlinked-left)
 
@@ -55,16 +34,16 @@ pub linked-at-spec : {M : Type 1} → statement M
 linked-at-spec =
     tie.close
     (tie.spec
-    stands-requires
-    octet-at-requires
+    (λ c κs. search needs)
+    (λ c κs. search needs)
     returns
-    slice-write-row
-    add-row
+    (λ c. search needs)
+    (λ c. search needs)
     shared-slice-read-row
-    slice-write-row-2
+    (λ c. search needs)
     coded-at-requires
     same-length
     returns-2
-    coded-at-requires-2
-    same-length-2
+    (λ c κs. search needs)
+    (λ c. search needs)
     returns-3)

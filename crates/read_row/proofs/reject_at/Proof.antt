@@ -7,29 +7,17 @@ use Rattle.read_row.proofs.Joined.{reject-left-far, problem-left-far, r
 use Rattle.read_row.proofs.reject_at.Statement.{statement}
 use Rattle.read_row.proofs.reject_at.Tie as tie
 
-reject-id-at-requires : tie.Need-reject-id-at-requires
-reject-id-at-requires c κs = search needs
-
-same-length : tie.Need-same-length
-same-length c = search needs
-
 returns : tie.Need-returns
 returns c = search (reject-id-far, reject-left-far)
 
 problem-at-requires : tie.Need-problem-at-requires
 problem-at-requires c κs = search (needs, reads-within)
 
-same-length-2 : tie.Need-same-length-2
-same-length-2 c = search needs
-
 returns-2 : tie.Need-returns-2
 returns-2 c = search (reject-problem-far, problem-left-far)
 
 leave-requires : tie.Need-leave-requires
 leave-requires c κs = ((reads-within problemItem _ _ _ _ (c .before .before .before .problem-at .ensures .0) (c .if2 .left), search needs, search needs), search needs)
-
-same-length-3 : tie.Need-same-length-3
-same-length-3 c = search needs
 
 returns-3 : tie.Need-returns-3
 returns-3 c = search (reject-near, reject-left)
@@ -38,12 +26,12 @@ pub reject-at-spec : {M : Type 1} → statement M
 reject-at-spec =
     tie.close
     (tie.spec
-    reject-id-at-requires
-    same-length
+    (λ c κs. search needs)
+    (λ c. search needs)
     returns
     problem-at-requires
-    same-length-2
+    (λ c. search needs)
     returns-2
     leave-requires
-    same-length-3
+    (λ c. search needs)
     returns-3)

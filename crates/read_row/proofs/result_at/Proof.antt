@@ -7,23 +7,11 @@ use Rattle.read_row.proofs.Joined.{result-left-none, result-left}
 use Rattle.read_row.proofs.result_at.Statement.{statement}
 use Rattle.read_row.proofs.result_at.Tie as tie
 
-ended-requires : tie.Need-ended-requires
-ended-requires c κs = search needs
-
-behind-requires : tie.Need-behind-requires
-behind-requires c κs = search needs
-
 returns : tie.Need-returns
 returns c = search (result-none, result-left-none)
 
-entry-at-requires : tie.Need-entry-at-requires
-entry-at-requires c κs = search needs
-
 returns-2 : tie.Need-returns-2
 returns-2 c = fault-all _ _ _ _ (c .before .before .before .before .before .before .args .stop) (c .before .entry-at .result) _ _ (search result-entry) (c .if2 .taken)
-
-add-start-of : tie.Need-add-start-of
-add-start-of c = search needs
 
 start-of-requires : tie.Need-start-of-requires
 start-of-requires c κs = search (needs, entry-inside)
@@ -31,17 +19,11 @@ start-of-requires c κs = search (needs, entry-inside)
 both-at-requires : tie.Need-both-at-requires
 both-at-requires c κs = search (needs, entry-from, entry-to)
 
-same-length : tie.Need-same-length
-same-length c = search needs
-
 returns-3 : tie.Need-returns-3
 returns-3 c = fault-all _ _ _ _ (c .before .before .before .before .before .before .before .before .before .before .before .before .args .stop) (c .before .before .before .both-at .result) _ _ (search result-far) (c .if3 .taken)
 
 leave-requires : tie.Need-leave-requires
 leave-requires c κs = search (needs, result-within)
-
-same-length-2 : tie.Need-same-length-2
-same-length-2 c = search needs
 
 returns-4 : tie.Need-returns-4
 returns-4 c = search (result-near, result-left)
@@ -50,16 +32,16 @@ pub result-at-spec : {M : Type 1} → statement M
 result-at-spec =
     tie.close
     (tie.spec
-    ended-requires
-    behind-requires
+    (λ c κs. search needs)
+    (λ c κs. search needs)
     returns
-    entry-at-requires
+    (λ c κs. search needs)
     returns-2
-    add-start-of
+    (λ c. search needs)
     start-of-requires
     both-at-requires
-    same-length
+    (λ c. search needs)
     returns-3
     leave-requires
-    same-length-2
+    (λ c. search needs)
     returns-4)

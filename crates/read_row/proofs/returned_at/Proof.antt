@@ -6,20 +6,11 @@ use Rattle.read_row.proofs.Joined.{returned-left-far, returned-left}
 use Rattle.read_row.proofs.returned_at.Statement.{statement}
 use Rattle.read_row.proofs.returned_at.Tie as tie
 
-id-at-requires : tie.Need-id-at-requires
-id-at-requires c κs = search needs
-
-same-length : tie.Need-same-length
-same-length c = search needs
-
 returns : tie.Need-returns
 returns c = search (returned-far, returned-left-far)
 
 result-at-requires : tie.Need-result-at-requires
 result-at-requires c κs = search (needs, reads-within)
-
-same-length-2 : tie.Need-same-length-2
-same-length-2 c = search needs
 
 returns-2 : tie.Need-returns-2
 returns-2 c = search (returned-near, returned-left)
@@ -27,4 +18,4 @@ returns-2 c = search (returned-near, returned-left)
 pub returned-at-spec : {M : Type 1} → statement M
 returned-at-spec =
     tie.close
-    (tie.spec id-at-requires same-length returns result-at-requires same-length-2 returns-2)
+    (tie.spec (λ c κs. search needs) (λ c. search needs) returns result-at-requires (λ c. search needs) returns-2)

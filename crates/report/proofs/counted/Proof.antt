@@ -4,22 +4,13 @@ use Rattle.report.specs.Tallied.{tallied}
 use Rattle.report.proofs.counted.Statement.{statement}
 use Rattle.report.proofs.counted.Tie as tie
 
-more-requires : tie.Need-more-requires
-more-requires c κs = search needs
-
 returns : tie.Need-returns
 unfolding tallied
 returns c = rw (c .more .ensures, c .before .if1 .taken)
-
-more-requires-2 : tie.Need-more-requires-2
-more-requires-2 c κs = search needs
-
-more-requires-3 : tie.Need-more-requires-3
-more-requires-3 c κs = search needs
 
 returns-2 : tie.Need-returns-2
 unfolding tallied
 returns-2 c = rw (c .before .more2 .ensures, c .more3 .ensures, c .before .before .if1 .left)
 
 pub counted-spec : {M : Type 1} → statement M
-counted-spec = tie.close (tie.spec more-requires returns more-requires-2 more-requires-3 returns-2)
+counted-spec = tie.close (tie.spec (λ c κs. search needs) returns (λ c κs. search needs) (λ c κs. search needs) returns-2)

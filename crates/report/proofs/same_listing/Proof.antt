@@ -8,15 +8,6 @@ use Rattle.report.proofs.Fits.{counts-of, text-of, no-such-text}
 use Rattle.report.proofs.same_listing.Statement.{statement}
 use Rattle.report.proofs.same_listing.Tie as tie
 
-slice-aggregate-list-reading : tie.Need-slice-aggregate-list-reading
-slice-aggregate-list-reading c = search needs
-
-list-reading-requires : tie.Need-list-reading-requires
-list-reading-requires c κs = search needs
-
-enum-known-listed : tie.Need-enum-known-listed
-enum-known-listed c = search needs
-
 array-share-prefix-text : tie.Need-array-share-prefix-text
 array-share-prefix-text c =
     let answered = c .before .before .before .before .list-reading .ensures .0 in
@@ -28,9 +19,6 @@ slice-aggregate-same c =
     let answered = c .before .before .before .before .before .list-reading .ensures .0 in
     let left = c .before .before .before .before .before .list-reading .ensures .1 in
     counts-of _ _ answered (c .before .before .listed .given .1) left .1
-
-same-requires : tie.Need-same-requires
-same-requires c κs = search needs
 
 enum-told : tie.Need-enum-told
 enum-told c = search needs
@@ -51,12 +39,12 @@ pub same-listing-spec : {M : Type 1} → statement M
 same-listing-spec =
     tie.close
     (tie.spec
-    slice-aggregate-list-reading
-    list-reading-requires
-    enum-known-listed
+    (λ c. search needs)
+    (λ c κs. search needs)
+    (λ c. search needs)
     array-share-prefix-text
     slice-aggregate-same
-    same-requires
+    (λ c κs. search needs)
     enum-told
     returns
     returns-2)

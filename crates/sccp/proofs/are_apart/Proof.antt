@@ -4,9 +4,6 @@ use Rattle.sccp.proofs.Reading.{apart-first, apart-later}
 use Rattle.sccp.proofs.are_apart.Statement.{statement}
 use Rattle.sccp.proofs.are_apart.Tie as tie
 
-sub-result : tie.Need-sub-result
-sub-result c = search needs
-
 returns : tie.Need-returns
 returns c = apart-first _ _ (c .before .before .before .if1 .taken)
 
@@ -14,4 +11,4 @@ returns-2 : tie.Need-returns-2
 returns-2 c = apart-later _ _ (c .before .before .before .if1 .left)
 
 pub are-apart-spec : {M : Type 1} → statement M
-are-apart-spec = tie.close (tie.spec sub-result returns returns-2)
+are-apart-spec = tie.close (tie.spec (λ c. search needs) returns returns-2)

@@ -19,22 +19,13 @@ returns-3 : tie.Need-returns-3
 unfolding separate
 returns-3 c = search tests
 
-are-apart-requires : tie.Need-are-apart-requires
-are-apart-requires c κs = search needs
-
 returns-4 : tie.Need-returns-4
 unfolding separate
 returns-4 c = search (tests, sym (c .before .are-apart .ensures) ∙ not-true (c .before .are-apart .result) (c .if4 .taken))
 
-are-apart-requires-2 : tie.Need-are-apart-requires-2
-are-apart-requires-2 c κs = search needs
-
 returns-5 : tie.Need-returns-5
 unfolding separate
 returns-5 c = search (tests, sym (c .before .before .before .are-apart .ensures) ∙ not-false (c .before .before .before .are-apart .result) (c .before .before .if4 .left), sym (c .before .are-apart2 .ensures) ∙ not-true (c .before .are-apart2 .result) (c .if5 .taken))
-
-are-apart-requires-3 : tie.Need-are-apart-requires-3
-are-apart-requires-3 c κs = search needs
 
 returns-6 : tie.Need-returns-6
 unfolding separate
@@ -47,9 +38,9 @@ are-separate-spec =
     returns
     returns-2
     returns-3
-    are-apart-requires
+    (λ c κs. search needs)
     returns-4
-    are-apart-requires-2
+    (λ c κs. search needs)
     returns-5
-    are-apart-requires-3
+    (λ c κs. search needs)
     returns-6)

@@ -7,9 +7,6 @@ use borrow.Author.Needs.{needs}
 use Rattle.sccp.proofs.parts_judged.Statement.{statement}
 use Rattle.sccp.proofs.parts_judged.Tie as tie
 
-are-separate-requires : tie.Need-are-separate-requires
-are-separate-requires c κs = search needs
-
 returns : tie.Need-returns
 unfolding judged
 returns c = rw (sym (c .before .are-separate .ensures) ∙ not-true (c .before .are-separate .result) (c .if1 .taken))
@@ -28,4 +25,4 @@ returns-4 c = search (tests, sym (c .before .before .before .before .before .are
 
 pub parts-judged-spec : {M : Type 1} → statement M
 parts-judged-spec =
-    tie.close (tie.spec are-separate-requires returns returns-2 returns-3 returns-4)
+    tie.close (tie.spec (λ c κs. search needs) returns returns-2 returns-3 returns-4)

@@ -7,12 +7,6 @@ use Rattle.steering.proofs.answer.Tie as tie
 enum-told : tie.Need-enum-told
 enum-told c = search needs
 
-link-of-requires : tie.Need-link-of-requires
-link-of-requires c κs = search needs
-
-enum-known-outcome : tie.Need-enum-known-outcome
-enum-known-outcome c = search needs
-
 returns : tie.Need-returns
 unfolding answered
 returns c = rw (c .before .enum-told .given .1) (c .link-of .ensures)
@@ -22,4 +16,4 @@ unfolding answered
 returns-2 c = rw (c .before .outcome .given .1)
 
 pub answer-spec : {M : Type 1} → statement M
-answer-spec = tie.close (tie.spec enum-told link-of-requires enum-known-outcome returns returns-2)
+answer-spec = tie.close (tie.spec enum-told (λ c κs. search needs) (λ c. search needs) returns returns-2)

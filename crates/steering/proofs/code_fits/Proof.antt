@@ -8,15 +8,6 @@ use Rattle.steering.proofs.code_fits.Tie as tie
 enum-told : tie.Need-enum-told
 enum-told c = search needs
 
-enum-known-asked : tie.Need-enum-known-asked
-enum-known-asked c = search needs
-
-enum-told-2 : tie.Need-enum-told-2
-enum-told-2 c = search needs
-
-enum-known-first : tie.Need-enum-known-first
-enum-known-first c = search needs
-
 returns : tie.Need-returns
 unfolding codeFits
 returns c = rw (c .enum-told .given .1)
@@ -34,4 +25,4 @@ returns-3 c =
 pub code-fits-spec : {M : Type 1} → statement M
 code-fits-spec =
     tie.close
-    (tie.spec enum-told enum-known-asked enum-told-2 enum-known-first returns returns-2 returns-3)
+    (tie.spec enum-told (λ c. search needs) (λ c. search needs) (λ c. search needs) returns returns-2 returns-3)

@@ -10,29 +10,17 @@ use borrow.Author.Needs.{needs}
 use Rattle.steering.proofs.first_in.Statement.{statement}
 use Rattle.steering.proofs.first_in.Tie as tie
 
-shared-slice-read-if1 : tie.Need-shared-slice-read-if1
-shared-slice-read-if1 c = search needs
-
 returns : tie.Need-returns
 unfolding firstIn
 returns c = search tests
-
-shared-slice-read-if2 : tie.Need-shared-slice-read-if2
-shared-slice-read-if2 c = search needs
 
 returns-2 : tie.Need-returns-2
 unfolding firstIn
 returns-2 c = search tests
 
-shared-slice-read-if3 : tie.Need-shared-slice-read-if3
-shared-slice-read-if3 c = search needs
-
 returns-3 : tie.Need-returns-3
 unfolding firstIn
 returns-3 c = search tests
-
-piece-requires : tie.Need-piece-requires
-piece-requires c κs = search needs
 
 signed-in-requires : tie.Need-signed-in-requires
 signed-in-requires c κs = four-long 52 (c .before .before .before .before .before .before .before .before .args .octets .now) (omega (arith, c .before .before .before .before .before .before .before .before .pre)) (c .piece .ensures)
@@ -45,12 +33,12 @@ pub first-in-spec : {M : Type 1} → statement M
 first-in-spec =
     tie.close
     (tie.spec
-    shared-slice-read-if1
+    (λ c. search needs)
     returns
-    shared-slice-read-if2
+    (λ c. search needs)
     returns-2
-    shared-slice-read-if3
+    (λ c. search needs)
     returns-3
-    piece-requires
+    (λ c κs. search needs)
     signed-in-requires
     returns-4)

@@ -7,9 +7,6 @@ use Rattle.steering.proofs.link_of.Tie as tie
 enum-told : tie.Need-enum-told
 enum-told c = search needs
 
-enum-known-choice : tie.Need-enum-known-choice
-enum-known-choice c = search needs
-
 returns : tie.Need-returns
 unfolding chosen
 returns c = rw (c .enum-told .given .1)
@@ -19,4 +16,4 @@ unfolding chosen
 returns-2 c = rw (c .before .choice .given .1)
 
 pub link-of-spec : {M : Type 1} → statement M
-link-of-spec = tie.close (tie.spec enum-told enum-known-choice returns returns-2)
+link-of-spec = tie.close (tie.spec enum-told (λ c. search needs) returns returns-2)

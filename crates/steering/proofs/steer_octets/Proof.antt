@@ -4,18 +4,9 @@ use borrow.Author.Needs.{needs}
 use Rattle.steering.proofs.steer_octets.Statement.{statement}
 use Rattle.steering.proofs.steer_octets.Tie as tie
 
-key-of-requires : tie.Need-key-of-requires
-key-of-requires c κs = search needs
-
-first-in-requires : tie.Need-first-in-requires
-first-in-requires c κs = search needs
-
-answer-requires : tie.Need-answer-requires
-answer-requires c κs = search needs
-
 returns : tie.Need-returns
 returns c = whole-answer _ _ _ _ _ (c .before .first-in .ensures) (c .answer .ensures) (c .before .before .key-of .ensures)
 
 pub steer-octets-spec : {M : Type 1} → statement M
 steer-octets-spec =
-    tie.close (tie.spec key-of-requires first-in-requires answer-requires returns)
+    tie.close (tie.spec (λ c κs. search needs) (λ c κs. search needs) (λ c κs. search needs) returns)

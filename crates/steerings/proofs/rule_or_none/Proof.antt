@@ -8,12 +8,6 @@ use borrow.Author.Needs.{needs}
 use Rattle.steerings.proofs.rule_or_none.Statement.{statement}
 use Rattle.steerings.proofs.rule_or_none.Tie as tie
 
-add-if1 : tie.Need-add-if1
-add-if1 c = search needs
-
-after-requires : tie.Need-after-requires
-after-requires c κs = search needs
-
 rule-of-requires : tie.Need-rule-of-requires
 rule-of-requires c κs = rule-long (c .before .before .before .args .rules .now) 1 (c .before .before .before .args .at) (omega arith) (omega (arith, c .before .if1 .taken)) (c .after .ensures)
 
@@ -26,4 +20,4 @@ unfolding ruleOr
 returns-2 c = search tests
 
 pub rule-or-none-spec : {M : Type 1} → statement M
-rule-or-none-spec = tie.close (tie.spec add-if1 after-requires rule-of-requires returns returns-2)
+rule-or-none-spec = tie.close (tie.spec (λ c. search needs) (λ c κs. search needs) rule-of-requires returns returns-2)

@@ -4,18 +4,6 @@ use borrow.Author.Needs.{needs}
 use Rattle.steerings.proofs.same_answer.Statement.{statement}
 use Rattle.steerings.proofs.same_answer.Tie as tie
 
-enum-known-answer : tie.Need-enum-known-answer
-enum-known-answer c = search needs
-
-same-cause-requires : tie.Need-same-cause-requires
-same-cause-requires c κs = search needs
-
-enum-known-answer-2 : tie.Need-enum-known-answer-2
-enum-known-answer-2 c = search needs
-
-same-problem-requires : tie.Need-same-problem-requires
-same-problem-requires c κs = search needs
-
 returns : tie.Need-returns
 unfolding AnswerIs
 returns c = rw (c .before .before .answer .given .1) (c .same-cause .ensures)
@@ -28,9 +16,9 @@ pub same-answer-spec : {M : Type 1} → statement M
 same-answer-spec =
     tie.close
     (tie.spec
-    enum-known-answer
-    same-cause-requires
-    enum-known-answer-2
-    same-problem-requires
+    (λ c. search needs)
+    (λ c κs. search needs)
+    (λ c. search needs)
+    (λ c κs. search needs)
     returns
     returns-2)

@@ -5,20 +5,8 @@ use borrow.Author.Needs.{needs}
 use Rattle.steerings.proofs.same_both.Statement.{statement}
 use Rattle.steerings.proofs.same_both.Tie as tie
 
-steer-octets-requires : tie.Need-steer-octets-requires
-steer-octets-requires c κs = search needs
-
-same-steered-requires : tie.Need-same-steered-requires
-same-steered-requires c κs = search needs
-
 returns : tie.Need-returns
 returns c = denies (λ p. fails (c .before .same-steered .ensures) (not-true _ (c .if1 .taken)) (rw (c .before .before .steer-octets .ensures) (p .0)))
-
-steer-structs-requires : tie.Need-steer-structs-requires
-steer-structs-requires c κs = search needs
-
-same-steered-requires-2 : tie.Need-same-steered-requires-2
-same-steered-requires-2 c κs = search needs
 
 returns-2 : tie.Need-returns-2
 returns-2 c = also (rw (← c .before .before .before .before .steer-octets .ensures) (c .before .before .before .same-steered .ensures .0 (not-false _ (c .before .before .if1 .left)))) (rw (← c .before .steer-structs .ensures) (c .same-steered2 .ensures))
@@ -27,9 +15,9 @@ pub same-both-spec : {M : Type 1} → statement M
 same-both-spec =
     tie.close
     (tie.spec
-    steer-octets-requires
-    same-steered-requires
+    (λ c κs. search needs)
+    (λ c κs. search needs)
     returns
-    steer-structs-requires
-    same-steered-requires-2
+    (λ c κs. search needs)
+    (λ c κs. search needs)
     returns-2)

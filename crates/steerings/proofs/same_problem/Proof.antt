@@ -14,11 +14,8 @@ returns-2 c = denies (λ p. c .if2 .taken (p .1))
 returns-3 : tie.Need-returns-3
 returns-3 c = denies (λ p. c .if3 .taken (p .2))
 
-same-id-requires : tie.Need-same-id-requires
-same-id-requires c κs = search needs
-
 returns-4 : tie.Need-returns-4
 returns-4 c = fourth (c .before .before .before .before .before .if1 .left) (c .before .before .before .if2 .left) (c .before .if3 .left) (c .same-id .ensures)
 
 pub same-problem-spec : {M : Type 1} → statement M
-same-problem-spec = tie.close (tie.spec returns returns-2 returns-3 same-id-requires returns-4)
+same-problem-spec = tie.close (tie.spec returns returns-2 returns-3 (λ c κs. search needs) returns-4)

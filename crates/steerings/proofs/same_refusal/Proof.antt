@@ -8,9 +8,6 @@ use borrow.Author.Needs.{needs}
 use Rattle.steerings.proofs.same_refusal.Statement.{statement}
 use Rattle.steerings.proofs.same_refusal.Tie as tie
 
-number-of-requires : tie.Need-number-of-requires
-number-of-requires c κs = search needs
-
 returns : tie.Need-returns
 unfolding RefusalIs
 returns c = denies (λ p. c .if1 .taken (p .0 ∙ sym (c .before .before .number-of .ensures)))
@@ -19,15 +16,9 @@ returns-2 : tie.Need-returns-2
 unfolding RefusalIs
 returns-2 c = denies (λ p. c .if2 .taken (p .1))
 
-same-orig-requires : tie.Need-same-orig-requires
-same-orig-requires c κs = search needs
-
 returns-3 : tie.Need-returns-3
 unfolding RefusalIs
 returns-3 c = denies (λ p. fails (c .before .same-orig .ensures) (not-true _ (c .if3 .taken)) (p .2))
-
-same-answer-requires : tie.Need-same-answer-requires
-same-answer-requires c κs = search needs
 
 returns-4 : tie.Need-returns-4
 unfolding RefusalIs
@@ -37,10 +28,10 @@ pub same-refusal-spec : {M : Type 1} → statement M
 same-refusal-spec =
     tie.close
     (tie.spec
-    number-of-requires
+    (λ c κs. search needs)
     returns
     returns-2
-    same-orig-requires
+    (λ c κs. search needs)
     returns-3
-    same-answer-requires
+    (λ c κs. search needs)
     returns-4)

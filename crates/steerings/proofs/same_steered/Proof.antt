@@ -8,21 +8,9 @@ use Rattle.steerings.proofs.same_steered.Tie as tie
 enum-told : tie.Need-enum-told
 enum-told c = search needs
 
-enum-known-steered : tie.Need-enum-known-steered
-enum-known-steered c = search needs
-
-same-link-requires : tie.Need-same-link-requires
-same-link-requires c κs = search needs
-
-enum-known-steered-2 : tie.Need-enum-known-steered-2
-enum-known-steered-2 c = search needs
-
 returns : tie.Need-returns
 unfolding SteeredIs
 returns c = rw (c .before .before .before .steered2 .given .1) (denies (λ p. c .if1 .taken (p .0)))
-
-same-refusal-requires : tie.Need-same-refusal-requires
-same-refusal-requires c κs = search needs
 
 returns-2 : tie.Need-returns-2
 unfolding SteeredIs
@@ -41,11 +29,11 @@ same-steered-spec =
     tie.close
     (tie.spec
     enum-told
-    enum-known-steered
-    same-link-requires
-    enum-known-steered-2
+    (λ c. search needs)
+    (λ c κs. search needs)
+    (λ c. search needs)
     returns
-    same-refusal-requires
+    (λ c κs. search needs)
     returns-2
     returns-3
     returns-4)

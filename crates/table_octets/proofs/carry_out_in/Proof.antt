@@ -7,14 +7,8 @@ use borrow.Author.Needs.{needs}
 use Rattle.table_octets.proofs.carry_out_in.Statement.{statement}
 use Rattle.table_octets.proofs.carry_out_in.Tie as tie
 
-taken-of-requires : tie.Need-taken-of-requires
-taken-of-requires c κs = search needs
-
 enum-told : tie.Need-enum-told
 enum-told c = search needs
-
-enum-known-deed : tie.Need-enum-known-deed
-enum-known-deed c = search needs
 
 mul-put-entry : tie.Need-mul-put-entry
 mul-put-entry c = let k = opens-kept _ _ _ _ _ (c .before .before .deed .given .1) (c .before .before .before .before .before .before .before .before .pre .0 .1) in omega (arith, k .inside)
@@ -22,29 +16,17 @@ mul-put-entry c = let k = opens-kept _ _ _ _ _ (c .before .before .deed .given .
 put-entry-requires : tie.Need-put-entry-requires
 put-entry-requires c κs = let k = opens-kept _ _ _ _ _ (c .before .before .deed .given .1) (c .before .before .before .before .before .before .before .before .pre .0 .1) in (omega (arith, k .inside), (k .ours, k .partner))
 
-enum-told-2 : tie.Need-enum-told-2
-enum-told-2 c = search needs
-
-enum-known-deed-2 : tie.Need-enum-known-deed-2
-enum-known-deed-2 c = search needs
-
 mul-table : tie.Need-mul-table
 mul-table c = let k = activates-kept _ _ _ _ (c .before .deed2 .given .1) (c .before .before .before .before .before .before .before .pre .0 .1) in omega (arith, k .inside)
 
 slice-write-table : tie.Need-slice-write-table
 slice-write-table c = let k = activates-kept _ _ _ _ (c .before .deed2 .given .1) (c .before .before .before .before .before .before .before .pre .0 .1) in omega (arith, k .inside)
 
-enum-known-deed-3 : tie.Need-enum-known-deed-3
-enum-known-deed-3 c = search needs
-
 mul-put-partner : tie.Need-mul-put-partner
 mul-put-partner c = let k = learns-kept _ _ _ _ (c .before .before .deed3 .given .1) (c .before .before .before .before .before .before .before .before .pre .0 .1) in omega (arith, k .inside)
 
 put-partner-requires : tie.Need-put-partner-requires
 put-partner-requires c κs = let k = learns-kept _ _ _ _ (c .before .before .deed3 .given .1) (c .before .before .before .before .before .before .before .before .pre .0 .1) in (omega (arith, k .inside), (k .ours, k .partner))
-
-enum-known-deed-4 : tie.Need-enum-known-deed-4
-enum-known-deed-4 c = search needs
 
 mul-put-blank : tie.Need-mul-put-blank
 mul-put-blank c = let k = closes-kept _ _ _ _ (c .before .before .deed4 .given .1) (c .before .before .before .before .before .before .before .before .pre .0 .1) in omega (arith, k .inside)
@@ -56,9 +38,6 @@ returns : tie.Need-returns
 unfolding octetsDone
 returns c = (c .before .before .taken-of .ensures, rw (c .enum-told .given .1))
 
-same-length : tie.Need-same-length
-same-length c = search needs
-
 returns-2 : tie.Need-returns-2
 unfolding octetsDone
 returns-2 c = (c .before .before .before .before .before .before .before .taken-of .ensures, rw (c .before .before .before .before .before .deed .given .1) (c .before .before .put-entry .ensures .holds))
@@ -67,21 +46,12 @@ returns-3 : tie.Need-returns-3
 unfolding octetsDone
 returns-3 c = (c .before .before .taken-of .ensures, rw (c .enum-told2 .given .1))
 
-same-length-2 : tie.Need-same-length-2
-same-length-2 c = search needs
-
 returns-4 : tie.Need-returns-4
 unfolding octetsDone
 returns-4 c = (c .before .before .before .taken-of .ensures, rw (c .before .deed2 .given .1))
 
-same-length-3 : tie.Need-same-length-3
-same-length-3 c = search needs
-
 returns-5 : tie.Need-returns-5
 returns-5 c = (c .before .before .before .before .before .before .before .taken-of .ensures, learns-done _ _ _ _ _ (c .before .before .before .before .before .deed3 .given .1) (c .before .before .before .before .before .before .before .before .before .before .before .pre .1) (c .before .before .put-partner .ensures))
-
-same-length-4 : tie.Need-same-length-4
-same-length-4 c = search needs
 
 returns-6 : tie.Need-returns-6
 unfolding octetsDone
@@ -91,28 +61,28 @@ pub carry-out-in-spec : {M : Type 1} → statement M
 carry-out-in-spec =
     tie.close
     (tie.spec
-    taken-of-requires
+    (λ c κs. search needs)
     enum-told
-    enum-known-deed
+    (λ c. search needs)
     mul-put-entry
     put-entry-requires
-    enum-told-2
-    enum-known-deed-2
+    (λ c. search needs)
+    (λ c. search needs)
     mul-table
     slice-write-table
-    enum-known-deed-3
+    (λ c. search needs)
     mul-put-partner
     put-partner-requires
-    enum-known-deed-4
+    (λ c. search needs)
     mul-put-blank
     put-blank-requires
     returns
-    same-length
+    (λ c. search needs)
     returns-2
     returns-3
-    same-length-2
+    (λ c. search needs)
     returns-4
-    same-length-3
+    (λ c. search needs)
     returns-5
-    same-length-4
+    (λ c. search needs)
     returns-6)

@@ -4,20 +4,8 @@ use borrow.Author.Needs.{needs}
 use Rattle.table_octets.proofs.choose_at.Statement.{statement}
 use Rattle.table_octets.proofs.choose_at.Tie as tie
 
-begins-by-requires : tie.Need-begins-by-requires
-begins-by-requires c κs = search needs
-
-enum-known-state : tie.Need-enum-known-state
-enum-known-state c = search needs
-
-choose-begin-requires : tie.Need-choose-begin-requires
-choose-begin-requires c κs = search needs
-
 enum-told : tie.Need-enum-told
 enum-told c = search needs
-
-choose-other-requires : tie.Need-choose-other-requires
-choose-other-requires c κs = search needs
 
 returns : tie.Need-returns
 unfolding foundDeed
@@ -31,10 +19,10 @@ pub choose-at-spec : {M : Type 1} → statement M
 choose-at-spec =
     tie.close
     (tie.spec
-    begins-by-requires
-    enum-known-state
-    choose-begin-requires
+    (λ c κs. search needs)
+    (λ c. search needs)
+    (λ c κs. search needs)
     enum-told
-    choose-other-requires
+    (λ c κs. search needs)
     returns
     returns-2)

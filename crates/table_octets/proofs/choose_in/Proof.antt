@@ -7,12 +7,6 @@ use borrow.Author.Needs.{needs}
 use Rattle.table_octets.proofs.choose_in.Statement.{statement}
 use Rattle.table_octets.proofs.choose_in.Tie as tie
 
-ids-ok-requires : tie.Need-ids-ok-requires
-ids-ok-requires c κs = search needs
-
-find-in-requires : tie.Need-find-in-requires
-find-in-requires c κs = search needs
-
 choose-at-requires : tie.Need-choose-at-requires
 choose-at-requires c κs = (omega arith, rw (c .find-in .ensures) (found-inside _ _ (length-entries (c .before .before .before .before .before .before .args .table .now) 64 0)))
 
@@ -26,4 +20,4 @@ returns-2 c = rw (← c .before .ids-ok .ensures, c .if1 .left)
 
 pub choose-in-spec : {M : Type 1} → statement M
 choose-in-spec =
-    tie.close (tie.spec ids-ok-requires find-in-requires choose-at-requires returns returns-2)
+    tie.close (tie.spec (λ c κs. search needs) (λ c κs. search needs) choose-at-requires returns returns-2)

@@ -10,23 +10,11 @@ use Rattle.table_octets.proofs.choose_other.Tie as tie
 enum-told : tie.Need-enum-told
 enum-told c = search needs
 
-enum-known-found : tie.Need-enum-known-found
-enum-known-found c = search needs
-
 mul-state-in : tie.Need-mul-state-in
 mul-state-in c = let h = inside-at _ _ (c .before .found .given .1) (c .before .before .before .before .pre .1) in omega (arith, h)
 
 shared-slice-read-state-in : tie.Need-shared-slice-read-state-in
 shared-slice-read-state-in c = let h = inside-at _ _ (c .before .before .found .given .1) (c .before .before .before .before .before .pre .1) in omega (arith, h)
-
-state-in-requires : tie.Need-state-in-requires
-state-in-requires c κs = search needs
-
-move-of-requires : tie.Need-move-of-requires
-move-of-requires c κs = search needs
-
-moving-in-requires : tie.Need-moving-in-requires
-moving-in-requires c κs = search needs
 
 returns : tie.Need-returns
 unfolding otherDeed
@@ -40,11 +28,11 @@ choose-other-spec =
     tie.close
     (tie.spec
     enum-told
-    enum-known-found
+    (λ c. search needs)
     mul-state-in
     shared-slice-read-state-in
-    state-in-requires
-    move-of-requires
-    moving-in-requires
+    (λ c κs. search needs)
+    (λ c κs. search needs)
+    (λ c κs. search needs)
     returns
     returns-2)

@@ -17,9 +17,6 @@ Inv-loop table id word i₀ i = (i ≤ 64) × ((i % 8 ≡ 0) × (findFrom (holds
 abbrev μ-loop : tie.MeasureT-loop
 μ-loop table id word i₀ i = 64 - i
 
-id-word-requires : tie.Need-id-word-requires Inv-loop μ-loop
-id-word-requires c κs = search needs
-
 loop-holds : tie.Need-loop-holds Inv-loop μ-loop
 loop-holds c = (omega arith, (refl, refl))
 
@@ -56,7 +53,7 @@ find-in-spec =
     (tie.spec
     Inv-loop
     μ-loop
-    id-word-requires
+    (λ c κs. search needs)
     loop-holds
     mul-after
     after-requires

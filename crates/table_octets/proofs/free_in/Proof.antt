@@ -25,12 +25,6 @@ mul-state-in c = omega arith
 shared-slice-read-state-in : tie.Need-shared-slice-read-state-in Inv-loop μ-loop
 shared-slice-read-state-in c = omega arith
 
-state-in-requires : tie.Need-state-in-requires Inv-loop μ-loop
-state-in-requires c κs = search needs
-
-is-open-requires : tie.Need-is-open-requires Inv-loop μ-loop
-is-open-requires c κs = search needs
-
 returns : tie.Need-returns Inv-loop μ-loop
 returns c = sym (c .before .before .before .before .before .loop .inv .1 ∙ at-here isFree (c .before .before .before .before .before .before .before .args .table .now) (c .before .before .before .before .before .loop .i) (omega arith) (free-at (c .before .before .before .before .before .before .before .args .table .now) (c .before .before .before .before .before .loop .i * 12) (c .before .before .state-in .ensures) (c .before .is-open .ensures) (c .if1 .taken)))
 
@@ -55,8 +49,8 @@ free-in-spec =
     loop-holds
     mul-state-in
     shared-slice-read-state-in
-    state-in-requires
-    is-open-requires
+    (λ c κs. search needs)
+    (λ c κs. search needs)
     returns
     add-i
     loop-less

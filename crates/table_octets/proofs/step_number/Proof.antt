@@ -4,26 +4,14 @@ use borrow.Author.Needs.{needs}
 use Rattle.table_octets.proofs.step_number.Statement.{statement}
 use Rattle.table_octets.proofs.step_number.Tie as tie
 
-step-octets-requires : tie.Need-step-octets-requires
-step-octets-requires c κs = search needs
-
 enum-told : tie.Need-enum-told
 enum-told c = search needs
-
-enum-known-taken : tie.Need-enum-known-taken
-enum-known-taken c = search needs
 
 taken-number-requires : tie.Need-taken-number-requires
 taken-number-requires c κs = reply-room _ _ _ _ _ (c .before .before .before .before .before .step-octets .ensures .0) (c .before .taken .given .1)
 
-same-length : tie.Need-same-length
-same-length c = search needs
-
 returns : tie.Need-returns
 returns c = (rw (← c .before .before .before .before .step-octets .ensures .0, c .enum-told .given .1), c .before .before .before .before .step-octets .ensures .1)
-
-same-length-2 : tie.Need-same-length-2
-same-length-2 c = search needs
 
 returns-2 : tie.Need-returns-2
 returns-2 c = (rw (← c .before .before .before .before .before .before .step-octets .ensures .0, c .before .before .taken .given .1) (c .taken-number .ensures), c .before .before .before .before .before .before .step-octets .ensures .1)
@@ -32,11 +20,11 @@ pub step-number-spec : {M : Type 1} → statement M
 step-number-spec =
     tie.close
     (tie.spec
-    step-octets-requires
+    (λ c κs. search needs)
     enum-told
-    enum-known-taken
+    (λ c. search needs)
     taken-number-requires
-    same-length
+    (λ c. search needs)
     returns
-    same-length-2
+    (λ c. search needs)
     returns-2)

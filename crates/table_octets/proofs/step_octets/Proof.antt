@@ -15,20 +15,8 @@ returns : tie.Need-returns
 unfolding replying leaving
 returns c = (rw (lt-ltb _ _ (c .if1 .taken)), rw (lt-ltb _ _ (c .if1 .taken)))
 
-event-in-requires : tie.Need-event-in-requires
-event-in-requires c κs = search needs
-
-told-by-requires : tie.Need-told-by-requires
-told-by-requires c κs = search needs
-
-choose-in-requires : tie.Need-choose-in-requires
-choose-in-requires c κs = search needs
-
 carry-out-in-requires : tie.Need-carry-out-in-requires
 carry-out-in-requires c κs = ((omega arith, rw (c .before .choose-in .ensures, c .before .before .before .told-by .ensures) (deed-doable _ _ _ _ (length-entries (c .before .before .before .before .before .before .before .before .before .args .table .now) 64 0))), rw (c .before .choose-in .ensures) (deed-known _ _ _ _))
-
-same-length : tie.Need-same-length
-same-length c = search needs
 
 returns-2 : tie.Need-returns-2
 unfolding replying leaving
@@ -39,9 +27,9 @@ step-octets-spec =
     tie.close
     (tie.spec
     returns
-    event-in-requires
-    told-by-requires
-    choose-in-requires
+    (λ c κs. search needs)
+    (λ c κs. search needs)
+    (λ c κs. search needs)
     carry-out-in-requires
-    same-length
+    (λ c. search needs)
     returns-2)

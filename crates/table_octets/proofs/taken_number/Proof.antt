@@ -4,32 +4,14 @@ use borrow.Author.Needs.{needs}
 use Rattle.table_octets.proofs.taken_number.Statement.{statement}
 use Rattle.table_octets.proofs.taken_number.Tie as tie
 
-enum-known-taken : tie.Need-enum-known-taken
-enum-known-taken c = search needs
-
-refusal-number-requires : tie.Need-refusal-number-requires
-refusal-number-requires c κs = search needs
-
-enum-known-taken-2 : tie.Need-enum-known-taken-2
-enum-known-taken-2 c = search needs
-
 done-number-requires : tie.Need-done-number-requires
 done-number-requires c κs = (omega arith, rw (c .before .taken2 .given .1) at (c .before .before .before .pre))
-
-enum-known-taken-3 : tie.Need-enum-known-taken-3
-enum-known-taken-3 c = search needs
 
 done-number-requires-2 : tie.Need-done-number-requires-2
 done-number-requires-2 c κs = (omega arith, rw (c .before .taken3 .given .1) at (c .before .before .before .pre))
 
-enum-known-taken-4 : tie.Need-enum-known-taken-4
-enum-known-taken-4 c = search needs
-
 done-number-requires-3 : tie.Need-done-number-requires-3
 done-number-requires-3 c κs = (omega arith, rw (c .before .taken4 .given .1) at (c .before .before .before .pre))
-
-returns : tie.Need-returns
-returns c = search needs
 
 returns-2 : tie.Need-returns-2
 returns-2 c = rw (c .before .before .taken2 .given .1) (c .done-number .ensures)
@@ -44,15 +26,15 @@ pub taken-number-spec : {M : Type 1} → statement M
 taken-number-spec =
     tie.close
     (tie.spec
-    enum-known-taken
-    refusal-number-requires
-    enum-known-taken-2
+    (λ c. search needs)
+    (λ c κs. search needs)
+    (λ c. search needs)
     done-number-requires
-    enum-known-taken-3
+    (λ c. search needs)
     done-number-requires-2
-    enum-known-taken-4
+    (λ c. search needs)
     done-number-requires-3
-    returns
+    (λ c. search needs)
     returns-2
     returns-3
     returns-4)

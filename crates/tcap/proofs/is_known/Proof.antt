@@ -5,43 +5,25 @@ use borrow.Author.Needs.{needs}
 use Rattle.tcap.proofs.is_known.Statement.{statement}
 use Rattle.tcap.proofs.is_known.Tie as tie
 
-shared-slice-read-if1 : tie.Need-shared-slice-read-if1
-shared-slice-read-if1 c = search needs
-
 returns : tie.Need-returns
 unfolding common
 returns c = rw (ne-eqb _ _ (c .if1 .taken))
-
-shared-slice-read-if2 : tie.Need-shared-slice-read-if2
-shared-slice-read-if2 c = search needs
 
 returns-2 : tie.Need-returns-2
 unfolding common
 returns-2 c = rw (eq-eqb _ _ (c .before .before .if1 .left), ne-eqb _ _ (c .if2 .taken))
 
-shared-slice-read-if3 : tie.Need-shared-slice-read-if3
-shared-slice-read-if3 c = search needs
-
 returns-3 : tie.Need-returns-3
 unfolding common
 returns-3 c = rw (eq-eqb _ _ (c .before .before .before .before .if1 .left), eq-eqb _ _ (c .before .before .if2 .left), ne-eqb _ _ (c .if3 .taken))
-
-shared-slice-read-if4 : tie.Need-shared-slice-read-if4
-shared-slice-read-if4 c = search needs
 
 returns-4 : tie.Need-returns-4
 unfolding common
 returns-4 c = rw (eq-eqb _ _ (c .before .before .before .before .before .before .if1 .left), eq-eqb _ _ (c .before .before .before .before .if2 .left), eq-eqb _ _ (c .before .before .if3 .left), ne-eqb _ _ (c .if4 .taken))
 
-shared-slice-read-if5 : tie.Need-shared-slice-read-if5
-shared-slice-read-if5 c = search needs
-
 returns-5 : tie.Need-returns-5
 unfolding common
 returns-5 c = rw (eq-eqb _ _ (c .before .before .before .before .before .before .before .before .if1 .left), eq-eqb _ _ (c .before .before .before .before .before .before .if2 .left), eq-eqb _ _ (c .before .before .before .before .if3 .left), eq-eqb _ _ (c .before .before .if4 .left), ne-eqb _ _ (c .if5 .taken))
-
-shared-slice-read-result : tie.Need-shared-slice-read-result
-shared-slice-read-result c = search needs
 
 returns-6 : tie.Need-returns-6
 unfolding common
@@ -51,15 +33,15 @@ pub is-known-spec : {M : Type 1} → statement M
 is-known-spec =
     tie.close
     (tie.spec
-    shared-slice-read-if1
+    (λ c. search needs)
     returns
-    shared-slice-read-if2
+    (λ c. search needs)
     returns-2
-    shared-slice-read-if3
+    (λ c. search needs)
     returns-3
-    shared-slice-read-if4
+    (λ c. search needs)
     returns-4
-    shared-slice-read-if5
+    (λ c. search needs)
     returns-5
-    shared-slice-read-result
+    (λ c. search needs)
     returns-6)

@@ -7,17 +7,8 @@ use Rattle.tcap.proofs.name_kind.Tie as tie
 returns : tie.Need-returns
 returns c = search kind-short
 
-is-known-requires : tie.Need-is-known-requires
-is-known-requires c κs = search needs
-
-shared-slice-read-if3 : tie.Need-shared-slice-read-if3
-shared-slice-read-if3 c = search needs
-
 returns-2 : tie.Need-returns-2
 returns-2 c = search kind-structured
-
-shared-slice-read-if4 : tie.Need-shared-slice-read-if4
-shared-slice-read-if4 c = search needs
 
 returns-3 : tie.Need-returns-3
 returns-3 c = search kind-unstructured
@@ -33,10 +24,10 @@ name-kind-spec =
     tie.close
     (tie.spec
     returns
-    is-known-requires
-    shared-slice-read-if3
+    (λ c κs. search needs)
+    (λ c. search needs)
     returns-2
-    shared-slice-read-if4
+    (λ c. search needs)
     returns-3
     returns-4
     returns-5)

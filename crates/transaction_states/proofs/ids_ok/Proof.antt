@@ -4,15 +4,6 @@ use borrow.Author.Needs.{needs}
 use Rattle.transaction_states.proofs.ids_ok.Statement.{statement}
 use Rattle.transaction_states.proofs.ids_ok.Tie as tie
 
-id-ok-requires : tie.Need-id-ok-requires
-id-ok-requires c κs = search needs
-
-tells-partner-requires : tie.Need-tells-partner-requires
-tells-partner-requires c κs = search needs
-
-id-ok-requires-2 : tie.Need-id-ok-requires-2
-id-ok-requires-2 c κs = search needs
-
 returns : tie.Need-returns
 unfolding idsOk
 returns c = rw (← c .before .before .before .before .id-ok .ensures, c .before .before .before .if1 .taken, ← c .before .before .tells-partner .ensures, c .before .if2 .taken) (c .id-ok2 .ensures)
@@ -28,4 +19,4 @@ returns-3 c = rw (← c .before .id-ok .ensures, c .if1 .left)
 pub ids-ok-spec : {M : Type 1} → statement M
 ids-ok-spec =
     tie.close
-    (tie.spec id-ok-requires tells-partner-requires id-ok-requires-2 returns returns-2 returns-3)
+    (tie.spec (λ c κs. search needs) (λ c κs. search needs) (λ c κs. search needs) returns returns-2 returns-3)

@@ -3,24 +3,6 @@ use borrow.Author.Needs.{needs}
 use Rattle.transaction_states.proofs.taken_of.Statement.{statement}
 use Rattle.transaction_states.proofs.taken_of.Tie as tie
 
-enum-known-deed : tie.Need-enum-known-deed
-enum-known-deed c = search needs
-
-enum-known-deed-2 : tie.Need-enum-known-deed-2
-enum-known-deed-2 c = search needs
-
-enum-known-deed-3 : tie.Need-enum-known-deed-3
-enum-known-deed-3 c = search needs
-
-enum-known-deed-4 : tie.Need-enum-known-deed-4
-enum-known-deed-4 c = search needs
-
-enum-known-deed-5 : tie.Need-enum-known-deed-5
-enum-known-deed-5 c = search needs
-
-enum-known-deed-6 : tie.Need-enum-known-deed-6
-enum-known-deed-6 c = search needs
-
 returns : tie.Need-returns
 returns c = rw (c .before .deed .given .1)
 
@@ -43,12 +25,12 @@ pub taken-of-spec : {M : Type 1} → statement M
 taken-of-spec =
     tie.close
     (tie.spec
-    enum-known-deed
-    enum-known-deed-2
-    enum-known-deed-3
-    enum-known-deed-4
-    enum-known-deed-5
-    enum-known-deed-6
+    (λ c. search needs)
+    (λ c. search needs)
+    (λ c. search needs)
+    (λ c. search needs)
+    (λ c. search needs)
+    (λ c. search needs)
     returns
     returns-2
     returns-3

@@ -11,12 +11,6 @@ returns : tie.Need-returns
 unfolding isRecord
 returns c = rw (lt-leb _ _ (c .if1 .taken))
 
-is-head-requires : tie.Need-is-head-requires
-is-head-requires c κs = search needs
-
-rows-looked-requires : tie.Need-rows-looked-requires
-rows-looked-requires c κs = search needs
-
 are-rows-requires : tie.Need-are-rows-requires
 are-rows-requires c κs = (omega arith, omega (arith, c .rows-looked .ensures))
 
@@ -31,4 +25,4 @@ returns-3 c = rw (le-leb _ _ (c .before .before .if1 .left), sym (c .before .is-
 pub is-record-spec : {M : Type 1} → statement M
 is-record-spec =
     tie.close
-    (tie.spec returns is-head-requires rows-looked-requires are-rows-requires returns-2 returns-3)
+    (tie.spec returns (λ c κs. search needs) (λ c κs. search needs) are-rows-requires returns-2 returns-3)

@@ -7,12 +7,6 @@ use Rattle.vectors.proofs.same_answer.Tie as tie
 enum-told : tie.Need-enum-told
 enum-told c = search needs
 
-enum-known-answer : tie.Need-enum-known-answer
-enum-known-answer c = search needs
-
-same-id-requires : tie.Need-same-id-requires
-same-id-requires c κs = search needs
-
 returns : tie.Need-returns
 returns c = no-id _ _ (c .enum-told .given .1)
 
@@ -21,4 +15,4 @@ returns-2 c = id-of _ _ (c .before .before .answer .given .1) (c .same-id .ensur
 
 pub same-answer-spec : {M : Type 1} → statement M
 same-answer-spec =
-    tie.close (tie.spec enum-told enum-known-answer same-id-requires returns returns-2)
+    tie.close (tie.spec enum-told (λ c. search needs) (λ c κs. search needs) returns returns-2)

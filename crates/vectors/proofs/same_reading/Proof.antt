@@ -8,21 +8,12 @@ use Rattle.vectors.specs.Expected.{ReadingIs}
 use Rattle.vectors.proofs.same_reading.Statement.{statement}
 use Rattle.vectors.proofs.same_reading.Tie as tie
 
-same-listing-requires : tie.Need-same-listing-requires
-same-listing-requires c κs = search needs
-
 returns : tie.Need-returns
 unfolding ReadingIs
 returns c = denies (λ p. fails (c .before .same-listing .ensures .0, c .before .same-listing .ensures .1 (c .before .before .before .before .before .pre)) (not-true _ (c .if1 .taken)) (p .0))
 
 enum-told : tie.Need-enum-told
 enum-told c = search needs
-
-enum-known-outcome : tie.Need-enum-known-outcome
-enum-known-outcome c = search needs
-
-same-refusal-requires : tie.Need-same-refusal-requires
-same-refusal-requires c κs = search needs
 
 returns-2 : tie.Need-returns-2
 unfolding ReadingIs
@@ -36,10 +27,10 @@ pub same-reading-spec : {M : Type 1} → statement M
 same-reading-spec =
     tie.close
     (tie.spec
-    same-listing-requires
+    (λ c κs. search needs)
     returns
     enum-told
-    enum-known-outcome
-    same-refusal-requires
+    (λ c. search needs)
+    (λ c κs. search needs)
     returns-2
     returns-3)

@@ -6,19 +6,13 @@ use Rattle.vectors.specs.Expected.{OutcomeIs}
 use Rattle.vectors.proofs.same_refusal.Statement.{statement}
 use Rattle.vectors.proofs.same_refusal.Tie as tie
 
-same-orig-requires : tie.Need-same-orig-requires
-same-orig-requires c κs = search needs
-
 returns : tie.Need-returns
 unfolding OutcomeIs
 returns c = denies (λ p. fails (c .before .same-orig .ensures) (not-true _ (c .if1 .taken)) (p .0))
-
-same-answer-requires : tie.Need-same-answer-requires
-same-answer-requires c κs = search needs
 
 returns-2 : tie.Need-returns-2
 unfolding OutcomeIs
 returns-2 c = also (c .before .before .same-orig .ensures .0 (not-false _ (c .before .if1 .left))) (c .same-answer .ensures)
 
 pub same-refusal-spec : {M : Type 1} → statement M
-same-refusal-spec = tie.close (tie.spec same-orig-requires returns same-answer-requires returns-2)
+same-refusal-spec = tie.close (tie.spec (λ c κs. search needs) returns (λ c κs. search needs) returns-2)

@@ -7,21 +7,6 @@ use Rattle.verdict.proofs.Dialogues.{five}
 use Rattle.verdict.proofs.answer_judged.Statement.{statement}
 use Rattle.verdict.proofs.answer_judged.Tie as tie
 
-source-judged-requires : tie.Need-source-judged-requires
-source-judged-requires c κs = search needs
-
-info-judged-requires : tie.Need-info-judged-requires
-info-judged-requires c κs = search needs
-
-both-requires : tie.Need-both-requires
-both-requires c κs = search needs
-
-number-judged-requires : tie.Need-number-judged-requires
-number-judged-requires c κs = search needs
-
-both-requires-2 : tie.Need-both-requires-2
-both-requires-2 c κs = search needs
-
 returns : tie.Need-returns
 returns c = rw (c .both2 .ensures, c .before .number-judged .ensures, c .before .before .both .ensures, c .before .before .before .before .source-judged .ensures, c .before .before .before .info-judged .ensures) (simp (join, around-size, then-size, octet-size, and-true, five))
 
@@ -29,9 +14,9 @@ pub answer-judged-spec : {M : Type 1} → statement M
 answer-judged-spec =
     tie.close
     (tie.spec
-    source-judged-requires
-    info-judged-requires
-    both-requires
-    number-judged-requires
-    both-requires-2
+    (λ c κs. search needs)
+    (λ c κs. search needs)
+    (λ c κs. search needs)
+    (λ c κs. search needs)
+    (λ c κs. search needs)
     returns)

@@ -7,27 +7,6 @@ use Rattle.verdict.proofs.cause_there.Tie as tie
 enum-told : tie.Need-enum-told
 enum-told c = search needs
 
-enum-known-dialogue : tie.Need-enum-known-dialogue
-enum-known-dialogue c = search needs
-
-enum-known-dialogue-2 : tie.Need-enum-known-dialogue-2
-enum-known-dialogue-2 c = search needs
-
-enum-known-dialogue-3 : tie.Need-enum-known-dialogue-3
-enum-known-dialogue-3 c = search needs
-
-enum-known-dialogue-4 : tie.Need-enum-known-dialogue-4
-enum-known-dialogue-4 c = search needs
-
-enum-known-dialogue-5 : tie.Need-enum-known-dialogue-5
-enum-known-dialogue-5 c = search needs
-
-enum-known-dialogue-6 : tie.Need-enum-known-dialogue-6
-enum-known-dialogue-6 c = search needs
-
-enum-known-dialogue-7 : tie.Need-enum-known-dialogue-7
-enum-known-dialogue-7 c = search needs
-
 returns : tie.Need-returns
 unfolding causeThere
 returns c = rw (c .enum-told .given .1)
@@ -65,13 +44,13 @@ cause-there-spec =
     tie.close
     (tie.spec
     enum-told
-    enum-known-dialogue
-    enum-known-dialogue-2
-    enum-known-dialogue-3
-    enum-known-dialogue-4
-    enum-known-dialogue-5
-    enum-known-dialogue-6
-    enum-known-dialogue-7
+    (λ c. search needs)
+    (λ c. search needs)
+    (λ c. search needs)
+    (λ c. search needs)
+    (λ c. search needs)
+    (λ c. search needs)
+    (λ c. search needs)
     returns
     returns-2
     returns-3

@@ -4,23 +4,8 @@ use Rattle.verdict.specs.Whole.{destFits}
 use Rattle.verdict.proofs.dest_fits.Statement.{statement}
 use Rattle.verdict.proofs.dest_fits.Tie as tie
 
-dest-there-requires : tie.Need-dest-there-requires
-dest-there-requires c κs = search needs
-
 enum-told : tie.Need-enum-told
 enum-told c = search needs
-
-enum-told-2 : tie.Need-enum-told-2
-enum-told-2 c = search needs
-
-enum-told-3 : tie.Need-enum-told-3
-enum-told-3 c = search needs
-
-enum-told-4 : tie.Need-enum-told-4
-enum-told-4 c = search needs
-
-enum-told-5 : tie.Need-enum-told-5
-enum-told-5 c = search needs
 
 returns : tie.Need-returns
 unfolding destFits
@@ -46,12 +31,12 @@ pub dest-fits-spec : {M : Type 1} → statement M
 dest-fits-spec =
     tie.close
     (tie.spec
-    dest-there-requires
+    (λ c κs. search needs)
     enum-told
-    enum-told-2
-    enum-told-3
-    enum-told-4
-    enum-told-5
+    (λ c. search needs)
+    (λ c. search needs)
+    (λ c. search needs)
+    (λ c. search needs)
     returns
     returns-2
     returns-3

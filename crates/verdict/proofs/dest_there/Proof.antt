@@ -7,9 +7,6 @@ use Rattle.verdict.proofs.dest_there.Tie as tie
 enum-told : tie.Need-enum-told
 enum-told c = search needs
 
-enum-known-dest : tie.Need-enum-known-dest
-enum-known-dest c = search needs
-
 returns : tie.Need-returns
 unfolding destThere
 returns c = rw (c .enum-told .given .1)
@@ -23,6 +20,6 @@ dest-there-spec =
     tie.close
     (tie.spec
     enum-told
-    enum-known-dest
+    (λ c. search needs)
     returns
     returns-2)

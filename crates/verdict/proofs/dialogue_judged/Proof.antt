@@ -13,48 +13,6 @@ use Rattle.verdict.proofs.dialogue_judged.Tie as tie
 enum-told : tie.Need-enum-told
 enum-told c = search needs
 
-enum-known-dialogue : tie.Need-enum-known-dialogue
-enum-known-dialogue c = search needs
-
-octet-judged-requires : tie.Need-octet-judged-requires
-octet-judged-requires c κs = search needs
-
-enum-known-dialogue-2 : tie.Need-enum-known-dialogue-2
-enum-known-dialogue-2 c = search needs
-
-request-judged-requires : tie.Need-request-judged-requires
-request-judged-requires c κs = search needs
-
-enum-known-dialogue-3 : tie.Need-enum-known-dialogue-3
-enum-known-dialogue-3 c = search needs
-
-response-judged-requires : tie.Need-response-judged-requires
-response-judged-requires c κs = search needs
-
-enum-known-dialogue-4 : tie.Need-enum-known-dialogue-4
-enum-known-dialogue-4 c = search needs
-
-abort-judged-requires : tie.Need-abort-judged-requires
-abort-judged-requires c κs = search needs
-
-enum-known-dialogue-5 : tie.Need-enum-known-dialogue-5
-enum-known-dialogue-5 c = search needs
-
-request-judged-requires-2 : tie.Need-request-judged-requires-2
-request-judged-requires-2 c κs = search needs
-
-enum-known-dialogue-6 : tie.Need-enum-known-dialogue-6
-enum-known-dialogue-6 c = search needs
-
-outside-element-judged-requires : tie.Need-outside-element-judged-requires
-outside-element-judged-requires c κs = search needs
-
-enum-known-dialogue-7 : tie.Need-enum-known-dialogue-7
-enum-known-dialogue-7 c = search needs
-
-outside-octets-judged-requires : tie.Need-outside-octets-judged-requires
-outside-octets-judged-requires c κs = search needs
-
 returns : tie.Need-returns
 unfolding rankOf judged dialogueRanges dialogueLies dialogueShaped dialogueForm shortest
 returns c = rw (c .enum-told .given .1)
@@ -87,20 +45,20 @@ dialogue-judged-spec =
     tie.close
     (tie.spec
     enum-told
-    enum-known-dialogue
-    octet-judged-requires
-    enum-known-dialogue-2
-    request-judged-requires
-    enum-known-dialogue-3
-    response-judged-requires
-    enum-known-dialogue-4
-    abort-judged-requires
-    enum-known-dialogue-5
-    request-judged-requires-2
-    enum-known-dialogue-6
-    outside-element-judged-requires
-    enum-known-dialogue-7
-    outside-octets-judged-requires
+    (λ c. search needs)
+    (λ c κs. search needs)
+    (λ c. search needs)
+    (λ c κs. search needs)
+    (λ c. search needs)
+    (λ c κs. search needs)
+    (λ c. search needs)
+    (λ c κs. search needs)
+    (λ c. search needs)
+    (λ c κs. search needs)
+    (λ c. search needs)
+    (λ c κs. search needs)
+    (λ c. search needs)
+    (λ c κs. search needs)
     returns
     returns-2
     returns-3

@@ -11,15 +11,6 @@ use Rattle.verdict.proofs.info_judged.Tie as tie
 enum-told : tie.Need-enum-told
 enum-told c = search needs
 
-enum-known-info : tie.Need-enum-known-info
-enum-known-info c = search needs
-
-series-judged-requires : tie.Need-series-judged-requires
-series-judged-requires c κs = search needs
-
-around-requires : tie.Need-around-requires
-around-requires c κs = search needs
-
 returns : tie.Need-returns
 unfolding rankOf judged optionLies infoShaped infoForm shortest
 returns c = rw (c .enum-told .given .1)
@@ -33,8 +24,8 @@ info-judged-spec =
     tie.close
     (tie.spec
     enum-told
-    enum-known-info
-    series-judged-requires
-    around-requires
+    (λ c. search needs)
+    (λ c κs. search needs)
+    (λ c κs. search needs)
     returns
     returns-2)

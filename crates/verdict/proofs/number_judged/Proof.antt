@@ -5,12 +5,6 @@ use Rattle.verdict.proofs.Dialogues.{five}
 use Rattle.verdict.proofs.number_judged.Statement.{statement}
 use Rattle.verdict.proofs.number_judged.Tie as tie
 
-octet-judged-requires : tie.Need-octet-judged-requires
-octet-judged-requires c κs = search needs
-
-around-requires : tie.Need-around-requires
-around-requires c κs = search needs
-
 returns : tie.Need-returns
 returns c = rw (c .around .ensures, c .before .octet-judged .ensures, wrap, five)
 
@@ -18,6 +12,6 @@ pub number-judged-spec : {M : Type 1} → statement M
 number-judged-spec =
     tie.close
     (tie.spec
-    octet-judged-requires
-    around-requires
+    (λ c κs. search needs)
+    (λ c κs. search needs)
     returns)

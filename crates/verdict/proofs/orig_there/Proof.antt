@@ -7,9 +7,6 @@ use Rattle.verdict.proofs.orig_there.Tie as tie
 enum-told : tie.Need-enum-told
 enum-told c = search needs
 
-enum-known-orig : tie.Need-enum-known-orig
-enum-known-orig c = search needs
-
 returns : tie.Need-returns
 unfolding origThere
 returns c = rw (c .enum-told .given .1)
@@ -23,6 +20,6 @@ orig-there-spec =
     tie.close
     (tie.spec
     enum-told
-    enum-known-orig
+    (λ c. search needs)
     returns
     returns-2)

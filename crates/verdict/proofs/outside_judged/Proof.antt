@@ -6,20 +6,8 @@ use Rattle.verdict.proofs.Dialogues.{kind-outside, kind-known}
 use Rattle.verdict.proofs.outside_judged.Statement.{statement}
 use Rattle.verdict.proofs.outside_judged.Tie as tie
 
-name-judged-requires : tie.Need-name-judged-requires
-name-judged-requires c κs = search needs
-
-enum-known-k : tie.Need-enum-known-k
-enum-known-k c = search needs
-
-enum-known-n : tie.Need-enum-known-n
-enum-known-n c = search needs
-
 octets-of-requires : tie.Need-octets-of-requires
 octets-of-requires c κs = passed _ _ _ _ _ _ (sym (c .before .before .before .name-judged .ensures) ∙ c .before .n .given .1) .lies
-
-name-kind-requires : tie.Need-name-kind-requires
-name-kind-requires c κs = search needs
 
 returns : tie.Need-returns
 returns c = later-fine _ _ _ _ _ _ (sym (c .before .before .before .before .before .before .name-judged .ensures) ∙ c .before .before .before .before .n .given .1) (rw (← c .before .before .octets-of .ensures) (kind-outside _ _ (c .before .name-kind .ensures) (c .if1 .taken)))
@@ -34,11 +22,11 @@ pub outside-judged-spec : {M : Type 1} → statement M
 outside-judged-spec =
     tie.close
     (tie.spec
-    name-judged-requires
-    enum-known-k
-    enum-known-n
+    (λ c κs. search needs)
+    (λ c. search needs)
+    (λ c. search needs)
     octets-of-requires
-    name-kind-requires
+    (λ c κs. search needs)
     returns
     returns-2
     returns-3)

@@ -7,18 +7,6 @@ use Rattle.judging.proofs.Joining.{join, wrap, then-size, around-size, leaf-siz
 use Rattle.verdict.proofs.outside_octets_judged.Statement.{statement}
 use Rattle.verdict.proofs.outside_octets_judged.Tie as tie
 
-octets-judged-requires : tie.Need-octets-judged-requires
-octets-judged-requires c κs = search needs
-
-around-requires : tie.Need-around-requires
-around-requires c κs = search needs
-
-outside-judged-requires : tie.Need-outside-judged-requires
-outside-judged-requires c κs = search needs
-
-external-judged-requires : tie.Need-external-judged-requires
-external-judged-requires c κs = search needs
-
 returns : tie.Need-returns
 unfolding dialogueRanges dialogueLies dialogueShaped dialogueForm
 returns c = rw (c .external-judged .ensures, c .before .outside-judged .ensures, c .before .before .around .ensures, c .before .before .before .octets-judged .ensures) (simp (join, wrap, around-size, then-size, leaf-size, exact-size, and-true))
@@ -27,8 +15,8 @@ pub outside-octets-judged-spec : {M : Type 1} → statement M
 outside-octets-judged-spec =
     tie.close
     (tie.spec
-    octets-judged-requires
-    around-requires
-    outside-judged-requires
-    external-judged-requires
+    (λ c κs. search needs)
+    (λ c κs. search needs)
+    (λ c κs. search needs)
+    (λ c κs. search needs)
     returns)

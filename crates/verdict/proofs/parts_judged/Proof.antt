@@ -6,22 +6,13 @@ use Rattle.verdict.proofs.Messages.{parts-by}
 use Rattle.verdict.proofs.parts_judged.Statement.{statement}
 use Rattle.verdict.proofs.parts_judged.Tie as tie
 
-orig-fits-requires : tie.Need-orig-fits-requires
-orig-fits-requires c κs = search needs
-
 returns : tie.Need-returns
 unfolding rankOf judged
 returns c = rw (parts-by, ← c .before .orig-fits .ensures, not-true (c .before .orig-fits .result) (c .if1 .taken))
 
-dest-fits-requires : tie.Need-dest-fits-requires
-dest-fits-requires c κs = search needs
-
 returns-2 : tie.Need-returns-2
 unfolding rankOf judged
 returns-2 c = rw (parts-by, ← c .before .before .before .orig-fits .ensures, not-false (c .before .before .before .orig-fits .result) (c .before .before .if1 .left), ← c .before .dest-fits .ensures, not-true (c .before .dest-fits .result) (c .if2 .taken))
-
-rest-fits-requires : tie.Need-rest-fits-requires
-rest-fits-requires c κs = search needs
 
 returns-3 : tie.Need-returns-3
 unfolding rankOf judged
@@ -39,11 +30,11 @@ pub parts-judged-spec : {M : Type 1} → statement M
 parts-judged-spec =
     tie.close
     (tie.spec
-    orig-fits-requires
+    (λ c κs. search needs)
     returns
-    dest-fits-requires
+    (λ c κs. search needs)
     returns-2
-    rest-fits-requires
+    (λ c κs. search needs)
     returns-3
     returns-4
     returns-5)

@@ -7,9 +7,6 @@ use Rattle.verdict.proofs.portion_judged.Tie as tie
 returns : tie.Need-returns
 returns c = rw (eq-eqb _ _ (c .if1 .taken))
 
-around-requires : tie.Need-around-requires
-around-requires c κs = search needs
-
 returns-2 : tie.Need-returns-2
 returns-2 c = rw (ne-eqb _ _ (c .before .if1 .left)) (c .around .ensures)
 
@@ -18,5 +15,5 @@ portion-judged-spec =
     tie.close
     (tie.spec
     returns
-    around-requires
+    (λ c κs. search needs)
     returns-2)

@@ -9,18 +9,6 @@ use Rattle.verdict.proofs.Dialogues.{seven, perhaps-size}
 use Rattle.verdict.proofs.response_judged.Statement.{statement}
 use Rattle.verdict.proofs.response_judged.Tie as tie
 
-answer-judged-requires : tie.Need-answer-judged-requires
-answer-judged-requires c κs = search needs
-
-context-judged-requires : tie.Need-context-judged-requires
-context-judged-requires c κs = search needs
-
-both-requires : tie.Need-both-requires
-both-requires c κs = search needs
-
-pdu-judged-requires : tie.Need-pdu-judged-requires
-pdu-judged-requires c κs = search needs
-
 returns : tie.Need-returns
 unfolding dialogueRanges dialogueLies dialogueShaped dialogueForm
 returns c = rw (c .pdu-judged .ensures, c .before .both .ensures, c .before .before .context-judged .ensures, c .before .before .before .answer-judged .ensures, seven) (simp (join, wrap, around-size, then-size, leaf-size, perhaps-size, zero-add, and-true))
@@ -29,8 +17,8 @@ pub response-judged-spec : {M : Type 1} → statement M
 response-judged-spec =
     tie.close
     (tie.spec
-    answer-judged-requires
-    context-judged-requires
-    both-requires
-    pdu-judged-requires
+    (λ c κs. search needs)
+    (λ c κs. search needs)
+    (λ c κs. search needs)
+    (λ c κs. search needs)
     returns)

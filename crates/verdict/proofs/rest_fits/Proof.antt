@@ -4,27 +4,12 @@ use Rattle.verdict.specs.Whole.{restFits}
 use Rattle.verdict.proofs.rest_fits.Statement.{statement}
 use Rattle.verdict.proofs.rest_fits.Tie as tie
 
-cause-there-requires : tie.Need-cause-there-requires
-cause-there-requires c κs = search needs
-
 enum-told : tie.Need-enum-told
 enum-told c = search needs
 
 returns : tie.Need-returns
 unfolding restFits
 returns c = rw (c .before .enum-told .given .1, ← c .before .before .before .cause-there .ensures, c .if1 .taken)
-
-enum-told-2 : tie.Need-enum-told-2
-enum-told-2 c = search needs
-
-enum-told-3 : tie.Need-enum-told-3
-enum-told-3 c = search needs
-
-enum-told-4 : tie.Need-enum-told-4
-enum-told-4 c = search needs
-
-enum-told-5 : tie.Need-enum-told-5
-enum-told-5 c = search needs
 
 returns-2 : tie.Need-returns-2
 unfolding restFits
@@ -50,13 +35,13 @@ pub rest-fits-spec : {M : Type 1} → statement M
 rest-fits-spec =
     tie.close
     (tie.spec
-    cause-there-requires
+    (λ c κs. search needs)
     enum-told
     returns
-    enum-told-2
-    enum-told-3
-    enum-told-4
-    enum-told-5
+    (λ c. search needs)
+    (λ c. search needs)
+    (λ c. search needs)
+    (λ c. search needs)
     returns-2
     returns-3
     returns-4

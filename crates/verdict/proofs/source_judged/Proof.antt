@@ -7,24 +7,6 @@ use Rattle.verdict.proofs.Dialogues.{five}
 use Rattle.verdict.proofs.source_judged.Statement.{statement}
 use Rattle.verdict.proofs.source_judged.Tie as tie
 
-enum-known-diagnostic : tie.Need-enum-known-diagnostic
-enum-known-diagnostic c = search needs
-
-number-judged-requires : tie.Need-number-judged-requires
-number-judged-requires c κs = search needs
-
-around-requires : tie.Need-around-requires
-around-requires c κs = search needs
-
-enum-known-diagnostic-2 : tie.Need-enum-known-diagnostic-2
-enum-known-diagnostic-2 c = search needs
-
-number-judged-requires-2 : tie.Need-number-judged-requires-2
-number-judged-requires-2 c κs = search needs
-
-around-requires-2 : tie.Need-around-requires-2
-around-requires-2 c κs = search needs
-
 returns : tie.Need-returns
 unfolding sourceRanges
 returns c = rw (c .before .before .before .diagnostic .given .1, c .around .ensures, c .before .number-judged .ensures, wrap, around-size, around-size, octet-size, five)
@@ -37,11 +19,11 @@ pub source-judged-spec : {M : Type 1} → statement M
 source-judged-spec =
     tie.close
     (tie.spec
-    enum-known-diagnostic
-    number-judged-requires
-    around-requires
-    enum-known-diagnostic-2
-    number-judged-requires-2
-    around-requires-2
+    (λ c. search needs)
+    (λ c κs. search needs)
+    (λ c κs. search needs)
+    (λ c. search needs)
+    (λ c κs. search needs)
+    (λ c κs. search needs)
     returns
     returns-2)

@@ -6,44 +6,23 @@ use Rattle.base.proofs.Backs.{room-last, room-next, back-then}
 use Rattle.write_head.proofs.back_head.Statement.{statement}
 use Rattle.write_head.proofs.back_head.Tie as tie
 
-cast-back-two : tie.Need-cast-back-two
-cast-back-two c = search needs
-
 back-two-requires : tie.Need-back-two-requires
 back-two-requires c κs = rw (short-length _ (c .before .if1 .taken)) at (c .before .before .before .pre .0)
-
-same-length : tie.Need-same-length
-same-length c = search needs
 
 returns : tie.Need-returns
 returns c = rw (short-length _ (c .before .before .before .before .if1 .taken)) (c .before .before .back-two .ensures)
 
-cast-back-three : tie.Need-cast-back-three
-cast-back-three c = search needs
-
 back-three-requires : tie.Need-back-three-requires
 back-three-requires c κs = rw (long-length _ (c .before .before .if1 .left) (c .before .if2 .taken)) at (c .before .before .before .before .pre .0)
 
-same-length-2 : tie.Need-same-length-2
-same-length-2 c = search needs
-
 returns-2 : tie.Need-returns-2
 returns-2 c = rw (long-length _ (c .before .before .before .before .before .if1 .left) (c .before .before .before .before .if2 .taken)) (c .before .before .back-three .ensures)
-
-cast-back-two-2 : tie.Need-cast-back-two-2
-cast-back-two-2 c = search needs
-
-cast-back-two-3 : tie.Need-cast-back-two-3
-cast-back-two-3 c = search needs
 
 back-two-requires-2 : tie.Need-back-two-requires-2
 back-two-requires-2 c κs = room-last (c .before .before .before .before .args .tag ∷ 0x82 ∷ []) (rw (wide-length _ (c .before .if2 .left) (c .before .before .before .before .pre .1)) at (c .before .before .before .before .pre .0))
 
 back-two-requires-3 : tie.Need-back-two-requires-3
 back-two-requires-3 c κs = room-next (c .before .before .before .back-two2 .ensures) _ (rw (wide-length _ (c .before .before .before .before .before .if2 .left) (c .before .before .before .before .before .before .before .before .pre .1)) at (c .before .before .before .before .before .before .before .before .pre .0))
-
-same-length-3 : tie.Need-same-length-3
-same-length-3 c = search needs
 
 returns-3 : tie.Need-returns-3
 returns-3 c = rw (wide-length _ (c .before .before .before .before .before .before .before .before .if2 .left) (c .before .before .before .before .before .before .before .before .before .before .before .pre .1)) (back-then (c .before .before .before .before .before .before .back-two2 .ensures) (c .before .before .back-two3 .ensures))
@@ -52,17 +31,17 @@ pub back-head-spec : {M : Type 1} → statement M
 back-head-spec =
     tie.close
     (tie.spec
-    cast-back-two
+    (λ c. search needs)
     back-two-requires
-    same-length
+    (λ c. search needs)
     returns
-    cast-back-three
+    (λ c. search needs)
     back-three-requires
-    same-length-2
+    (λ c. search needs)
     returns-2
-    cast-back-two-2
-    cast-back-two-3
+    (λ c. search needs)
+    (λ c. search needs)
     back-two-requires-2
     back-two-requires-3
-    same-length-3
+    (λ c. search needs)
     returns-3)

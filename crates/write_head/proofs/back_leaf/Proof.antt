@@ -16,12 +16,9 @@ back-head-requires : tie.Need-back-head-requires
 unfolding shortest
 back-head-requires c κs = (room-next (c .before .before .before .back-part .ensures) _ (c .before .before .before .before .before .before .before .pre), omega (arith, c .before .before .before .back-part .ensures .begins, c .before .before .before .before .before .before .before .pre .low))
 
-same-length : tie.Need-same-length
-same-length c = search needs
-
 returns : tie.Need-returns
 unfolding shortest
 returns c = back-then (c .before .before .before .before .before .before .back-part .ensures) (c .before .before .back-head .ensures)
 
 pub back-leaf-spec : {M : Type 1} → statement M
-back-leaf-spec = tie.close (tie.spec back-part-requires back-head-requires same-length returns)
+back-leaf-spec = tie.close (tie.spec back-part-requires back-head-requires (λ c. search needs) returns)

@@ -5,12 +5,6 @@ use Rattle.write_head.proofs.Strings.{within}
 use Rattle.write_head.proofs.octets_of.Statement.{statement}
 use Rattle.write_head.proofs.octets_of.Tie as tie
 
-cast-place : tie.Need-cast-place
-cast-place c = search needs
-
-cast-len : tie.Need-cast-len
-cast-len c = search needs
-
 piece-requires : tie.Need-piece-requires
 piece-requires c κs = within _ (c .before .before .before .args .string) (c .before .before .before .pre)
 
@@ -22,7 +16,7 @@ pub octets-of-spec : {M : Type 1} → statement M
 octets-of-spec =
     tie.close
     (tie.spec
-    cast-place
-    cast-len
+    (λ c. search needs)
+    (λ c. search needs)
     piece-requires
     returns)

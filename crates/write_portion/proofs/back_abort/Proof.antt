@@ -19,15 +19,9 @@ back-three-requires : tie.Need-back-three-requires
 unfolding dialogueForm shortest
 back-three-requires c κs = room-next (c .before .before .before .back-info .ensures) _ (rw octet-parts at (room-fields structured 0x64 (octetsOf (octet 0x80 (c .before .before .before .before .before .before .before .args .source)) ++ octetsOf (infoForm (c .before .before .before .before .before .before .before .args .material .now) (c .before .before .before .before .before .before .before .args .info))) (c .before .before .before .before .before .before .before .pre .1)))
 
-slice-aggregate-back-opening : tie.Need-slice-aggregate-back-opening
-slice-aggregate-back-opening c = search needs
-
 back-opening-requires : tie.Need-back-opening-requires
 unfolding dialogueForm shortest
 back-opening-requires c κs = (c .before .before .before .before .before .before .before .before .before .before .before .before .args .out .now, _, back-then (c .before .before .before .before .before .before .before .before .back-info .ensures) (rw (← (octet-octets 0x80 (c .before .before .before .before .before .before .before .before .before .before .before .before .args .source))) at (c .before .before .before .before .back-three .ensures)), c .before .before .before .before .before .before .before .before .before .before .before .before .pre .1)
-
-same-length : tie.Need-same-length
-same-length c = search needs
 
 returns : tie.Need-returns
 unfolding dialogueForm shortest
@@ -39,7 +33,7 @@ back-abort-spec =
     (tie.spec
     back-info-requires
     back-three-requires
-    slice-aggregate-back-opening
+    (λ c. search needs)
     back-opening-requires
-    same-length
+    (λ c. search needs)
     returns)

@@ -22,9 +22,6 @@ back-opening-requires : tie.Need-back-opening-requires
 unfolding shortest
 back-opening-requires c κs = (c .before .before .before .before .before .before .before .before .before .before .before .before .args .out .now, _, back-then (c .before .before .before .before .before .before .before .back-info .ensures) (c .before .before .before .back-context .ensures), c .before .before .before .before .before .before .before .before .before .before .before .before .pre .1 .1)
 
-same-length : tie.Need-same-length
-same-length c = search needs
-
 returns : tie.Need-returns
 unfolding shortest
 returns c = c .before .before .back-opening .ensures _ _ (back-then (c .before .before .before .before .before .before .before .before .before .before .back-info .ensures) (c .before .before .before .before .before .before .back-context .ensures))
@@ -36,5 +33,5 @@ back-asked-spec =
     back-info-requires
     back-context-requires
     back-opening-requires
-    same-length
+    (λ c. search needs)
     returns)

@@ -11,15 +11,9 @@ back-string-requires : tie.Need-back-string-requires
 unfolding shortest
 back-string-requires c κs = (c .before .before .before .pre .0, room-inside 0xA1 (octetsOf (leaf 0x06 (octetsIn (c .before .before .before .args .material .now) (c .before .before .before .args .name)))) (c .before .before .before .pre .1))
 
-sub-back-head : tie.Need-sub-back-head
-sub-back-head c = search needs
-
 back-head-requires : tie.Need-back-head-requires
 unfolding shortest
 back-head-requires c κs = room-head (c .before .before .before .back-string .ensures) _ (c .before .before .before .before .before .before .before .pre .1)
-
-same-length : tie.Need-same-length
-same-length c = search needs
 
 returns : tie.Need-returns
 unfolding shortest
@@ -27,4 +21,4 @@ returns c = back-around (c .before .before .before .before .before .before .back
 
 pub back-context-spec : {M : Type 1} → statement M
 back-context-spec =
-    tie.close (tie.spec back-string-requires sub-back-head back-head-requires same-length returns)
+    tie.close (tie.spec back-string-requires (λ c. search needs) back-head-requires (λ c. search needs) returns)

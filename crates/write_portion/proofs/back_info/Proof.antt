@@ -10,9 +10,6 @@ use Rattle.write_portion.proofs.back_info.Tie as tie
 enum-told : tie.Need-enum-told
 enum-told c = search needs
 
-enum-known-info : tie.Need-enum-known-info
-enum-known-info c = search needs
-
 back-string-requires : tie.Need-back-string-requires
 unfolding optionLies infoForm shortest
 back-string-requires c κs = (rw (c .before .before .info .given .1) at (c .before .before .before .before .before .before .pre .0), rw (c .before .before .info .given .1) at (c .before .before .before .before .before .before .pre .1))
@@ -20,9 +17,6 @@ back-string-requires c κs = (rw (c .before .before .info .given .1) at (c .befo
 returns : tie.Need-returns
 unfolding infoForm shortest
 returns c = rw (c .enum-told .given .1) (back-none _ _ (c .before .before .before .before .pre .1 .within))
-
-same-length : tie.Need-same-length
-same-length c = search needs
 
 returns-2 : tie.Need-returns-2
 unfolding infoForm shortest
@@ -33,8 +27,8 @@ back-info-spec =
     tie.close
     (tie.spec
     enum-told
-    enum-known-info
+    (λ c. search needs)
     back-string-requires
     returns
-    same-length
+    (λ c. search needs)
     returns-2)

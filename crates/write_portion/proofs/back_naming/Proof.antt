@@ -24,9 +24,6 @@ back-head-requires-2 : tie.Need-back-head-requires-2
 unfolding shortest
 back-head-requires-2 c κs = room-head (back-around (back-then (c .before .before .before .before .before .before .before .before .before .before .before .pre .2) (c .before .before .before .before .before .before .before .back-leaf .ensures)) 0x28 (c .before .before .before .back-head .ensures)) 0x6B (c .before .before .before .before .before .before .before .before .before .before .before .pre .3)
 
-same-length : tie.Need-same-length
-same-length c = search needs
-
 returns : tie.Need-returns
 unfolding shortest
 returns c = λ old held p. back-around (back-around (back-then p (c .before .before .before .before .before .before .before .before .before .before .back-leaf .ensures)) 0x28 (c .before .before .before .before .before .before .back-head .ensures)) 0x6B (c .before .before .back-head2 .ensures)
@@ -40,5 +37,5 @@ back-naming-spec =
     back-head-requires
     sub-back-head-2
     back-head-requires-2
-    same-length
+    (λ c. search needs)
     returns)

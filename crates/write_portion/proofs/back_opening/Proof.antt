@@ -23,9 +23,6 @@ back-naming-requires : tie.Need-back-naming-requires
 unfolding shortest
 back-naming-requires c κs = (c .before .before .before .before .before .before .before .before .before .before .before .pre .0, _, back-around (back-around (c .before .before .before .before .before .before .before .before .before .before .before .pre .2) _ (c .before .before .before .before .before .before .before .back-head .ensures)) 0xA0 (c .before .before .before .back-head2 .ensures), c .before .before .before .before .before .before .before .before .before .before .before .pre .3)
 
-same-length : tie.Need-same-length
-same-length c = search needs
-
 returns : tie.Need-returns
 unfolding shortest
 returns c = λ old held p. c .before .before .back-naming .ensures old _ (back-around (back-around p _ (c .before .before .before .before .before .before .before .before .before .before .back-head .ensures)) 0xA0 (c .before .before .before .before .before .before .back-head2 .ensures))
@@ -39,5 +36,5 @@ back-opening-spec =
     sub-back-head-2
     back-head-requires-2
     back-naming-requires
-    same-length
+    (λ c. search needs)
     returns)

@@ -12,15 +12,9 @@ back-string-requires : tie.Need-back-string-requires
 unfolding shortest
 back-string-requires c κs = (c .before .before .before .pre .1 .0, room-last (octetsOf (leaf 0x06 (octetsIn (c .before .before .before .args .material .now) (c .before .before .before .args .name)))) (room-named (octetsIn (c .before .before .before .args .material .now) (c .before .before .before .args .name)) (octetsOf (leaf (c .before .before .before .args .tag) (octetsIn (c .before .before .before .args .material .now) (c .before .before .before .args .string)))) (c .before .before .before .pre .1 .1)))
 
-octets-of-requires : tie.Need-octets-of-requires
-octets-of-requires c κs = search needs
-
 back-naming-requires : tie.Need-back-naming-requires
 unfolding shortest
 back-naming-requires c κs = rw (c .before .octets-of .ensures) (c .before .before .before .before .before .before .before .before .args .out .now, _, c .before .before .before .before .back-string .ensures, c .before .before .before .before .before .before .before .before .pre .1 .1)
-
-same-length : tie.Need-same-length
-same-length c = search needs
 
 returns : tie.Need-returns
 unfolding shortest
@@ -31,7 +25,7 @@ back-outside-spec =
     tie.close
     (tie.spec
     back-string-requires
-    octets-of-requires
+    (λ c κs. search needs)
     back-naming-requires
-    same-length
+    (λ c. search needs)
     returns)

@@ -18,15 +18,9 @@ back-context-requires : tie.Need-back-context-requires
 unfolding dialogueLies dialogueForm shortest
 back-context-requires c κs = (named-lie _ _ _ (c .before .before .before .before .before .before .before .pre .0) .0, room-next (c .before .before .before .back-result .ensures) _ (room-fields structured 0x61 (octetsOf (contextForm (octetsIn (c .before .before .before .before .before .before .before .args .material .now) (c .before .before .before .before .before .before .before .args .name))) ++ octetsOf (then (around 0xA2 (octet 0x02 (c .before .before .before .before .before .before .before .args .result))) (then (around 0xA3 (sourceForm (c .before .before .before .before .before .before .before .args .diagnostic))) (infoForm (c .before .before .before .before .before .before .before .args .material .now) (c .before .before .before .before .before .before .before .args .info))))) (c .before .before .before .before .before .before .before .pre .1)))
 
-slice-aggregate-back-opening : tie.Need-slice-aggregate-back-opening
-slice-aggregate-back-opening c = search needs
-
 back-opening-requires : tie.Need-back-opening-requires
 unfolding dialogueForm shortest
 back-opening-requires c κs = (c .before .before .before .before .before .before .before .before .before .before .before .before .args .out .now, _, back-then (c .before .before .before .before .before .before .before .before .back-result .ensures) (c .before .before .before .before .back-context .ensures), c .before .before .before .before .before .before .before .before .before .before .before .before .pre .1)
-
-same-length : tie.Need-same-length
-same-length c = search needs
 
 returns : tie.Need-returns
 unfolding dialogueForm shortest
@@ -38,7 +32,7 @@ back-response-spec =
     (tie.spec
     back-result-requires
     back-context-requires
-    slice-aggregate-back-opening
+    (λ c. search needs)
     back-opening-requires
-    same-length
+    (λ c. search needs)
     returns)

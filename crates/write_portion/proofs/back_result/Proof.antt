@@ -25,9 +25,6 @@ back-two-requires : tie.Need-back-two-requires
 unfolding shortest
 back-two-requires c κs = room-next (back-then (back-then (c .before .before .before .before .before .before .before .before .before .before .before .back-info .ensures) (c .before .before .before .before .before .before .before .back-diagnostic .ensures)) (c .before .before .before .back-three .ensures)) _ (rw result-parts at (c .before .before .before .before .before .before .before .before .before .before .before .before .before .before .before .pre .1))
 
-same-length : tie.Need-same-length
-same-length c = search needs
-
 returns : tie.Need-returns
 unfolding shortest
 returns c = rw result-parts (back-then (back-then (back-then (c .before .before .before .before .before .before .before .before .before .before .before .before .before .before .back-info .ensures) (c .before .before .before .before .before .before .before .before .before .before .back-diagnostic .ensures)) (c .before .before .before .before .before .before .back-three .ensures)) (c .before .before .back-two .ensures))
@@ -40,5 +37,5 @@ back-result-spec =
     back-diagnostic-requires
     back-three-requires
     back-two-requires
-    same-length
+    (λ c. search needs)
     returns)

@@ -15,9 +15,6 @@ back-two-requires c κs = room-next (c .before .before .before .back-three .ensu
 back-two-requires-2 : tie.Need-back-two-requires-2
 back-two-requires-2 c κs = room-next (back-then (c .before .before .before .before .before .before .before .back-three .ensures) (c .before .before .before .back-two .ensures)) _ (rw source-parts at (c .before .before .before .before .before .before .before .before .before .before .pre))
 
-same-length : tie.Need-same-length
-same-length c = search needs
-
 returns : tie.Need-returns
 returns c = rw source-parts (back-then (back-then (c .before .before .before .before .before .before .before .before .before .before .back-three .ensures) (c .before .before .before .before .before .before .back-two .ensures)) (c .before .before .back-two2 .ensures))
 
@@ -28,5 +25,5 @@ back-source-spec =
     back-three-requires
     back-two-requires
     back-two-requires-2
-    same-length
+    (λ c. search needs)
     returns)

@@ -18,15 +18,9 @@ back-rows-requires : tie.Need-back-rows-requires
 unfolding shortest
 back-rows-requires c κs = (c .before .before .before .before .before .pre .0, (c .before .before .before .before .before .pre .1 .0, (c .before .before .before .before .before .pre .1 .1 .0, room-inside 0x6C (octetsOf (seriesForm (rowForm (c .before .before .before .before .before .args .material .now)) (rowsIn (c .before .before .before .before .before .args .count) (drop 44 (c .before .before .before .before .before .args .octets .now))))) (rw (some-rows _ _ _ (c .before .if1 .left)) at (c .before .before .before .before .before .pre .1 .1 .1)))))
 
-sub-back-head : tie.Need-sub-back-head
-sub-back-head c = search needs
-
 back-head-requires : tie.Need-back-head-requires
 unfolding shortest
 back-head-requires c κs = room-head (c .before .before .before .back-rows .ensures) 0x6C (rw (some-rows _ _ _ (c .before .before .before .before .before .if1 .left)) at (c .before .before .before .before .before .before .before .before .before .pre .1 .1 .1))
-
-same-length : tie.Need-same-length
-same-length c = search needs
 
 returns-2 : tie.Need-returns-2
 unfolding shortest
@@ -38,7 +32,7 @@ back-components-spec =
     (tie.spec
     returns
     back-rows-requires
-    sub-back-head
+    (λ c. search needs)
     back-head-requires
-    same-length
+    (λ c. search needs)
     returns-2)

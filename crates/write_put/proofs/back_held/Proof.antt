@@ -23,9 +23,6 @@ back-orig-requires : tie.Need-back-orig-requires
 unfolding heldForm shortest
 back-orig-requires c κs = (c .before .before .before .before .before .before .before .before .before .before .before .before .before .before .before .before .pre .1 .1 .0, room-next (back-then (back-then (c .before .before .before .before .before .before .before .before .before .before .before .back-components .ensures) (c .before .before .before .before .before .before .before .back-dialogue .ensures)) (c .before .before .before .back-dest .ensures)) _ (c .before .before .before .before .before .before .before .before .before .before .before .before .before .before .before .before .pre .1 .1 .1 .1 .1 .1))
 
-same-length : tie.Need-same-length
-same-length c = search needs
-
 returns : tie.Need-returns
 unfolding heldForm shortest
 returns c = back-then (back-then (back-then (c .before .before .before .before .before .before .before .before .before .before .before .before .before .before .back-components .ensures) (c .before .before .before .before .before .before .before .before .before .before .back-dialogue .ensures)) (c .before .before .before .before .before .before .back-dest .ensures)) (c .before .before .back-orig .ensures)
@@ -38,5 +35,5 @@ back-held-spec =
     back-dialogue-requires
     back-dest-requires
     back-orig-requires
-    same-length
+    (λ c. search needs)
     returns)

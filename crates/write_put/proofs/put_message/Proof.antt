@@ -14,18 +14,9 @@ back-held-requires : tie.Need-back-held-requires
 unfolding partsForm shortest
 back-held-requires c κs = (c .before .before .before .before .pre .0, (c .before .before .before .before .pre .1 .0, (c .before .before .before .before .pre .1 .1 .0, (c .before .before .before .before .pre .1 .1 .1 .0, (c .before .before .before .before .pre .1 .1 .1 .1 .0, (c .before .before .before .before .pre .1 .1 .1 .1 .1 .0, room-inside (messageTag (c .before .before .before .before .args .kind)) (octetsOf (heldForm (c .before .before .before .before .args .material .now) (c .before .before .before .before .args .orig) (c .before .before .before .before .args .dest) (c .before .before .before .before .args .dialogue) (rowsIn (c .before .before .before .before .args .count) (drop 44 (c .before .before .before .before .args .octets .now))))) (c .before .before .before .before .pre .1 .1 .1 .1 .1 .1)))))))
 
-message-tag-requires : tie.Need-message-tag-requires
-message-tag-requires c κs = search needs
-
-sub-back-head : tie.Need-sub-back-head
-sub-back-head c = search needs
-
 back-head-requires : tie.Need-back-head-requires
 unfolding partsForm shortest
 back-head-requires c κs = rw (c .message-tag .ensures) (room-head (c .before .before .before .before .back-held .ensures) _ (c .before .before .before .before .before .before .before .before .before .pre .1 .1 .1 .1 .1 .1))
-
-same-length : tie.Need-same-length
-same-length c = search needs
 
 returns : tie.Need-returns
 unfolding partsForm shortest
@@ -36,8 +27,8 @@ put-message-spec =
     tie.close
     (tie.spec
     back-held-requires
-    message-tag-requires
-    sub-back-head
+    (λ c κs. search needs)
+    (λ c. search needs)
     back-head-requires
-    same-length
+    (λ c. search needs)
     returns)

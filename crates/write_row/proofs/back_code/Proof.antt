@@ -10,35 +10,17 @@ use Rattle.layout.specs.Layout.{spanAt, codeIn}
 use Rattle.write_row.proofs.back_code.Statement.{statement}
 use Rattle.write_row.proofs.back_code.Tie as tie
 
-shared-slice-read-if1 : tie.Need-shared-slice-read-if1
-shared-slice-read-if1 c = search needs
-
-number-at-requires : tie.Need-number-at-requires
-number-at-requires c κs = search needs
-
-signed-requires : tie.Need-signed-requires
-signed-requires c κs = search needs
-
 back-integer-requires : tie.Need-back-integer-requires
 unfolding codeForm codeIn spanAt topOf
 back-integer-requires c κs = rw (toZ-ofZ {w = w32} (record { sfits = c .before .signed .ok }), c .before .signed .ensures, c .before .before .number-at .ensures) (rw (eq-eqb _ _ (c .before .before .before .if1 .taken)) at (c .before .before .before .before .before .before .before .before .pre .1 .1))
-
-same-length : tie.Need-same-length
-same-length c = search needs
 
 returns : tie.Need-returns
 unfolding codeForm codeIn spanAt topOf
 returns c = rw (eq-eqb _ _ (c .before .before .before .before .before .before .if1 .taken)) (rw (toZ-ofZ {w = w32} (record { sfits = c .before .before .before .before .signed .ok }), c .before .before .before .before .signed .ensures, c .before .before .before .before .before .number-at .ensures) at (c .before .before .back-integer .ensures))
 
-span-at-requires : tie.Need-span-at-requires
-span-at-requires c κs = search needs
-
 back-string-requires : tie.Need-back-string-requires
 unfolding codeLies codeForm codeIn
 back-string-requires c κs = rw (c .before .span-at .ensures) (rw (ne-eqb _ _ (c .before .before .if1 .left)) at (c .before .before .before .before .before .before .before .pre .1))
-
-same-length-2 : tie.Need-same-length-2
-same-length-2 c = search needs
 
 returns-2 : tie.Need-returns-2
 unfolding codeForm codeIn
@@ -48,13 +30,13 @@ pub back-code-spec : {M : Type 1} → statement M
 back-code-spec =
     tie.close
     (tie.spec
-    shared-slice-read-if1
-    number-at-requires
-    signed-requires
+    (λ c. search needs)
+    (λ c κs. search needs)
+    (λ c κs. search needs)
     back-integer-requires
-    same-length
+    (λ c. search needs)
     returns
-    span-at-requires
+    (λ c κs. search needs)
     back-string-requires
-    same-length-2
+    (λ c. search needs)
     returns-2)

@@ -15,13 +15,10 @@ back-code-requires : tie.Need-back-code-requires
 unfolding shortest
 back-code-requires c κs = (c .before .before .before .before .before .before .before .before .pre .0, (c .before .before .before .before .before .before .before .before .pre .1 .0, room-next (c .before .before .before .back-parameter .ensures) _ (c .before .before .before .before .before .before .before .before .pre .1 .1 .1)))
 
-same-length : tie.Need-same-length
-same-length c = search needs
-
 returns : tie.Need-returns
 unfolding shortest
 returns c = back-then (c .before .before .before .before .before .before .back-parameter .ensures) (c .before .before .back-code .ensures)
 
 pub back-coded-spec : {M : Type 1} → statement M
 back-coded-spec =
-    tie.close (tie.spec back-parameter-requires back-code-requires same-length returns)
+    tie.close (tie.spec back-parameter-requires back-code-requires (λ c. search needs) returns)

@@ -14,9 +14,6 @@ back-two-requires : tie.Need-back-two-requires
 unfolding idForm idIn shortest
 back-two-requires c κs = rw (eq-eqb _ _ (c .before .if1 .taken), short-length 0 (omega arith)) at (c .before .before .before .pre)
 
-same-length : tie.Need-same-length
-same-length c = search needs
-
 returns : tie.Need-returns
 unfolding idForm idIn shortest
 returns c = rw (eq-eqb _ _ (c .before .before .before .before .if1 .taken), short-length 0 (omega arith)) (c .before .before .back-two .ensures)
@@ -24,9 +21,6 @@ returns c = rw (eq-eqb _ _ (c .before .before .before .before .if1 .taken), shor
 back-three-requires : tie.Need-back-three-requires
 unfolding idForm idIn
 back-three-requires c κs = rw (ne-eqb _ _ (c .before .if1 .left), signed-parts _ _ (c .before .before .before .fits .octet .fits)) at (c .before .before .before .pre)
-
-same-length-2 : tie.Need-same-length-2
-same-length-2 c = search needs
 
 returns-2 : tie.Need-returns-2
 unfolding idForm idIn
@@ -37,8 +31,8 @@ back-id-spec =
     tie.close
     (tie.spec
     back-two-requires
-    same-length
+    (λ c. search needs)
     returns
     back-three-requires
-    same-length-2
+    (λ c. search needs)
     returns-2)

@@ -17,12 +17,9 @@ back-three-requires : tie.Need-back-three-requires
 unfolding linkedForm linkedIn
 back-three-requires c κs = rw (ne-eqb _ _ (c .before .if1 .left), signed-parts _ _ (c .before .before .before .fits .octet .fits)) at (c .before .before .before .pre)
 
-same-length : tie.Need-same-length
-same-length c = search needs
-
 returns-2 : tie.Need-returns-2
 unfolding linkedForm linkedIn
 returns-2 c = rw (ne-eqb _ _ (c .before .before .before .before .if1 .left), signed-parts _ _ (c .before .before .before .before .before .before .fits .octet .fits)) (c .before .before .back-three .ensures)
 
 pub back-linked-spec : {M : Type 1} → statement M
-back-linked-spec = tie.close (tie.spec returns back-three-requires same-length returns-2)
+back-linked-spec = tie.close (tie.spec returns back-three-requires (λ c. search needs) returns-2)

@@ -9,22 +9,13 @@ use Rattle.layout.specs.Layout.{optionalIn}
 use Rattle.write_row.proofs.back_parameter.Statement.{statement}
 use Rattle.write_row.proofs.back_parameter.Tie as tie
 
-shared-slice-read-if1 : tie.Need-shared-slice-read-if1
-shared-slice-read-if1 c = search needs
-
 returns : tie.Need-returns
 unfolding parameterForm optionalIn shortest
 returns c = rw (eq-eqb _ _ (c .if1 .taken)) (back-none _ _ (c .before .before .before .before .before .pre .1 .1 .within))
 
-span-at-requires : tie.Need-span-at-requires
-span-at-requires c κs = search needs
-
 back-span-requires : tie.Need-back-span-requires
 unfolding optionLies parameterForm optionalIn shortest
 back-span-requires c κs = rw (c .before .span-at .ensures) (rw (ne-eqb _ _ (c .before .before .if1 .left)) at (c .before .before .before .before .before .before .before .pre .1))
-
-same-length : tie.Need-same-length
-same-length c = search needs
 
 returns-2 : tie.Need-returns-2
 unfolding parameterForm optionalIn shortest
@@ -34,9 +25,9 @@ pub back-parameter-spec : {M : Type 1} → statement M
 back-parameter-spec =
     tie.close
     (tie.spec
-    shared-slice-read-if1
+    (λ c. search needs)
     returns
-    span-at-requires
+    (λ c κs. search needs)
     back-span-requires
-    same-length
+    (λ c. search needs)
     returns-2)

@@ -17,18 +17,9 @@ back-coded-requires c κs =
     let h = coded-lie _ _ _ (rw q at (c .before .before .before .before .before .pre .1 .1 .0)) in
     (c .before .before .before .before .before .pre .0, (h .0, (h .1, coded-room _ _ _ _ (rw q at (c .before .before .before .before .before .pre .1 .1 .1)))))
 
-shared-slice-read-back-linked : tie.Need-shared-slice-read-back-linked
-shared-slice-read-back-linked c = search needs
-
-shared-slice-read-back-linked-2 : tie.Need-shared-slice-read-back-linked-2
-shared-slice-read-back-linked-2 c = search needs
-
 back-linked-requires : tie.Need-back-linked-requires
 unfolding restForm shortest
 back-linked-requires c κs = let q = kind-invoke _ (c .before .before .before .before .before .before .before .before .before .before .before .args .part .now) (c .before .before .before .before .before .before .before .if1 .taken) in room-next (c .before .before .before .before .before .back-coded .ensures) _ (rw q at (c .before .before .before .before .before .before .before .before .before .before .before .pre .1 .1 .1))
-
-same-length : tie.Need-same-length
-same-length c = search needs
 
 returns : tie.Need-returns
 unfolding restForm shortest
@@ -41,25 +32,13 @@ back-coded-requires-2 c κs =
     let h = coded-lie _ _ _ (rw q at (c .before .before .before .before .before .before .pre .1 .1 .0)) in
     (c .before .before .before .before .before .before .pre .0, (h .0, (h .1, rw q at (c .before .before .before .before .before .before .pre .1 .1 .1))))
 
-same-length-2 : tie.Need-same-length-2
-same-length-2 c = search needs
-
 returns-2 : tie.Need-returns-2
 unfolding restForm
 returns-2 c = let q = kind-error _ (c .before .before .before .before .before .before .before .before .before .args .part .now) (c .before .before .before .before .if2 .taken) in rw q (c .before .before .back-coded2 .ensures)
 
-shared-slice-read-back-three : tie.Need-shared-slice-read-back-three
-shared-slice-read-back-three c = search needs
-
-shared-slice-read-back-three-2 : tie.Need-shared-slice-read-back-three-2
-shared-slice-read-back-three-2 c = search needs
-
 back-three-requires : tie.Need-back-three-requires
 unfolding restForm
 back-three-requires c κs = let q = kind-reject _ (c .before .before .before .before .before .before .before .before .before .args .part .now) (c .before .before .before .if3 .taken) in rw (problem-parts _ _ (reject-problem _ (c .before .before .before .before .before .before .before .before .before .args .part .now) (c .before .before .before .if3 .taken) (c .before .before .before .before .before .before .before .before .before .pre .1 .0))) at (rw q at (c .before .before .before .before .before .before .before .before .before .pre .1 .1 .1))
-
-same-length-3 : tie.Need-same-length-3
-same-length-3 c = search needs
 
 returns-3 : tie.Need-returns-3
 unfolding restForm
@@ -67,9 +46,6 @@ returns-3 c = let q = kind-reject _ (c .before .before .before .before .before .
 
 back-returned-requires : tie.Need-back-returned-requires
 back-returned-requires c κs = let q = rest-returned _ (c .before .before .before .before .before .before .before .args .part .now) (c .before .before .before .before .before .before .before .args .material .now) (length (c .before .before .before .before .before .before .before .args .material .now)) (c .before .before .before .if1 .left) (c .before .before .if2 .left) (c .before .if3 .left) in (c .before .before .before .before .before .before .before .pre .0, (rw (q .1) at (c .before .before .before .before .before .before .before .pre .1 .1 .0), rw (q .0) at (c .before .before .before .before .before .before .before .pre .1 .1 .1)))
-
-same-length-4 : tie.Need-same-length-4
-same-length-4 c = search needs
 
 returns-4 : tie.Need-returns-4
 returns-4 c = let q = rest-returned _ (c .before .before .before .before .before .before .before .before .before .before .args .part .now) (c .before .before .before .before .before .before .before .before .before .before .args .material .now) (length (c .before .before .before .before .before .before .before .before .before .before .args .material .now)) (c .before .before .before .before .before .before .if1 .left) (c .before .before .before .before .before .if2 .left) (c .before .before .before .before .if3 .left) in rw (q .0) (c .before .before .back-returned .ensures)
@@ -79,19 +55,19 @@ back-rest-spec =
     tie.close
     (tie.spec
     back-coded-requires
-    shared-slice-read-back-linked
-    shared-slice-read-back-linked-2
+    (λ c. search needs)
+    (λ c. search needs)
     back-linked-requires
-    same-length
+    (λ c. search needs)
     returns
     back-coded-requires-2
-    same-length-2
+    (λ c. search needs)
     returns-2
-    shared-slice-read-back-three
-    shared-slice-read-back-three-2
+    (λ c. search needs)
+    (λ c. search needs)
     back-three-requires
-    same-length-3
+    (λ c. search needs)
     returns-3
     back-returned-requires
-    same-length-4
+    (λ c. search needs)
     returns-4)

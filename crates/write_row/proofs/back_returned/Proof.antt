@@ -10,15 +10,9 @@ use Rattle.write_row.proofs.Fields.{both-lie, both-inside}
 use Rattle.write_row.proofs.back_returned.Statement.{statement}
 use Rattle.write_row.proofs.back_returned.Tie as tie
 
-shared-slice-read-if1 : tie.Need-shared-slice-read-if1
-shared-slice-read-if1 c = search needs
-
 returns : tie.Need-returns
 unfolding returnedIn returnedForm shortest
 returns c = rw (eq-eqb _ _ (c .if1 .taken)) (back-none _ _ (c .before .before .before .before .before .pre .1 .1 .within))
-
-span-at-requires : tie.Need-span-at-requires
-span-at-requires c κs = search needs
 
 back-span-requires : tie.Need-back-span-requires
 unfolding returnedIn
@@ -32,15 +26,9 @@ back-code-requires c κs =
     let h = rw (ne-eqb _ _ (c .before .before .before .before .before .before .if1 .left)) at (c .before .before .before .before .before .before .before .before .before .before .before .pre .1) in
     (c .before .before .before .before .before .before .before .before .before .before .before .pre .0, (both-lie _ _ _ (h .0) .0, room-next (rw (c .before .before .before .before .before .span-at .ensures) at (c .before .before .before .back-span .ensures)) _ (both-inside _ _ _ (h .1))))
 
-sub-back-head : tie.Need-sub-back-head
-sub-back-head c = search needs
-
 back-head-requires : tie.Need-back-head-requires
 unfolding returnedIn returnedForm shortest
 back-head-requires c κs = room-head (back-then (rw (c .before .before .before .before .before .before .before .before .before .span-at .ensures) at (c .before .before .before .before .before .before .before .back-span .ensures)) (c .before .before .before .back-code .ensures)) _ ((rw (ne-eqb _ _ (c .before .before .before .before .before .before .before .before .before .before .if1 .left)) at (c .before .before .before .before .before .before .before .before .before .before .before .before .before .before .before .pre .1)) .1)
-
-same-length : tie.Need-same-length
-same-length c = search needs
 
 returns-2 : tie.Need-returns-2
 unfolding returnedIn returnedForm shortest
@@ -50,12 +38,12 @@ pub back-returned-spec : {M : Type 1} → statement M
 back-returned-spec =
     tie.close
     (tie.spec
-    shared-slice-read-if1
+    (λ c. search needs)
     returns
-    span-at-requires
+    (λ c κs. search needs)
     back-span-requires
     back-code-requires
-    sub-back-head
+    (λ c. search needs)
     back-head-requires
-    same-length
+    (λ c. search needs)
     returns-2)

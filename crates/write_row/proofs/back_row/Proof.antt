@@ -10,35 +10,17 @@ use Rattle.write_row.proofs.Tags.{row-kind, row-tag}
 use Rattle.write_row.proofs.back_row.Statement.{statement}
 use Rattle.write_row.proofs.back_row.Tie as tie
 
-shared-slice-read-back-rest : tie.Need-shared-slice-read-back-rest
-shared-slice-read-back-rest c = search needs
-
 back-rest-requires : tie.Need-back-rest-requires
 unfolding rowIn
 back-rest-requires c κs = (c .before .before .before .before .before .pre .0, (row-kind _ (c .before .before .before .before .before .pre .1 .0), (c .before .before .before .before .before .pre .1 .1 .0, room-last (octetsOf (idForm (rowIn (c .before .before .before .before .before .args .part .now) .id))) (row-inside (c .before .before .before .before .before .args .material .now) (rowIn (c .before .before .before .before .before .args .part .now)) (c .before .before .before .before .before .pre .1 .1 .1)))))
-
-shared-slice-read-back-id : tie.Need-shared-slice-read-back-id
-shared-slice-read-back-id c = search needs
-
-shared-slice-read-back-id-2 : tie.Need-shared-slice-read-back-id-2
-shared-slice-read-back-id-2 c = search needs
 
 back-id-requires : tie.Need-back-id-requires
 unfolding rowIn
 back-id-requires c κs = room-next (c .before .before .before .before .before .back-rest .ensures) _ (row-inside (c .before .before .before .before .before .before .before .before .before .before .before .args .material .now) (rowIn (c .before .before .before .before .before .before .before .before .before .before .before .args .part .now)) (c .before .before .before .before .before .before .before .before .before .before .before .pre .1 .1 .1))
 
-shared-slice-read-back-head : tie.Need-shared-slice-read-back-head
-shared-slice-read-back-head c = search needs
-
-sub-back-head : tie.Need-sub-back-head
-sub-back-head c = search needs
-
 back-head-requires : tie.Need-back-head-requires
 unfolding rowIn rowForm shortest
 back-head-requires c κs = room-head (back-then (c .before .before .before .before .before .before .before .before .before .before .back-rest .ensures) (c .before .before .before .before .back-id .ensures)) _ (rw (contents-parts, row-tag _ (c .before .before .before .before .before .before .before .before .before .before .before .before .before .before .before .before .pre .1 .0)) at (c .before .before .before .before .before .before .before .before .before .before .before .before .before .before .before .before .pre .1 .1 .1))
-
-same-length : tie.Need-same-length
-same-length c = search needs
 
 returns : tie.Need-returns
 unfolding rowIn rowForm shortest
@@ -48,13 +30,13 @@ pub back-row-spec : {M : Type 1} → statement M
 back-row-spec =
     tie.close
     (tie.spec
-    shared-slice-read-back-rest
+    (λ c. search needs)
     back-rest-requires
-    shared-slice-read-back-id
-    shared-slice-read-back-id-2
+    (λ c. search needs)
+    (λ c. search needs)
     back-id-requires
-    shared-slice-read-back-head
-    sub-back-head
+    (λ c. search needs)
+    (λ c. search needs)
     back-head-requires
-    same-length
+    (λ c. search needs)
     returns)

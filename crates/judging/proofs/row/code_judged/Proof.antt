@@ -12,36 +12,9 @@ use Rattle.judging.proofs.Joining.{wrap, leaf-size}
 use Rattle.judging.proofs.row.code_judged.Statement.{statement}
 use Rattle.judging.proofs.row.code_judged.Tie as tie
 
-shared-slice-read-if1 : tie.Need-shared-slice-read-if1
-shared-slice-read-if1 c = search needs
-
-number-at-requires : tie.Need-number-at-requires
-number-at-requires c κs = search needs
-
-signed-requires : tie.Need-signed-requires
-signed-requires c κs = search needs
-
-integer-size-requires : tie.Need-integer-size-requires
-integer-size-requires c κs = search needs
-
-around-requires : tie.Need-around-requires
-around-requires c κs = search needs
-
 returns : tie.Need-returns
 unfolding rankOf judged wrapped codeRanges codeLies codeShaped codeForm codeIn spanAt topOf
 returns c = rw (eq-eqb _ _ (c .before .before .before .before .if1 .taken), c .around .ensures, c .before .integer-size .ensures, toZ-ofZ {w = w32} (record { sfits = c .before .before .signed .ok }), c .before .before .signed .ensures, c .before .before .before .number-at .ensures, leaf-size)
-
-shared-slice-read-if2 : tie.Need-shared-slice-read-if2
-shared-slice-read-if2 c = search needs
-
-span-at-requires : tie.Need-span-at-requires
-span-at-requires c κs = search needs
-
-name-judged-requires : tie.Need-name-judged-requires
-name-judged-requires c κs = search needs
-
-around-requires-2 : tie.Need-around-requires-2
-around-requires-2 c κs = search needs
 
 returns-2 : tie.Need-returns-2
 unfolding codeRanges codeLies codeShaped codeForm codeIn
@@ -54,15 +27,15 @@ pub code-judged-spec : {M : Type 1} → statement M
 code-judged-spec =
     tie.close
     (tie.spec
-    shared-slice-read-if1
-    number-at-requires
-    signed-requires
-    integer-size-requires
-    around-requires
+    (λ c. search needs)
+    (λ c κs. search needs)
+    (λ c κs. search needs)
+    (λ c κs. search needs)
+    (λ c κs. search needs)
     returns
-    shared-slice-read-if2
-    span-at-requires
-    name-judged-requires
-    around-requires-2
+    (λ c. search needs)
+    (λ c κs. search needs)
+    (λ c κs. search needs)
+    (λ c κs. search needs)
     returns-2
     returns-3)

@@ -10,24 +10,9 @@ use Rattle.judging.proofs.Listed.{fine-then, flag-none, octet-id}
 use Rattle.judging.proofs.row.invoke_judged.Statement.{statement}
 use Rattle.judging.proofs.row.invoke_judged.Tie as tie
 
-shared-slice-read-if1 : tie.Need-shared-slice-read-if1
-shared-slice-read-if1 c = search needs
-
-coded-judged-requires : tie.Need-coded-judged-requires
-coded-judged-requires c κs = search needs
-
 returns : tie.Need-returns
 unfolding linkedIn linkedForm restForm rowRanges rowLies rowShaped
 returns c = rw (c .before .if1 .taken, c .coded-judged .ensures) (simp (then-size, exact-size, zero-add))
-
-shared-slice-read-if2 : tie.Need-shared-slice-read-if2
-shared-slice-read-if2 c = search needs
-
-coded-judged-requires-2 : tie.Need-coded-judged-requires-2
-coded-judged-requires-2 c κs = search needs
-
-both-requires : tie.Need-both-requires
-both-requires c κs = search needs
 
 returns-2 : tie.Need-returns-2
 unfolding linkedIn linkedForm restForm rowRanges rowLies rowShaped
@@ -40,11 +25,11 @@ pub invoke-judged-spec : {M : Type 1} → statement M
 invoke-judged-spec =
     tie.close
     (tie.spec
-    shared-slice-read-if1
-    coded-judged-requires
+    (λ c. search needs)
+    (λ c κs. search needs)
     returns
-    shared-slice-read-if2
-    coded-judged-requires-2
-    both-requires
+    (λ c. search needs)
+    (λ c κs. search needs)
+    (λ c κs. search needs)
     returns-2
     returns-3)

@@ -9,21 +9,9 @@ use Rattle.judging.proofs.Listed.{flag-none}
 use Rattle.judging.proofs.row.parameter_judged.Statement.{statement}
 use Rattle.judging.proofs.row.parameter_judged.Tie as tie
 
-shared-slice-read-if1 : tie.Need-shared-slice-read-if1
-shared-slice-read-if1 c = search needs
-
 returns : tie.Need-returns
 unfolding rankOf judged optionLies parameterShaped parameterForm shortest optionalIn
 returns c = rw (c .if1 .taken)
-
-shared-slice-read-if2 : tie.Need-shared-slice-read-if2
-shared-slice-read-if2 c = search needs
-
-span-at-requires : tie.Need-span-at-requires
-span-at-requires c κs = search needs
-
-element-judged-requires : tie.Need-element-judged-requires
-element-judged-requires c κs = search needs
 
 returns-2 : tie.Need-returns-2
 unfolding optionLies parameterShaped parameterForm shortest optionalIn
@@ -36,10 +24,10 @@ pub parameter-judged-spec : {M : Type 1} → statement M
 parameter-judged-spec =
     tie.close
     (tie.spec
-    shared-slice-read-if1
+    (λ c. search needs)
     returns
-    shared-slice-read-if2
-    span-at-requires
-    element-judged-requires
+    (λ c. search needs)
+    (λ c κs. search needs)
+    (λ c κs. search needs)
     returns-2
     returns-3)

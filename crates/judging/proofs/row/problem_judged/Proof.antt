@@ -7,29 +7,17 @@ use Rattle.judging.proofs.Listed.{problem-none}
 use Rattle.judging.proofs.row.problem_judged.Statement.{statement}
 use Rattle.judging.proofs.row.problem_judged.Tie as tie
 
-octet-judged-requires : tie.Need-octet-judged-requires
-octet-judged-requires c κs = search needs
-
 returns : tie.Need-returns
 unfolding problemIn problemRanges
 returns c = rw (c .before .if1 .taken, octet-size) (c .octet-judged .ensures)
-
-octet-judged-requires-2 : tie.Need-octet-judged-requires-2
-octet-judged-requires-2 c κs = search needs
 
 returns-2 : tie.Need-returns-2
 unfolding problemIn problemRanges
 returns-2 c = rw (c .before .if2 .taken, octet-size) (c .octet-judged2 .ensures)
 
-octet-judged-requires-3 : tie.Need-octet-judged-requires-3
-octet-judged-requires-3 c κs = search needs
-
 returns-3 : tie.Need-returns-3
 unfolding problemIn problemRanges
 returns-3 c = rw (c .before .if3 .taken, octet-size) (c .octet-judged3 .ensures)
-
-octet-judged-requires-4 : tie.Need-octet-judged-requires-4
-octet-judged-requires-4 c κs = search needs
 
 returns-4 : tie.Need-returns-4
 unfolding problemIn problemRanges
@@ -42,12 +30,12 @@ pub problem-judged-spec : {M : Type 1} → statement M
 problem-judged-spec =
     tie.close
     (tie.spec
-    octet-judged-requires
+    (λ c κs. search needs)
     returns
-    octet-judged-requires-2
+    (λ c κs. search needs)
     returns-2
-    octet-judged-requires-3
+    (λ c κs. search needs)
     returns-3
-    octet-judged-requires-4
+    (λ c κs. search needs)
     returns-4
     returns-5)

@@ -12,12 +12,6 @@ use Rattle.judging.proofs.Listed.{listed-then, listed-wrap}
 use Rattle.judging.proofs.row.returned_judged.Statement.{statement}
 use Rattle.judging.proofs.row.returned_judged.Tie as tie
 
-shared-slice-read-if1 : tie.Need-shared-slice-read-if1
-shared-slice-read-if1 c = search needs
-
-shared-slice-read-if2 : tie.Need-shared-slice-read-if2
-shared-slice-read-if2 c = search needs
-
 returns : tie.Need-returns
 unfolding rankOf judged isReturned returnedIn returnedRanges returnedLies returnedShaped returnedForm shortest
 returns c = rw (eq-eqb _ _ (c .before .before .if1 .taken), eq-eqb _ _ (c .if2 .taken))
@@ -26,27 +20,9 @@ returns-2 : tie.Need-returns-2
 unfolding isReturned
 returns-2 c = rw (eq-eqb _ _ (c .before .before .if1 .taken), ne-eqb _ _ (c .if2 .left))
 
-shared-slice-read-if3 : tie.Need-shared-slice-read-if3
-shared-slice-read-if3 c = search needs
-
 returns-3 : tie.Need-returns-3
 unfolding isReturned
 returns-3 c = rw (ne-eqb _ _ (c .before .before .if1 .left), ne-eqb _ _ (c .if3 .taken), and-false)
-
-code-judged-requires : tie.Need-code-judged-requires
-code-judged-requires c κs = search needs
-
-span-at-requires : tie.Need-span-at-requires
-span-at-requires c κs = search needs
-
-element-judged-requires : tie.Need-element-judged-requires
-element-judged-requires c κs = search needs
-
-both-requires : tie.Need-both-requires
-both-requires c κs = search needs
-
-around-requires : tie.Need-around-requires
-around-requires c κs = search needs
 
 returns-4 : tie.Need-returns-4
 unfolding isReturned returnedIn returnedRanges returnedLies returnedShaped returnedForm
@@ -56,15 +32,15 @@ pub returned-judged-spec : {M : Type 1} → statement M
 returned-judged-spec =
     tie.close
     (tie.spec
-    shared-slice-read-if1
-    shared-slice-read-if2
+    (λ c. search needs)
+    (λ c. search needs)
     returns
     returns-2
-    shared-slice-read-if3
+    (λ c. search needs)
     returns-3
-    code-judged-requires
-    span-at-requires
-    element-judged-requires
-    both-requires
-    around-requires
+    (λ c κs. search needs)
+    (λ c κs. search needs)
+    (λ c κs. search needs)
+    (λ c κs. search needs)
+    (λ c κs. search needs)
     returns-4)

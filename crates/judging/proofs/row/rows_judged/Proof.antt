@@ -37,14 +37,8 @@ after-requires c κs = omega (arith, c .before .before .before .before .pre)
 row-judged-requires : tie.Need-row-judged-requires Inv-loop μ-loop
 row-judged-requires c κs = rw (c .after .ensures) (row-room (now (c .before .before .before .before .before .args .octets)) (c .before .before .loop .i) (omega (arith, c .before .before .before .before .before .pre)) (omega (arith, c .before .before .before .before .before .pre)))
 
-both-requires : tie.Need-both-requires Inv-loop μ-loop
-both-requires c κs = search needs
-
 add-i : tie.Need-add-i Inv-loop μ-loop
 add-i c = omega (arith, c .before .before .before .before .before .before .before .pre)
-
-loop-less : tie.Need-loop-less Inv-loop μ-loop
-loop-less c = search needs
 
 loop-again : tie.Need-loop-again Inv-loop μ-loop
 loop-again c = let o = now (c .before .before .before .before .before .before .before .args .octets) in
@@ -69,8 +63,8 @@ rows-judged-spec =
     add-after
     after-requires
     row-judged-requires
-    both-requires
+    (λ c κs. search needs)
     add-i
-    loop-less
+    (λ c. search needs)
     loop-again
     returns)

@@ -7,29 +7,17 @@ use Rattle.judging.specs.Forms.{restForm}
 use Rattle.judging.proofs.row.unlinked_judged.Statement.{statement}
 use Rattle.judging.proofs.row.unlinked_judged.Tie as tie
 
-returned-judged-requires : tie.Need-returned-judged-requires
-returned-judged-requires c κs = search needs
-
 returns : tie.Need-returns
 unfolding isUnlinked kindIn restForm rowRanges rowLies rowShaped
 returns c = rw (c .before .if1 .taken) (c .returned-judged .ensures)
-
-coded-judged-requires : tie.Need-coded-judged-requires
-coded-judged-requires c κs = search needs
 
 returns-2 : tie.Need-returns-2
 unfolding isUnlinked kindIn restForm rowRanges rowLies rowShaped
 returns-2 c = rw (c .before .if2 .taken) (c .coded-judged .ensures)
 
-reject-judged-requires : tie.Need-reject-judged-requires
-reject-judged-requires c κs = search needs
-
 returns-3 : tie.Need-returns-3
 unfolding isUnlinked kindIn restForm rowRanges rowLies rowShaped
 returns-3 c = rw (c .before .if3 .taken) (c .reject-judged .ensures)
-
-returned-judged-requires-2 : tie.Need-returned-judged-requires-2
-returned-judged-requires-2 c κs = search needs
 
 returns-4 : tie.Need-returns-4
 unfolding isUnlinked kindIn restForm rowRanges rowLies rowShaped
@@ -43,12 +31,12 @@ pub unlinked-judged-spec : {M : Type 1} → statement M
 unlinked-judged-spec =
     tie.close
     (tie.spec
-    returned-judged-requires
+    (λ c κs. search needs)
     returns
-    coded-judged-requires
+    (λ c κs. search needs)
     returns-2
-    reject-judged-requires
+    (λ c κs. search needs)
     returns-3
-    returned-judged-requires-2
+    (λ c κs. search needs)
     returns-4
     returns-5)

@@ -5,18 +5,9 @@ use Rattle.listing.specs.Fields.{idsText}
 use Rattle.listing.proofs.field.put_ids.Statement.{statement}
 use Rattle.listing.proofs.field.put_ids.Tie as tie
 
-put-orig-requires : tie.Need-put-orig-requires
-put-orig-requires c κs = search needs
-
-put-dest-requires : tie.Need-put-dest-requires
-put-dest-requires c κs = search needs
-
-same-length : tie.Need-same-length
-same-length c = search needs
-
 returns : tie.Need-returns
 unfolding idsText
 returns c = put-then (c .before .before .before .before .before .before .put-orig .ensures) (c .before .before .put-dest .ensures)
 
 pub put-ids-spec : {M : Type 1} → statement M
-put-ids-spec = tie.close (tie.spec put-orig-requires put-dest-requires same-length returns)
+put-ids-spec = tie.close (tie.spec (λ c κs. search needs) (λ c κs. search needs) (λ c. search needs) returns)

@@ -8,32 +8,11 @@ use lib.Seq.{take-all, take-nil, drop-length}
 use Rattle.listing.proofs.field.within.Statement.{statement}
 use Rattle.listing.proofs.field.within.Tie as tie
 
-cast-place : tie.Need-cast-place
-cast-place c = search needs
-
-cast-len : tie.Need-cast-len
-cast-len c = search needs
-
-after-requires : tie.Need-after-requires
-after-requires c κs = search needs
-
 returns : tie.Need-returns
 returns c =
     let m = c .before .before .before .before .before .args .message .now in
     let s = c .before .before .before .before .before .args .string in
     c .after .ensures ∙ drop-length m ∙ sym (ap (take (s .len)) (drop-of-length-le m {i = s .place} (c .before .if1 .taken)) ∙ take-nil (s .len))
-
-sub-if2 : tie.Need-sub-if2
-sub-if2 c = search needs
-
-piece-requires : tie.Need-piece-requires
-piece-requires c κs = search needs
-
-returns-2 : tie.Need-returns-2
-returns-2 c = search needs
-
-after-requires-2 : tie.Need-after-requires-2
-after-requires-2 c κs = search needs
 
 returns-3 : tie.Need-returns-3
 returns-3 c =
@@ -46,12 +25,12 @@ pub within-spec : {M : Type 1} → statement M
 within-spec =
     tie.close
     (tie.spec
-    cast-place
-    cast-len
-    after-requires
+    (λ c. search needs)
+    (λ c. search needs)
+    (λ c κs. search needs)
     returns
-    sub-if2
-    piece-requires
-    returns-2
-    after-requires-2
+    (λ c. search needs)
+    (λ c κs. search needs)
+    (λ c. search needs)
+    (λ c κs. search needs)
     returns-3)

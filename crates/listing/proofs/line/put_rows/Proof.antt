@@ -36,9 +36,6 @@ mul-row c = omega arith
 array-copy-out-row : tie.Need-array-copy-out-row Inv-loop μ-loop
 array-copy-out-row c = omega arith
 
-put-row-requires : tie.Need-put-row-requires Inv-loop μ-loop
-put-row-requires c κs = search needs
-
 add-i : tie.Need-add-i Inv-loop μ-loop
 add-i c = omega arith
 
@@ -69,7 +66,7 @@ put-rows-spec =
     returns
     mul-row
     array-copy-out-row
-    put-row-requires
+    (λ c κs. search needs)
     add-i
     loop-less
     loop-again

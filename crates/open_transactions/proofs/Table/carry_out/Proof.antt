@@ -11,20 +11,11 @@ use Rattle.open_transactions.proofs.Table.carry_out.Tie as tie
 enum-told : tie.Need-enum-told
 enum-told c = search needs
 
-enum-known-deed : tie.Need-enum-known-deed
-enum-known-deed c = search needs
-
 entry-for-requires : tie.Need-entry-for-requires
 entry-for-requires c κs = let k = opens-kept _ _ _ _ _ (c .before .deed .given .1) (c .before .before .before .before .before .pre) in (k .ours, k .partner)
 
 with-requires : tie.Need-with-requires
 with-requires c κs = let k = opens-kept _ _ _ _ _ (c .before .before .deed .given .1) (c .before .before .before .before .before .before .pre) in k .inside
-
-enum-told-2 : tie.Need-enum-told-2
-enum-told-2 c = search needs
-
-enum-known-deed-2 : tie.Need-enum-known-deed-2
-enum-known-deed-2 c = search needs
 
 mul-entry : tie.Need-mul-entry
 mul-entry c = let k = activates-kept _ _ _ _ (c .before .deed2 .given .1) (c .before .before .before .before .before .pre) in omega (arith, k .inside)
@@ -32,26 +23,14 @@ mul-entry c = let k = activates-kept _ _ _ _ (c .before .deed2 .given .1) (c .be
 element-copy-out-entry : tie.Need-element-copy-out-entry
 element-copy-out-entry c = let k = activates-kept _ _ _ _ (c .before .deed2 .given .1) (c .before .before .before .before .before .pre) in let n = table-typed (c .before .before .before .before .before .args .t1) _ (c .before .before .before .before .before .good .0) in omega (arith, k .inside, n)
 
-activated-requires : tie.Need-activated-requires
-activated-requires c κs = search needs
-
 with-requires-2 : tie.Need-with-requires-2
 with-requires-2 c κs = let k = activates-kept _ _ _ _ (c .before .before .before .deed2 .given .1) (c .before .before .before .before .before .before .before .pre) in k .inside
-
-enum-known-deed-3 : tie.Need-enum-known-deed-3
-enum-known-deed-3 c = search needs
 
 entry-for-requires-2 : tie.Need-entry-for-requires-2
 entry-for-requires-2 c κs = let k = learns-kept _ _ _ _ (c .before .deed3 .given .1) (c .before .before .before .before .before .pre) in (k .ours, k .partner)
 
 with-requires-3 : tie.Need-with-requires-3
 with-requires-3 c κs = let k = learns-kept _ _ _ _ (c .before .before .deed3 .given .1) (c .before .before .before .before .before .before .pre) in k .inside
-
-enum-known-deed-4 : tie.Need-enum-known-deed-4
-enum-known-deed-4 c = search needs
-
-blank-entry-requires : tie.Need-blank-entry-requires
-blank-entry-requires c κs = search needs
 
 with-requires-4 : tie.Need-with-requires-4
 with-requires-4 c κs = let k = closes-kept _ _ _ _ (c .before .before .deed4 .given .1) (c .before .before .before .before .before .before .pre) in k .inside
@@ -84,20 +63,20 @@ carry-out-spec =
     tie.close
     (tie.spec
     enum-told
-    enum-known-deed
+    (λ c. search needs)
     entry-for-requires
     with-requires
-    enum-told-2
-    enum-known-deed-2
+    (λ c. search needs)
+    (λ c. search needs)
     mul-entry
     element-copy-out-entry
-    activated-requires
+    (λ c κs. search needs)
     with-requires-2
-    enum-known-deed-3
+    (λ c. search needs)
     entry-for-requires-2
     with-requires-3
-    enum-known-deed-4
-    blank-entry-requires
+    (λ c. search needs)
+    (λ c κs. search needs)
     with-requires-4
     returns
     returns-2

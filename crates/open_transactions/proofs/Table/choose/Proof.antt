@@ -6,12 +6,6 @@ use borrow.Author.Needs.{needs}
 use Rattle.open_transactions.proofs.Table.choose.Statement.{statement}
 use Rattle.open_transactions.proofs.Table.choose.Tie as tie
 
-ids-ok-requires : tie.Need-ids-ok-requires
-ids-ok-requires c κs = search needs
-
-find-requires : tie.Need-find-requires
-find-requires c κs = search needs
-
 choose-at-requires : tie.Need-choose-at-requires
 choose-at-requires c κs = rw (c .find .ensures) (found-inside _ _ (table-typed (c .before .before .before .before .before .args .self) _ (c .before .before .before .before .before .good .0)))
 
@@ -25,4 +19,4 @@ returns-2 c = rw (← c .before .ids-ok .ensures, c .if1 .left)
 
 pub choose-spec : {M : Type 1} → statement M
 choose-spec =
-    tie.close (tie.spec ids-ok-requires find-requires choose-at-requires returns returns-2)
+    tie.close (tie.spec (λ c κs. search needs) (λ c κs. search needs) choose-at-requires returns returns-2)

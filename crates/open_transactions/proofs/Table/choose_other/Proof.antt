@@ -10,20 +10,11 @@ use Rattle.open_transactions.proofs.Table.choose_other.Tie as tie
 enum-told : tie.Need-enum-told
 enum-told c = search needs
 
-enum-known-found : tie.Need-enum-known-found
-enum-known-found c = search needs
-
 mul-entry : tie.Need-mul-entry
 mul-entry c = let h = inside-at _ _ (c .before .found .given .1) (c .before .before .before .pre) in omega (arith, h)
 
 element-copy-out-entry : tie.Need-element-copy-out-entry
 element-copy-out-entry c = let h = inside-at _ _ (c .before .found .given .1) (c .before .before .before .pre) in let n = table-typed (c .before .before .before .args .t1) _ (c .before .before .before .good .0) in omega (arith, h, n)
-
-move-of-requires : tie.Need-move-of-requires
-move-of-requires c κs = search needs
-
-moving-in-requires : tie.Need-moving-in-requires
-moving-in-requires c κs = search needs
 
 returns : tie.Need-returns
 unfolding otherDeed
@@ -37,10 +28,10 @@ choose-other-spec =
     tie.close
     (tie.spec
     enum-told
-    enum-known-found
+    (λ c. search needs)
     mul-entry
     element-copy-out-entry
-    move-of-requires
-    moving-in-requires
+    (λ c κs. search needs)
+    (λ c κs. search needs)
     returns
     returns-2)

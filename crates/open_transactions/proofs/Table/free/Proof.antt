@@ -25,9 +25,6 @@ mul-entry c = omega arith
 element-copy-out-entry : tie.Need-element-copy-out-entry Inv-loop μ-loop
 element-copy-out-entry c = omega arith
 
-is-free-requires : tie.Need-is-free-requires Inv-loop μ-loop
-is-free-requires c κs = search needs
-
 returns : tie.Need-returns Inv-loop μ-loop
 returns c = let h = table-typed (c .before .before .before .before .before .args .t1) _ (c .before .before .before .before .before .good .0) in sym (c .before .before .before .before .loop .inv .1 ∙ find-here isFree (c .before .before .before .before .before .args .t1 .entries) (c .before .before .before .before .loop .i) _ (omega (arith, h)) (sym (c .before .is-free .ensures) ∙ c .if1 .taken))
 
@@ -52,7 +49,7 @@ free-spec =
     loop-holds
     mul-entry
     element-copy-out-entry
-    is-free-requires
+    (λ c κs. search needs)
     returns
     add-i
     loop-less

@@ -7,24 +7,9 @@ use Rattle.pack.proofs.head.put_dest.Tie as tie
 enum-told : tie.Need-enum-told
 enum-told c = search needs
 
-put-span-requires : tie.Need-put-span-requires
-put-span-requires c κs = search needs
-
-enum-known-dest : tie.Need-enum-known-dest
-enum-known-dest c = search needs
-
-put-span-requires-2 : tie.Need-put-span-requires-2
-put-span-requires-2 c κs = search needs
-
-same-length : tie.Need-same-length
-same-length c = search needs
-
 returns : tie.Need-returns
 unfolding destSpan
 returns c = rw (c .before .before .before .before .enum-told .given .1) (c .before .before .put-span .ensures)
-
-same-length-2 : tie.Need-same-length-2
-same-length-2 c = search needs
 
 returns-2 : tie.Need-returns-2
 unfolding destSpan
@@ -35,10 +20,10 @@ put-dest-spec =
     tie.close
     (tie.spec
     enum-told
-    put-span-requires
-    enum-known-dest
-    put-span-requires-2
-    same-length
+    (λ c κs. search needs)
+    (λ c. search needs)
+    (λ c κs. search needs)
+    (λ c. search needs)
     returns
-    same-length-2
+    (λ c. search needs)
     returns-2)

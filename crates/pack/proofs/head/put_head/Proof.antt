@@ -8,12 +8,6 @@ use Rattle.pack.proofs.Rooms.{put-room, octets-cut}
 use Rattle.pack.proofs.head.put_head.Statement.{statement}
 use Rattle.pack.proofs.head.put_head.Tie as tie
 
-put-choices-requires : tie.Need-put-choices-requires
-put-choices-requires c κs = search needs
-
-cast-put-number : tie.Need-cast-put-number
-cast-put-number c = search needs
-
 put-number-requires : tie.Need-put-number-requires
 put-number-requires c κs = omega (arith, put-room (c .before .before .before .put-choices .ensures) 40 (c .before .before .before .before .before .before .pre))
 
@@ -29,9 +23,6 @@ put-dialogue-requires : tie.Need-put-dialogue-requires
 unfolding spanOctets octetsIn
 put-dialogue-requires c κs = put-room (c .before .before .before .put-dest .ensures) 20 (put-room (c .before .before .before .before .before .before .before .put-orig .ensures) 28 (put-room (c .before .before .before .before .before .before .before .before .before .before .before .put-number .ensures) 36 (put-room (c .before .before .before .before .before .before .before .before .before .before .before .before .before .before .before .put-choices .ensures) 40 (c .before .before .before .before .before .before .before .before .before .before .before .before .before .before .before .before .before .before .pre))))
 
-same-length : tie.Need-same-length
-same-length c = search needs
-
 returns : tie.Need-returns
 unfolding headOctets
 returns c = put-then (put-then (put-then (put-then (c .before .before .before .before .before .before .before .before .before .before .before .before .before .before .before .before .before .before .put-choices .ensures) (rw octets-cut at (c .before .before .before .before .before .before .before .before .before .before .before .before .before .before .put-number .ensures))) (c .before .before .before .before .before .before .before .before .before .before .put-orig .ensures)) (c .before .before .before .before .before .before .put-dest .ensures)) (c .before .before .put-dialogue .ensures)
@@ -40,11 +31,11 @@ pub put-head-spec : {M : Type 1} → statement M
 put-head-spec =
     tie.close
     (tie.spec
-    put-choices-requires
-    cast-put-number
+    (λ c κs. search needs)
+    (λ c. search needs)
     put-number-requires
     put-orig-requires
     put-dest-requires
     put-dialogue-requires
-    same-length
+    (λ c. search needs)
     returns)

@@ -7,24 +7,9 @@ use Rattle.pack.proofs.head.put_pdu.Tie as tie
 enum-told : tie.Need-enum-told
 enum-told c = search needs
 
-put-portion-requires : tie.Need-put-portion-requires
-put-portion-requires c κs = search needs
-
-enum-known-info : tie.Need-enum-known-info
-enum-known-info c = search needs
-
-put-portion-requires-2 : tie.Need-put-portion-requires-2
-put-portion-requires-2 c κs = search needs
-
-same-length : tie.Need-same-length
-same-length c = search needs
-
 returns : tie.Need-returns
 unfolding optionalFlag optionalSpan
 returns c = rw (c .before .before .before .before .enum-told .given .1) (c .before .before .put-portion .ensures)
-
-same-length-2 : tie.Need-same-length-2
-same-length-2 c = search needs
 
 returns-2 : tie.Need-returns-2
 unfolding optionalFlag optionalSpan
@@ -35,10 +20,10 @@ put-pdu-spec =
     tie.close
     (tie.spec
     enum-told
-    put-portion-requires
-    enum-known-info
-    put-portion-requires-2
-    same-length
+    (λ c κs. search needs)
+    (λ c. search needs)
+    (λ c κs. search needs)
+    (λ c. search needs)
     returns
-    same-length-2
+    (λ c. search needs)
     returns-2)

@@ -4,24 +4,6 @@ use Rattle.base.specs.Number.{octetsIn}
 use Rattle.pack.proofs.number.put_number.Statement.{statement}
 use Rattle.pack.proofs.number.put_number.Tie as tie
 
-cast-put-four : tie.Need-cast-put-four
-cast-put-four c = search needs
-
-cast-put-four-2 : tie.Need-cast-put-four-2
-cast-put-four-2 c = search needs
-
-cast-put-four-3 : tie.Need-cast-put-four-3
-cast-put-four-3 c = search needs
-
-cast-put-four-4 : tie.Need-cast-put-four-4
-cast-put-four-4 c = search needs
-
-put-four-requires : tie.Need-put-four-requires
-put-four-requires c κs = search needs
-
-same-length : tie.Need-same-length
-same-length c = search needs
-
 returns : tie.Need-returns
 unfolding octetsIn
 returns c = c .before .before .put-four .ensures
@@ -30,10 +12,10 @@ pub put-number-spec : {M : Type 1} → statement M
 put-number-spec =
     tie.close
     (tie.spec
-    cast-put-four
-    cast-put-four-2
-    cast-put-four-3
-    cast-put-four-4
-    put-four-requires
-    same-length
+    (λ c. search needs)
+    (λ c. search needs)
+    (λ c. search needs)
+    (λ c. search needs)
+    (λ c κs. search needs)
+    (λ c. search needs)
     returns)

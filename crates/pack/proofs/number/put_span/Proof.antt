@@ -7,19 +7,13 @@ use Rattle.pack.proofs.Rooms.{put-room}
 use Rattle.pack.proofs.number.put_span.Statement.{statement}
 use Rattle.pack.proofs.number.put_span.Tie as tie
 
-put-number-requires : tie.Need-put-number-requires
-put-number-requires c κs = search needs
-
 put-number-requires-2 : tie.Need-put-number-requires-2
 unfolding octetsIn
 put-number-requires-2 c κs = put-room (c .before .before .before .put-number .ensures) 4 (c .before .before .before .before .before .before .pre)
-
-same-length : tie.Need-same-length
-same-length c = search needs
 
 returns : tie.Need-returns
 unfolding spanOctets
 returns c = put-then (c .before .before .before .before .before .before .put-number .ensures) (c .before .before .put-number2 .ensures)
 
 pub put-span-spec : {M : Type 1} → statement M
-put-span-spec = tie.close (tie.spec put-number-requires put-number-requires-2 same-length returns)
+put-span-spec = tie.close (tie.spec (λ c κs. search needs) put-number-requires-2 (λ c. search needs) returns)

@@ -8,30 +8,12 @@ use Rattle.layout.specs.Layout.{codeTag, codeSpan, codedOctets}
 use Rattle.pack.proofs.row.put_coded.Statement.{statement}
 use Rattle.pack.proofs.row.put_coded.Tie as tie
 
-enum-known-code : tie.Need-enum-known-code
-enum-known-code c = search needs
-
 bits-requires : tie.Need-bits-requires
 bits-requires c κs = rw (toZ-ofZ {w = w32} (record { sfits = c .known-told .given .0 .1 })) (omega (arith, c .known-told .given .0 .1))
-
-put-parameter-requires : tie.Need-put-parameter-requires
-put-parameter-requires c κs = search needs
-
-enum-known-code-2 : tie.Need-enum-known-code-2
-enum-known-code-2 c = search needs
-
-put-parameter-requires-2 : tie.Need-put-parameter-requires-2
-put-parameter-requires-2 c κs = search needs
-
-same-length : tie.Need-same-length
-same-length c = search needs
 
 returns : tie.Need-returns
 unfolding codeTag codeSpan codedOctets topOf
 returns c = rw (c .before .before .before .before .before .before .code .given .1, ← (rw (toZ-ofZ {w = w32} (record { sfits = c .before .before .before .before .before .known-told .given .0 .1 })) at (c .before .before .before .before .bits .ensures))) (c .before .before .put-parameter .ensures)
-
-same-length-2 : tie.Need-same-length-2
-same-length-2 c = search needs
 
 returns-2 : tie.Need-returns-2
 unfolding codeTag codeSpan codedOctets
@@ -41,12 +23,12 @@ pub put-coded-spec : {M : Type 1} → statement M
 put-coded-spec =
     tie.close
     (tie.spec
-    enum-known-code
+    (λ c. search needs)
     bits-requires
-    put-parameter-requires
-    enum-known-code-2
-    put-parameter-requires-2
-    same-length
+    (λ c κs. search needs)
+    (λ c. search needs)
+    (λ c κs. search needs)
+    (λ c. search needs)
     returns
-    same-length-2
+    (λ c. search needs)
     returns-2)

@@ -9,27 +9,9 @@ use Rattle.pack.proofs.row.put_linked.Tie as tie
 enum-told : tie.Need-enum-told
 enum-told c = search needs
 
-put-five-requires : tie.Need-put-five-requires
-put-five-requires c κs = search needs
-
-enum-known-linked : tie.Need-enum-known-linked
-enum-known-linked c = search needs
-
-octet-of-requires : tie.Need-octet-of-requires
-octet-of-requires c κs = search needs
-
-put-five-requires-2 : tie.Need-put-five-requires-2
-put-five-requires-2 c κs = search needs
-
-same-length : tie.Need-same-length
-same-length c = search needs
-
 returns : tie.Need-returns
 unfolding linkedFlag linkedOctet
 returns c = rw (c .before .before .before .before .enum-told .given .1) (c .before .before .put-five .ensures)
-
-same-length-2 : tie.Need-same-length-2
-same-length-2 c = search needs
 
 returns-2 : tie.Need-returns-2
 unfolding linkedFlag linkedOctet
@@ -40,11 +22,11 @@ put-linked-spec =
     tie.close
     (tie.spec
     enum-told
-    put-five-requires
-    enum-known-linked
-    octet-of-requires
-    put-five-requires-2
-    same-length
+    (λ c κs. search needs)
+    (λ c. search needs)
+    (λ c κs. search needs)
+    (λ c κs. search needs)
+    (λ c. search needs)
     returns
-    same-length-2
+    (λ c. search needs)
     returns-2)

@@ -6,18 +6,12 @@ use Rattle.pack.proofs.Rooms.{put-room}
 use Rattle.pack.proofs.row.put_reject.Statement.{statement}
 use Rattle.pack.proofs.row.put_reject.Tie as tie
 
-put-ids-requires : tie.Need-put-ids-requires
-put-ids-requires c κs = search needs
-
 put-problem-requires : tie.Need-put-problem-requires
 unfolding idsOctets
 put-problem-requires c κs = put-room (c .before .before .before .put-ids .ensures) 19 (c .before .before .before .before .before .before .pre)
-
-same-length : tie.Need-same-length
-same-length c = search needs
 
 returns : tie.Need-returns
 returns c = put-then (c .before .before .before .before .before .before .put-ids .ensures) (c .before .before .put-problem .ensures)
 
 pub put-reject-spec : {M : Type 1} → statement M
-put-reject-spec = tie.close (tie.spec put-ids-requires put-problem-requires same-length returns)
+put-reject-spec = tie.close (tie.spec (λ c κs. search needs) put-problem-requires (λ c. search needs) returns)

@@ -6,18 +6,12 @@ use Rattle.pack.proofs.Rooms.{put-room}
 use Rattle.pack.proofs.row.put_result.Statement.{statement}
 use Rattle.pack.proofs.row.put_result.Tie as tie
 
-put-ids-requires : tie.Need-put-ids-requires
-put-ids-requires c κs = search needs
-
 put-returned-requires : tie.Need-put-returned-requires
 unfolding idsOctets
 put-returned-requires c κs = put-room (c .before .before .before .put-ids .ensures) 19 (c .before .before .before .before .before .before .pre)
-
-same-length : tie.Need-same-length
-same-length c = search needs
 
 returns : tie.Need-returns
 returns c = put-then (c .before .before .before .before .before .before .put-ids .ensures) (c .before .before .put-returned .ensures)
 
 pub put-result-spec : {M : Type 1} → statement M
-put-result-spec = tie.close (tie.spec put-ids-requires put-returned-requires same-length returns)
+put-result-spec = tie.close (tie.spec (λ c κs. search needs) put-returned-requires (λ c. search needs) returns)

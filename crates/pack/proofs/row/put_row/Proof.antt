@@ -5,15 +5,9 @@ use Rattle.layout.proofs.Typed.{row-typed}
 use Rattle.pack.proofs.row.put_row.Statement.{statement}
 use Rattle.pack.proofs.row.put_row.Tie as tie
 
-put-kind-requires : tie.Need-put-kind-requires
-put-kind-requires c κs = search needs
-
-same-length : tie.Need-same-length
-same-length c = search needs
-
 returns : tie.Need-returns
 unfolding rowOctets
 returns c = (c .before .before .put-kind .ensures, row-typed (c .before .before .before .before .before .args .row) _ (c .before .before .before .before .before .good .1 .1 .0))
 
 pub put-row-spec : {M : Type 1} → statement M
-put-row-spec = tie.close (tie.spec put-kind-requires same-length returns)
+put-row-spec = tie.close (tie.spec (λ c κs. search needs) (λ c. search needs) returns)

@@ -6,18 +6,12 @@ use Rattle.pack.proofs.Rooms.{put-room}
 use Rattle.pack.proofs.row.put_with_code.Statement.{statement}
 use Rattle.pack.proofs.row.put_with_code.Tie as tie
 
-put-ids-requires : tie.Need-put-ids-requires
-put-ids-requires c κs = search needs
-
 put-coded-requires : tie.Need-put-coded-requires
 unfolding idsOctets
 put-coded-requires c κs = put-room (c .before .before .before .put-ids .ensures) 19 (c .before .before .before .before .before .before .pre)
-
-same-length : tie.Need-same-length
-same-length c = search needs
 
 returns : tie.Need-returns
 returns c = put-then (c .before .before .before .before .before .before .put-ids .ensures) (c .before .before .put-coded .ensures)
 
 pub put-with-code-spec : {M : Type 1} → statement M
-put-with-code-spec = tie.close (tie.spec put-ids-requires put-coded-requires same-length returns)
+put-with-code-spec = tie.close (tie.spec (λ c κs. search needs) put-coded-requires (λ c. search needs) returns)

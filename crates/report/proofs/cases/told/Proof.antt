@@ -7,21 +7,6 @@ use Rattle.report.proofs.cases.told.Tie as tie
 enum-told : tie.Need-enum-told
 enum-told c = search needs
 
-counted-requires : tie.Need-counted-requires
-counted-requires c κs = search needs
-
-enum-told-2 : tie.Need-enum-told-2
-enum-told-2 c = search needs
-
-name-case-requires : tie.Need-name-case-requires
-name-case-requires c κs = search needs
-
-counted-requires-2 : tie.Need-counted-requires-2
-counted-requires-2 c κs = search needs
-
-enum-told-3 : tie.Need-enum-told-3
-enum-told-3 c = search needs
-
 returns : tie.Need-returns
 unfolding talliedBy
 returns c = rw (c .before .enum-told .given .1) (c .counted .ensures)
@@ -39,11 +24,11 @@ told-spec =
     tie.close
     (tie.spec
     enum-told
-    counted-requires
-    enum-told-2
-    name-case-requires
-    counted-requires-2
-    enum-told-3
+    (λ c κs. search needs)
+    (λ c. search needs)
+    (λ c κs. search needs)
+    (λ c κs. search needs)
+    (λ c. search needs)
     returns
     returns-2
     returns-3)

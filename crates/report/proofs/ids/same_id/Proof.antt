@@ -9,14 +9,8 @@ use Rattle.report.proofs.ids.same_id.Tie as tie
 enum-told : tie.Need-enum-told
 enum-told c = search needs
 
-enum-known-id : tie.Need-enum-known-id
-enum-known-id c = search needs
-
 returns : tie.Need-returns
 returns c = id-missing _ _ (c .before .before .id .given .1) (c .if1 .taken)
-
-signed-octet-requires : tie.Need-signed-octet-requires
-signed-octet-requires c κs = search needs
 
 returns-2 : tie.Need-returns-2
 returns-2 c = id-null _ _ (c .enum-told .given .1)
@@ -26,4 +20,4 @@ returns-3 c = id-given _ _ (c .before .before .before .id .given .1) (c .before 
 
 pub same-id-spec : {M : Type 1} → statement M
 same-id-spec =
-    tie.close (tie.spec enum-told enum-known-id returns signed-octet-requires returns-2 returns-3)
+    tie.close (tie.spec enum-told (λ c. search needs) returns (λ c κs. search needs) returns-2 returns-3)

@@ -7,14 +7,8 @@ use Rattle.report.proofs.ids.same_orig.Tie as tie
 enum-told : tie.Need-enum-told
 enum-told c = search needs
 
-enum-known-orig : tie.Need-enum-known-orig
-enum-known-orig c = search needs
-
 returns : tie.Need-returns
 returns c = orig-missing _ _ (c .before .before .orig .given .1) (c .if1 .taken)
-
-same-string-requires : tie.Need-same-string-requires
-same-string-requires c κs = search needs
 
 returns-2 : tie.Need-returns-2
 returns-2 c = no-orig _ _ (c .enum-told .given .1)
@@ -24,4 +18,4 @@ returns-3 c = orig-of _ _ (c .before .before .before .before .before .orig .give
 
 pub same-orig-spec : {M : Type 1} → statement M
 same-orig-spec =
-    tie.close (tie.spec enum-told enum-known-orig returns same-string-requires returns-2 returns-3)
+    tie.close (tie.spec enum-told (λ c. search needs) returns (λ c κs. search needs) returns-2 returns-3)

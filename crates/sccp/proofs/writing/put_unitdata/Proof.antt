@@ -7,15 +7,6 @@ use borrow.Author.Needs.{needs}
 use Rattle.sccp.proofs.writing.put_unitdata.Statement.{statement}
 use Rattle.sccp.proofs.writing.put_unitdata.Tie as tie
 
-put-two-requires : tie.Need-put-two-requires
-put-two-requires c κs = search needs
-
-add-both : tie.Need-add-both
-add-both c = search needs
-
-add-put-three : tie.Need-add-put-three
-add-put-three c = search needs
-
 cast-put-three : tie.Need-cast-put-three
 cast-put-three c = let r = (ranged _ _ _ (c .before .before .before .before .before .before .before .before .before .pre)) in omega arith
 
@@ -24,9 +15,6 @@ add-put-three-2 c = let r = (ranged _ _ _ (c .before .before .before .before .be
 
 cast-put-three-2 : tie.Need-cast-put-three-2
 cast-put-three-2 c = let r = (ranged _ _ _ (c .before .before .before .before .before .before .before .before .before .pre)) in omega arith
-
-put-three-requires : tie.Need-put-three-requires
-put-three-requires c κs = search needs
 
 put-counted-requires : tie.Need-put-counted-requires
 put-counted-requires c κs = let r = (ranged _ _ _ (c .before .before .before .before .before .before .before .before .before .before .before .before .before .pre)) in omega arith
@@ -37,9 +25,6 @@ put-counted-requires-2 c κs = let r = (ranged _ _ _ (c .before .before .before 
 put-counted-requires-3 : tie.Need-put-counted-requires-3
 put-counted-requires-3 c κs = let r = (ranged _ _ _ (c .before .before .before .before .before .before .before .before .before .before .before .before .before .before .before .before .before .before .before .before .before .pre)) in omega arith
 
-same-length : tie.Need-same-length
-same-length c = search needs
-
 returns : tie.Need-returns
 unfolding unitdataOctets
 returns c = put-then (c .before .before .before .before .before .before .before .before .before .before .before .before .before .before .before .before .before .before .put-two .ensures) (put-then (c .before .before .before .before .before .before .before .before .before .before .before .before .before .before .put-three .ensures) (put-then (c .before .before .before .before .before .before .before .before .before .before .put-counted .ensures) (put-then (c .before .before .before .before .before .before .put-counted2 .ensures) (c .before .before .put-counted3 .ensures))))
@@ -48,15 +33,15 @@ pub put-unitdata-spec : {M : Type 1} → statement M
 put-unitdata-spec =
     tie.close
     (tie.spec
-    put-two-requires
-    add-both
-    add-put-three
+    (λ c κs. search needs)
+    (λ c. search needs)
+    (λ c. search needs)
     cast-put-three
     add-put-three-2
     cast-put-three-2
-    put-three-requires
+    (λ c κs. search needs)
     put-counted-requires
     put-counted-requires-2
     put-counted-requires-3
-    same-length
+    (λ c. search needs)
     returns)

@@ -7,9 +7,6 @@ use Rattle.sccp.proofs.writing.unitdata_write_number.Tie as tie
 enum-told : tie.Need-enum-told
 enum-told c = search needs
 
-enum-told-2 : tie.Need-enum-told-2
-enum-told-2 c = search needs
-
 returns : tie.Need-returns
 unfolding unitdataWriteNumber
 returns c = rw (c .enum-told .given .1)
@@ -19,4 +16,4 @@ unfolding unitdataWriteNumber
 returns-2 c = rw (c .enum-told2 .given .1)
 
 pub unitdata-write-number-spec : {M : Type 1} → statement M
-unitdata-write-number-spec = tie.close (tie.spec enum-told enum-told-2 returns returns-2)
+unitdata-write-number-spec = tie.close (tie.spec enum-told (λ c. search needs) returns returns-2)

@@ -7,9 +7,6 @@ use borrow.Author.Needs.{needs}
 use Rattle.sccp.proofs.writing.write_unitdata.Statement.{statement}
 use Rattle.sccp.proofs.writing.write_unitdata.Tie as tie
 
-is-in-range-requires : tie.Need-is-in-range-requires
-is-in-range-requires c κs = search needs
-
 returns : tie.Need-returns
 returns c = out-of-range _ _ _ _ _ (sym (c .before .is-in-range .ensures) ∙ not-true (c .before .is-in-range .result) (c .if1 .taken))
 
@@ -28,9 +25,6 @@ returns-2 c = no-room _ _ _ _ _ (sym (c .before .before .is-in-range .ensures) �
 put-unitdata-requires : tie.Need-put-unitdata-requires
 put-unitdata-requires c κs = sym (c .before .before .before .is-in-range .ensures) ∙ not-false (c .before .before .before .is-in-range .result) (c .before .before .if1 .left)
 
-same-length : tie.Need-same-length
-same-length c = search needs
-
 returns-3 : tie.Need-returns-3
 returns-3 c = has-room _ _ _ _ _ (sym (c .before .before .before .before .before .before .is-in-range .ensures) ∙ not-false (c .before .before .before .before .before .before .is-in-range .result) (c .before .before .before .before .before .if1 .left)) (omega arith) (c .before .before .put-unitdata .ensures)
 
@@ -38,12 +32,12 @@ pub write-unitdata-spec : {M : Type 1} → statement M
 write-unitdata-spec =
     tie.close
     (tie.spec
-    is-in-range-requires
+    (λ c κs. search needs)
     returns
     add-size
     add-size-2
     add-size-3
     returns-2
     put-unitdata-requires
-    same-length
+    (λ c. search needs)
     returns-3)

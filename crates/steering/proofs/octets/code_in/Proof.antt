@@ -12,12 +12,9 @@ returns : tie.Need-returns
 unfolding codeIn
 returns c = search tests
 
-signed-in-requires : tie.Need-signed-in-requires
-signed-in-requires c κs = search needs
-
 returns-2 : tie.Need-returns-2
 unfolding codeIn
 returns-2 c = rw (toZ-ofZ {w = w32} (record { sfits = c .signed-in .ok }), ne-eqb _ _ (c .before .if1 .left), c .signed-in .ensures)
 
 pub code-in-spec : {M : Type 1} → statement M
-code-in-spec = tie.close (tie.spec returns signed-in-requires returns-2)
+code-in-spec = tie.close (tie.spec returns (λ c κs. search needs) returns-2)

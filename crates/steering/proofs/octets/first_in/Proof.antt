@@ -26,9 +26,6 @@ after-requires c κs = omega arith
 rule-of-requires : tie.Need-rule-of-requires Inv-loop μ-loop
 rule-of-requires c κs = rule-long (c .before .before .before .before .args .octets .now) (c .before .before .loop .left) (c .before .before .loop .at) (omega arith) (c .before .before .loop .inv .0) (c .after .ensures)
 
-rule-fits-requires : tie.Need-rule-fits-requires Inv-loop μ-loop
-rule-fits-requires c κs = search needs
-
 returns : tie.Need-returns Inv-loop μ-loop
 returns c = sym (c .before .before .before .before .before .loop .inv .1 ∙ fit-here _ _ (rules-first (c .before .before .before .before .before .before .before .args .octets .now) (c .before .before .before .before .before .loop .left) (c .before .before .before .before .before .loop .at) (omega arith) (c .before .before .before .after .ensures) (c .before .before .rule-of .ensures)) (sym (c .before .rule-fits .ensures) ∙ c .if1 .taken))
 
@@ -56,7 +53,7 @@ first-in-spec =
     loop-holds
     after-requires
     rule-of-requires
-    rule-fits-requires
+    (λ c κs. search needs)
     returns
     sub-left
     add-at

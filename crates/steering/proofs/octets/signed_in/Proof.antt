@@ -7,15 +7,9 @@ use borrow.Author.Needs.{needs}
 use Rattle.steering.proofs.octets.signed_in.Statement.{statement}
 use Rattle.steering.proofs.octets.signed_in.Tie as tie
 
-number-in-requires : tie.Need-number-in-requires
-number-in-requires c κs = search needs
-
-signed-requires : tie.Need-signed-requires
-signed-requires c κs = search needs
-
 returns : tie.Need-returns
 unfolding signedOf topOf
 returns c = rw (toZ-ofZ {w = w32} (record { sfits = c .signed .ok }), c .signed .ensures, c .before .number-in .ensures, c .before .before .before .pre)
 
 pub signed-in-spec : {M : Type 1} → statement M
-signed-in-spec = tie.close (tie.spec number-in-requires signed-requires returns)
+signed-in-spec = tie.close (tie.spec (λ c κs. search needs) (λ c κs. search needs) returns)

@@ -5,19 +5,13 @@ use Rattle.layout.specs.Layout.{destIn}
 use Rattle.unpack.proofs.head.dest_in.Statement.{statement}
 use Rattle.unpack.proofs.head.dest_in.Tie as tie
 
-shared-slice-read-if1 : tie.Need-shared-slice-read-if1
-shared-slice-read-if1 c = search needs
-
 returns : tie.Need-returns
 unfolding destIn
 returns c = rw (eq-eqb _ _ (c .if1 .taken))
-
-span-at-requires : tie.Need-span-at-requires
-span-at-requires c κs = search needs
 
 returns-2 : tie.Need-returns-2
 unfolding destIn
 returns-2 c = rw (ne-eqb _ _ (c .before .if1 .left), ← (c .span-at .ensures))
 
 pub dest-in-spec : {M : Type 1} → statement M
-dest-in-spec = tie.close (tie.spec shared-slice-read-if1 returns span-at-requires returns-2)
+dest-in-spec = tie.close (tie.spec (λ c. search needs) returns (λ c κs. search needs) returns-2)

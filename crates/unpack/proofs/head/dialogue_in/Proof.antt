@@ -9,22 +9,13 @@ returns : tie.Need-returns
 unfolding dialogueIn
 returns c = rw (eq-eqb _ _ (c .if1 .taken))
 
-shared-slice-read-t5 : tie.Need-shared-slice-read-t5
-shared-slice-read-t5 c = search needs
-
 returns-2 : tie.Need-returns-2
 unfolding dialogueIn
 returns-2 c = rw (ne-eqb _ _ (c .before .before .if1 .left), eq-eqb _ _ (c .before .if2 .taken))
 
-pdu-in-requires : tie.Need-pdu-in-requires
-pdu-in-requires c κs = search needs
-
 returns-3 : tie.Need-returns-3
 unfolding dialogueIn
 returns-3 c = rw (ne-eqb _ _ (c .before .before .before .if1 .left), ne-eqb _ _ (c .before .before .if2 .left), le-leb _ _ (c .before .if3 .taken)) (c .pdu-in .ensures)
-
-outside-in-requires : tie.Need-outside-in-requires
-outside-in-requires c κs = search needs
 
 returns-4 : tie.Need-returns-4
 unfolding dialogueIn
@@ -35,9 +26,9 @@ dialogue-in-spec =
     tie.close
     (tie.spec
     returns
-    shared-slice-read-t5
+    (λ c. search needs)
     returns-2
-    pdu-in-requires
+    (λ c κs. search needs)
     returns-3
-    outside-in-requires
+    (λ c κs. search needs)
     returns-4)

@@ -6,35 +6,17 @@ use Rattle.layout.specs.Layout.{isHead}
 use Rattle.unpack.proofs.head.is_head.Statement.{statement}
 use Rattle.unpack.proofs.head.is_head.Tie as tie
 
-shared-slice-read-is-message-tag : tie.Need-shared-slice-read-is-message-tag
-shared-slice-read-is-message-tag c = search needs
-
-is-message-tag-requires : tie.Need-is-message-tag-requires
-is-message-tag-requires c κs = search needs
-
 returns : tie.Need-returns
 unfolding isHead
 returns c = rw (sym (c .before .is-message-tag .ensures) ∙ not-true _ (c .if1 .taken))
-
-shared-slice-read-if2 : tie.Need-shared-slice-read-if2
-shared-slice-read-if2 c = search needs
 
 returns-2 : tie.Need-returns-2
 unfolding isHead
 returns-2 c = rw (sym (c .before .before .before .is-message-tag .ensures) ∙ not-false _ (c .before .before .if1 .left), lt-leb _ _ (c .if2 .taken))
 
-shared-slice-read-if3 : tie.Need-shared-slice-read-if3
-shared-slice-read-if3 c = search needs
-
 returns-3 : tie.Need-returns-3
 unfolding isHead
 returns-3 c = rw (sym (c .before .before .before .before .before .is-message-tag .ensures) ∙ not-false _ (c .before .before .before .before .if1 .left), le-leb _ _ (c .before .before .if2 .left), lt-leb _ _ (c .if3 .taken))
-
-shared-slice-read-is-dialogue : tie.Need-shared-slice-read-is-dialogue
-shared-slice-read-is-dialogue c = search needs
-
-is-dialogue-requires : tie.Need-is-dialogue-requires
-is-dialogue-requires c κs = search needs
 
 returns-4 : tie.Need-returns-4
 unfolding isHead
@@ -44,13 +26,13 @@ pub is-head-spec : {M : Type 1} → statement M
 is-head-spec =
     tie.close
     (tie.spec
-    shared-slice-read-is-message-tag
-    is-message-tag-requires
+    (λ c. search needs)
+    (λ c κs. search needs)
     returns
-    shared-slice-read-if2
+    (λ c. search needs)
     returns-2
-    shared-slice-read-if3
+    (λ c. search needs)
     returns-3
-    shared-slice-read-is-dialogue
-    is-dialogue-requires
+    (λ c. search needs)
+    (λ c κs. search needs)
     returns-4)

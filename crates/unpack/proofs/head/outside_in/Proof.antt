@@ -5,12 +5,6 @@ use Rattle.layout.specs.Layout.{outsideIn}
 use Rattle.unpack.proofs.head.outside_in.Statement.{statement}
 use Rattle.unpack.proofs.head.outside_in.Tie as tie
 
-span-at-requires : tie.Need-span-at-requires
-span-at-requires c κs = search needs
-
-span-at-requires-2 : tie.Need-span-at-requires-2
-span-at-requires-2 c κs = search needs
-
 returns : tie.Need-returns
 unfolding outsideIn
 returns c = rw (eq-eqb _ _ (c .if1 .taken), c .before .before .span-at .ensures, c .before .span-at2 .ensures)
@@ -20,4 +14,4 @@ unfolding outsideIn
 returns-2 c = rw (ne-eqb _ _ (c .if1 .left), c .before .before .span-at .ensures, c .before .span-at2 .ensures)
 
 pub outside-in-spec : {M : Type 1} → statement M
-outside-in-spec = tie.close (tie.spec span-at-requires span-at-requires-2 returns returns-2)
+outside-in-spec = tie.close (tie.spec (λ c κs. search needs) (λ c κs. search needs) returns returns-2)

@@ -9,12 +9,9 @@ returns : tie.Need-returns
 unfolding optionalIn
 returns c = rw (eq-eqb _ _ (c .if1 .taken))
 
-span-at-requires : tie.Need-span-at-requires
-span-at-requires c κs = search needs
-
 returns-2 : tie.Need-returns-2
 unfolding optionalIn
 returns-2 c = rw (ne-eqb _ _ (c .before .if1 .left), ← (c .span-at .ensures))
 
 pub optional-at-spec : {M : Type 1} → statement M
-optional-at-spec = tie.close (tie.spec returns span-at-requires returns-2)
+optional-at-spec = tie.close (tie.spec returns (λ c κs. search needs) returns-2)

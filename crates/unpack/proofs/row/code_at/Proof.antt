@@ -8,21 +8,9 @@ use Rattle.layout.specs.Layout.{spanAt, codeIn}
 use Rattle.unpack.proofs.row.code_at.Statement.{statement}
 use Rattle.unpack.proofs.row.code_at.Tie as tie
 
-shared-slice-read-if1 : tie.Need-shared-slice-read-if1
-shared-slice-read-if1 c = search needs
-
-number-at-requires : tie.Need-number-at-requires
-number-at-requires c κs = search needs
-
-signed-requires : tie.Need-signed-requires
-signed-requires c κs = search needs
-
 returns : tie.Need-returns
 unfolding codeIn spanAt topOf
 returns c = rw (eq-eqb _ _ (c .before .before .if1 .taken), toZ-ofZ {w = w32} (record { sfits = c .signed .ok }), c .signed .ensures, c .before .number-at .ensures)
-
-span-at-requires : tie.Need-span-at-requires
-span-at-requires c κs = search needs
 
 returns-2 : tie.Need-returns-2
 unfolding codeIn
@@ -32,9 +20,9 @@ pub code-at-spec : {M : Type 1} → statement M
 code-at-spec =
     tie.close
     (tie.spec
-    shared-slice-read-if1
-    number-at-requires
-    signed-requires
+    (λ c. search needs)
+    (λ c κs. search needs)
+    (λ c κs. search needs)
     returns
-    span-at-requires
+    (λ c κs. search needs)
     returns-2)

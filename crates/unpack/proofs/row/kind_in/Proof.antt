@@ -5,42 +5,21 @@ use Rattle.layout.specs.Layout.{kindIn}
 use Rattle.unpack.proofs.row.kind_in.Statement.{statement}
 use Rattle.unpack.proofs.row.kind_in.Tie as tie
 
-invoke-in-requires : tie.Need-invoke-in-requires
-invoke-in-requires c κs = search needs
-
 returns : tie.Need-returns
 unfolding kindIn
 returns c = rw (eq-eqb _ _ (c .before .if1 .taken)) (c .invoke-in .ensures)
-
-returned-in-requires : tie.Need-returned-in-requires
-returned-in-requires c κs = search needs
 
 returns-2 : tie.Need-returns-2
 unfolding kindIn
 returns-2 c = rw (ne-eqb _ _ (c .before .before .if1 .left), eq-eqb _ _ (c .before .if2 .taken), c .returned-in .ensures)
 
-error-in-requires : tie.Need-error-in-requires
-error-in-requires c κs = search needs
-
 returns-3 : tie.Need-returns-3
 unfolding kindIn
 returns-3 c = rw (ne-eqb _ _ (c .before .before .before .if1 .left), ne-eqb _ _ (c .before .before .if2 .left), eq-eqb _ _ (c .before .if3 .taken)) (c .error-in .ensures)
 
-shared-slice-read-problem-in : tie.Need-shared-slice-read-problem-in
-shared-slice-read-problem-in c = search needs
-
-shared-slice-read-problem-in-2 : tie.Need-shared-slice-read-problem-in-2
-shared-slice-read-problem-in-2 c = search needs
-
-problem-in-requires : tie.Need-problem-in-requires
-problem-in-requires c κs = search needs
-
 returns-4 : tie.Need-returns-4
 unfolding kindIn
 returns-4 c = rw (ne-eqb _ _ (c .before .before .before .before .before .before .if1 .left), ne-eqb _ _ (c .before .before .before .before .before .if2 .left), ne-eqb _ _ (c .before .before .before .before .if3 .left), eq-eqb _ _ (c .before .before .before .if4 .taken), c .problem-in .ensures)
-
-returned-in-requires-2 : tie.Need-returned-in-requires-2
-returned-in-requires-2 c κs = search needs
 
 returns-5 : tie.Need-returns-5
 unfolding kindIn
@@ -50,15 +29,15 @@ pub kind-in-spec : {M : Type 1} → statement M
 kind-in-spec =
     tie.close
     (tie.spec
-    invoke-in-requires
+    (λ c κs. search needs)
     returns
-    returned-in-requires
+    (λ c κs. search needs)
     returns-2
-    error-in-requires
+    (λ c κs. search needs)
     returns-3
-    shared-slice-read-problem-in
-    shared-slice-read-problem-in-2
-    problem-in-requires
+    (λ c. search needs)
+    (λ c. search needs)
+    (λ c κs. search needs)
     returns-4
-    returned-in-requires-2
+    (λ c κs. search needs)
     returns-5)

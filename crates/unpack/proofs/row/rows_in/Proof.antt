@@ -16,9 +16,6 @@ Inv-loop octets count rows₀ i₀ rows i = (i ≤ count) × (rows ≡ rowsHeld 
 abbrev μ-loop : tie.MeasureT-loop
 μ-loop octets count rows₀ i₀ rows i = count - i
 
-blank-row-requires : tie.Need-blank-row-requires Inv-loop μ-loop
-blank-row-requires c κs = search needs
-
 loop-holds : tie.Need-loop-holds Inv-loop μ-loop
 unfolding rowsHeld rowsIn
 loop-holds c = (omega arith, rw (c .blank-row .ensures))
@@ -58,7 +55,7 @@ rows-in-spec =
     (tie.spec
     Inv-loop
     μ-loop
-    blank-row-requires
+    (λ c κs. search needs)
     loop-holds
     mul-after
     after-requires

@@ -18,17 +18,8 @@ back c = toZ-ofZ (c .fits .value)
 bits-requires : tie.Need-bits-requires
 bits-requires c κs = rw (back (c .before)) (omega (arith, c .before .fits .value .sfits))
 
-integer-size-requires : tie.Need-integer-size-requires
-integer-size-requires c κs = search needs
-
-cast-back-three : tie.Need-cast-back-three
-cast-back-three c = search needs
-
 back-three-requires : tie.Need-back-three-requires
 back-three-requires c κs = rw (integer-one _ _ (rw (back (c .before .before .before .before .before)) at (c .before .before .integer-size .ensures)) (c .before .before .before .before .before .fits .value .sfits) _ _ (rw (back (c .before .before .before .before .before)) at (c .before .before .before .bits .ensures)) (c .before .if1 .taken)) at (c .before .before .before .before .before .pre)
-
-same-length : tie.Need-same-length
-same-length c = search needs
 
 returns : tie.Need-returns
 returns c = rw (integer-one _ _ (rw (back (c .before .before .before .before .before .before .before .before)) at (c .before .before .before .before .before .integer-size .ensures)) (c .before .before .before .before .before .before .before .before .fits .value .sfits) _ _ (rw (back (c .before .before .before .before .before .before .before .before)) at (c .before .before .before .before .before .before .bits .ensures)) (c .before .before .before .before .if1 .taken)) (c .before .before .back-three .ensures)
@@ -44,9 +35,6 @@ cast-back-two c = record { fits = omega (arith, size-some _ _ (rw (back (c .befo
 back-two-requires : tie.Need-back-two-requires
 back-two-requires c κs = room-next (c .before .before .before .back-last .ensures) _ (rw (integer-parts _ _ (rw (back (c .before .before .before .before .before .before .before .before .before)) at (c .before .before .before .before .before .before .integer-size .ensures)) (c .before .before .before .before .before .before .before .before .before .fits .value .sfits) _ _ (rw (back (c .before .before .before .before .before .before .before .before .before)) at (c .before .before .before .before .before .before .before .bits .ensures))) at (c .before .before .before .before .before .before .before .before .before .pre))
 
-same-length-2 : tie.Need-same-length-2
-same-length-2 c = search needs
-
 returns-2 : tie.Need-returns-2
 returns-2 c = rw (integer-parts _ _ (rw (back (c .before .before .before .before .before .before .before .before .before .before .before .before)) at (c .before .before .before .before .before .before .before .before .before .integer-size .ensures)) (c .before .before .before .before .before .before .before .before .before .before .before .before .fits .value .sfits) _ _ (rw (back (c .before .before .before .before .before .before .before .before .before .before .before .before)) at (c .before .before .before .before .before .before .before .before .before .before .bits .ensures))) (back-then (c .before .before .before .before .before .before .back-last .ensures) (c .before .before .back-two .ensures))
 
@@ -55,13 +43,13 @@ back-integer-spec =
     tie.close
     (tie.spec
     bits-requires
-    integer-size-requires
-    cast-back-three
+    (λ c κs. search needs)
+    (λ c. search needs)
     back-three-requires
-    same-length
+    (λ c. search needs)
     returns
     back-last-requires
     cast-back-two
     back-two-requires
-    same-length-2
+    (λ c. search needs)
     returns-2)

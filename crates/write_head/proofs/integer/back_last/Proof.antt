@@ -10,31 +10,16 @@ use native.Mathlib.Omega.{arith}
 use Rattle.write_head.proofs.integer.back_last.Statement.{statement}
 use Rattle.write_head.proofs.integer.back_last.Tie as tie
 
-cast-low : tie.Need-cast-low
-cast-low c = search needs
-
-cast-second : tie.Need-cast-second
-cast-second c = search needs
-
 back-two-requires : tie.Need-back-two-requires
 unfolding octetsIn
 back-two-requires c κs = rw (c .before .if1 .taken) at (c .before .before .before .pre .1 .1)
-
-same-length : tie.Need-same-length
-same-length c = search needs
 
 returns : tie.Need-returns
 unfolding octetsIn
 returns c = rw (c .before .before .before .before .if1 .taken) (c .before .before .back-two .ensures)
 
-cast-third : tie.Need-cast-third
-cast-third c = search needs
-
 back-three-requires : tie.Need-back-three-requires
 back-three-requires c κs = rw (c .before .if2 .taken, three-octets) at (c .before .before .before .before .pre .1 .1)
-
-same-length-2 : tie.Need-same-length-2
-same-length-2 c = search needs
 
 returns-2 : tie.Need-returns-2
 returns-2 c = rw (c .before .before .before .before .if2 .taken, three-octets) (c .before .before .back-three .ensures)
@@ -44,16 +29,10 @@ back-two-requires-2 c κs =
     let e : c .before .before .before .before .args .count ≡ 4 = omega (arith, c .before .before .before .before .pre .0, c .before .before .before .before .pre .1 .0, c .before .before .if1 .left, c .before .if2 .left) in
     room-last (c .before .before .before .before .args .number / 16777216 ∷ c .before .before .before .before .args .number / 65536 % 256 ∷ []) (rw (e, four-octets _ (c .before .before .before .before .fits .number .fits)) at (c .before .before .before .before .pre .1 .1))
 
-cast-back-two : tie.Need-cast-back-two
-cast-back-two c = search needs
-
 back-two-requires-3 : tie.Need-back-two-requires-3
 back-two-requires-3 c κs =
     let e : c .before .before .before .before .before .before .before .before .args .count ≡ 4 = omega (arith, c .before .before .before .before .before .before .before .before .pre .0, c .before .before .before .before .before .before .before .before .pre .1 .0, c .before .before .before .before .before .before .if1 .left, c .before .before .before .before .before .if2 .left) in
     room-next (c .before .before .before .back-two2 .ensures) _ (rw (e, four-octets _ (c .before .before .before .before .before .before .before .before .fits .number .fits)) at (c .before .before .before .before .before .before .before .before .pre .1 .1))
-
-same-length-3 : tie.Need-same-length-3
-same-length-3 c = search needs
 
 returns-3 : tie.Need-returns-3
 returns-3 c =
@@ -64,17 +43,17 @@ pub back-last-spec : {M : Type 1} → statement M
 back-last-spec =
     tie.close
     (tie.spec
-    cast-low
-    cast-second
+    (λ c. search needs)
+    (λ c. search needs)
     back-two-requires
-    same-length
+    (λ c. search needs)
     returns
-    cast-third
+    (λ c. search needs)
     back-three-requires
-    same-length-2
+    (λ c. search needs)
     returns-2
     back-two-requires-2
-    cast-back-two
+    (λ c. search needs)
     back-two-requires-3
-    same-length-3
+    (λ c. search needs)
     returns-3)

@@ -10,9 +10,6 @@ use Rattle.write_portion.proofs.transaction.back_dest.Tie as tie
 enum-told : tie.Need-enum-told
 enum-told c = search needs
 
-enum-known-dest : tie.Need-enum-known-dest
-enum-known-dest c = search needs
-
 back-transaction-requires : tie.Need-back-transaction-requires
 unfolding destLies destForm shortest
 back-transaction-requires c κs = (rw (c .before .before .before .dest .given .1) at (c .before .before .before .before .before .before .before .pre .0), rw (c .before .before .before .dest .given .1) at (c .before .before .before .before .before .before .before .pre .1))
@@ -20,9 +17,6 @@ back-transaction-requires c κs = (rw (c .before .before .before .dest .given .1
 returns : tie.Need-returns
 unfolding destForm shortest
 returns c = rw (c .enum-told .given .1) (back-none _ _ (c .before .before .before .before .pre .1 .within))
-
-same-length : tie.Need-same-length
-same-length c = search needs
 
 returns-2 : tie.Need-returns-2
 unfolding destForm shortest
@@ -33,8 +27,8 @@ back-dest-spec =
     tie.close
     (tie.spec
     enum-told
-    enum-known-dest
+    (λ c. search needs)
     back-transaction-requires
     returns
-    same-length
+    (λ c. search needs)
     returns-2)

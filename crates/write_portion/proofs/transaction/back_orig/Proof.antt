@@ -10,9 +10,6 @@ use Rattle.write_portion.proofs.transaction.back_orig.Tie as tie
 enum-told : tie.Need-enum-told
 enum-told c = search needs
 
-enum-known-orig : tie.Need-enum-known-orig
-enum-known-orig c = search needs
-
 back-transaction-requires : tie.Need-back-transaction-requires
 unfolding origLies origForm shortest
 back-transaction-requires c κs = (rw (c .before .before .before .orig .given .1) at (c .before .before .before .before .before .before .before .pre .0), rw (c .before .before .before .orig .given .1) at (c .before .before .before .before .before .before .before .pre .1))
@@ -20,9 +17,6 @@ back-transaction-requires c κs = (rw (c .before .before .before .orig .given .1
 returns : tie.Need-returns
 unfolding origForm shortest
 returns c = rw (c .enum-told .given .1) (back-none _ _ (c .before .before .before .before .pre .1 .within))
-
-same-length : tie.Need-same-length
-same-length c = search needs
 
 returns-2 : tie.Need-returns-2
 unfolding origForm shortest
@@ -33,8 +27,8 @@ back-orig-spec =
     tie.close
     (tie.spec
     enum-told
-    enum-known-orig
+    (λ c. search needs)
     back-transaction-requires
     returns
-    same-length
+    (λ c. search needs)
     returns-2)

@@ -6,11 +6,8 @@ use Rattle.write_portion.proofs.transaction.back_transaction.Tie as tie
 back-string-requires : tie.Need-back-string-requires
 back-string-requires c κs = c .before .before .before .before .pre
 
-same-length : tie.Need-same-length
-same-length c = search needs
-
 returns : tie.Need-returns
 returns c = c .before .before .back-string .ensures
 
 pub back-transaction-spec : {M : Type 1} → statement M
-back-transaction-spec = tie.close (tie.spec back-string-requires same-length returns)
+back-transaction-spec = tie.close (tie.spec back-string-requires (λ c. search needs) returns)

@@ -27,47 +27,11 @@ use Rattle.writer.proofs.octets.write_octets.Tie as tie
 returns : tie.Need-returns
 returns c = octets-none _ _ _ (too-short _ (c .if1 .taken))
 
-is-head-requires : tie.Need-is-head-requires
-is-head-requires c κs = search needs
-
 returns-2 : tie.Need-returns-2
 returns-2 c = octets-none _ _ _ (no-head _ (c .before .before .if1 .left) (sym (c .before .is-head .ensures) ∙ not-true _ (c .if2 .taken)))
 
-shared-slice-read-message-kind-in : tie.Need-shared-slice-read-message-kind-in
-shared-slice-read-message-kind-in c = search needs
-
-message-kind-in-requires : tie.Need-message-kind-in-requires
-message-kind-in-requires c κs = search needs
-
-orig-in-requires : tie.Need-orig-in-requires
-orig-in-requires c κs = search needs
-
-dest-in-requires : tie.Need-dest-in-requires
-dest-in-requires c κs = search needs
-
-shared-slice-read-dialogue-in : tie.Need-shared-slice-read-dialogue-in
-shared-slice-read-dialogue-in c = search needs
-
-dialogue-in-requires : tie.Need-dialogue-in-requires
-dialogue-in-requires c κs = search needs
-
-number-at-requires : tie.Need-number-at-requires
-number-at-requires c κs = search needs
-
-cast-count : tie.Need-cast-count
-cast-count c = search needs
-
-rows-looked-requires : tie.Need-rows-looked-requires
-rows-looked-requires c κs = search needs
-
 rows-judged-requires : tie.Need-rows-judged-requires
 rows-judged-requires c κs = (c .before .before .before .before .before .before .before .before .before .before .if1 .left, omega (arith, c .rows-looked .ensures))
-
-portion-judged-requires : tie.Need-portion-judged-requires
-portion-judged-requires c κs = search needs
-
-message-judged-requires : tie.Need-message-judged-requires
-message-judged-requires c κs = search needs
 
 -- what the code took from the octets is of the record
 module _ (c : tie.After-message-judged) where
@@ -135,15 +99,6 @@ module _ (c : tie.After-message-judged) where
       put-is : (r .count ≤ 16) × (allLie (length m) r ≡ true) × (length (octetsOf (recordForm m r)) ≤ mostOctets)
       put-is = may-be-put r m n fine small
 
-enum-known-rank : tie.Need-enum-known-rank
-enum-known-rank c = search needs
-
-fault-at-requires : tie.Need-fault-at-requires
-fault-at-requires c κs = search needs
-
-enum-known-size : tie.Need-enum-known-size
-enum-known-size c = search needs
-
 returns-3 : tie.Need-returns-3
 unfolding rankOf
 returns-3 c =
@@ -190,23 +145,23 @@ write-octets-spec =
     tie.close
     (tie.spec
     returns
-    is-head-requires
+    (λ c κs. search needs)
     returns-2
-    shared-slice-read-message-kind-in
-    message-kind-in-requires
-    orig-in-requires
-    dest-in-requires
-    shared-slice-read-dialogue-in
-    dialogue-in-requires
-    number-at-requires
-    cast-count
-    rows-looked-requires
+    (λ c. search needs)
+    (λ c κs. search needs)
+    (λ c κs. search needs)
+    (λ c κs. search needs)
+    (λ c. search needs)
+    (λ c κs. search needs)
+    (λ c κs. search needs)
+    (λ c. search needs)
+    (λ c κs. search needs)
     rows-judged-requires
-    portion-judged-requires
-    message-judged-requires
-    enum-known-rank
-    fault-at-requires
-    enum-known-size
+    (λ c κs. search needs)
+    (λ c κs. search needs)
+    (λ c. search needs)
+    (λ c κs. search needs)
+    (λ c. search needs)
     returns-3
     returns-4
     put-message-requires
