@@ -1,11 +1,9 @@
-// A row from its 24 octets, and whether they are one.
+// A row from its 24 octets.
 ghost use mathlib.Core.Path.{_≡_};
-ghost use mathlib.Core.Bool.{_&&_};
 ghost use Prim.Native.Nat.{_≤_};
 ghost use lib.ListN.{length, getD};
-ghost use lib.Dec.{eqb};
 ghost use Rattle.tcap.specs.declared.ComponentKind.{ComponentKind as ComponentKinds};
-ghost use Rattle.layout.specs.Layout.{isFlag, idIn, linkedIn, isCodeTag, codeAt, parameterAt, isProblemTag, problemIn, isCoded, isReturned, returnedIn, isUnlinked, isKind, kindIn, isRow, rowIn, rowsHeld};
+ghost use Rattle.layout.specs.Layout.{idIn, linkedIn, codeAt, parameterAt, problemIn, returnedIn, kindIn, rowIn, rowsHeld};
 use crate::number::number_at;
 use crate::number::optional_at;
 use crate::number::span_at;
@@ -152,112 +150,4 @@ pub fn rows_in(octets: &[u8], count: usize) -> [Row; 16]
         i += 1;
     }
     rows
-}
-
-fn is_code_tag(tag: u8) -> bool
-    ensures { λ r. ⌜ r ≡ isCodeTag tag ⌝ }
-{
-    if tag == 0x02 {
-        return true;
-    }
-    tag == 0x06
-}
-
-fn is_coded(part: &[u8]) -> bool
-    requires { ⌜ 24 ≤ length (now part) ⌝ }
-    ensures { λ r. ⌜ r ≡ isCoded (now (part .entry)) ⌝ }
-{
-    if is_code_tag(part[5]) {
-        return part[6] <= 1;
-    }
-    false
-}
-
-// Both or neither.
-fn is_returned(part: &[u8]) -> bool
-    requires { ⌜ 24 ≤ length (now part) ⌝ }
-    ensures { λ r. ⌜ r ≡ isReturned (now (part .entry)) ⌝ }
-{
-    if part[5] == 0 {
-        return part[6] == 0;
-    }
-    if is_code_tag(part[5]) {
-        return part[6] == 1;
-    }
-    false
-}
-
-fn is_invoke(part: &[u8]) -> bool
-    requires { ⌜ 24 ≤ length (now part) ⌝ }
-    ensures { λ r. ⌜ r ≡ (isFlag (getD (now (part .entry)) 3 0) && isCoded (now (part .entry))) ⌝ }
-{
-    if part[3] > 1 {
-        return false;
-    }
-    is_coded(part)
-}
-
-fn is_problem_tag(tag: u8) -> bool
-    ensures { λ r. ⌜ r ≡ isProblemTag tag ⌝ }
-{
-    if tag < 0x80 {
-        return false;
-    }
-    tag <= 0x83
-}
-
-// A Reject has no parameter.
-fn is_reject(part: &[u8]) -> bool
-    requires { ⌜ 24 ≤ length (now part) ⌝ }
-    ensures { λ r. ⌜ r ≡ (eqb (getD (now (part .entry)) 6 0) 0 && isProblemTag (getD (now (part .entry)) 5 0)) ⌝ }
-{
-    if part[6] != 0 {
-        return false;
-    }
-    is_problem_tag(part[5])
-}
-
-// All but an Invoke.
-fn is_unlinked(tag: u8, part: &[u8]) -> bool
-    requires { ⌜ 24 ≤ length (now part) ⌝ }
-    ensures { λ r. ⌜ r ≡ isUnlinked tag (now (part .entry)) ⌝ }
-{
-    if tag == 0xA2 {
-        return is_returned(part);
-    }
-    if tag == 0xA3 {
-        return is_coded(part);
-    }
-    if tag == 0xA4 {
-        return is_reject(part);
-    }
-    if tag == 0xA7 {
-        return is_returned(part);
-    }
-    false
-}
-
-// Only an Invoke has a linked ID.
-fn is_kind(tag: u8, part: &[u8]) -> bool
-    requires { ⌜ 24 ≤ length (now part) ⌝ }
-    ensures { λ r. ⌜ r ≡ isKind tag (now (part .entry)) ⌝ }
-{
-    if tag == 0xA1 {
-        return is_invoke(part);
-    }
-    if part[3] != 0 {
-        return false;
-    }
-    is_unlinked(tag, part)
-}
-
-// Whether every octet that chooses has a listed value.
-pub fn is_row(part: &[u8]) -> bool
-    requires { ⌜ 24 ≤ length (now part) ⌝ }
-    ensures { λ r. ⌜ r ≡ isRow (now (part .entry)) ⌝ }
-{
-    if part[1] > 1 {
-        return false;
-    }
-    is_kind(part[0], part)
 }
