@@ -69,11 +69,11 @@ module _ (m : List ℕ) (at stop r : ℕ) (g : at ≤ until stop) (h : until sto
   octets-read = octets-any (ltb r faults) refl
 
 module _ (m : List ℕ) (at stop r : ℕ) (h : until stop ≤ length m) (b : Bool) (is : b ≡ standsOf m at stop 160) where
-  pub outside-single : b ≡ true → Reads (aroundItem 160 (onlyBody (level 12) (walkItem 12))) m at stop r → Holds false false m at stop r
+  pub outside-single : b ≡ true → Reads (aroundItem 160 (onlyBody (level 12) (walkItem 12))) m at stop r → Holds m at stop r
   unfolding Holds
   outside-single t e = λ n. first-of (mapItem (single n) (aroundItem 160 (onlyBody (level 12) (walkItem 12)))) (mapItem (octets n) (leafItem 129 (λ c. true))) m at stop r (λ a s z. ap (λ (q : ℕ). eqb q 129) (stands-only m at stop 160 h (sym is ∙ t) a s z)) (reads-map (single n) (aroundItem 160 (onlyBody (level 12) (walkItem 12))) m at stop r e)
 
-  pub outside-octets : at ≤ until stop → b ≡ false → r ≡ entryPlace false m at stop 129 → Holds false false m at stop r
+  pub outside-octets : at ≤ until stop → b ≡ false → r ≡ entryPlace false m at stop 129 → Holds m at stop r
   unfolding Holds
   outside-octets g t e = λ n. second-of (mapItem (single n) (aroundItem 160 (onlyBody (level 12) (walkItem 12)))) (mapItem (octets n) (leafItem 129 (λ c. true))) m at stop r (λ a s z. stands-other m at stop 160 h (sym is ∙ t) a s z) (reads-map (octets n) (leafItem 129 (λ c. true)) m at stop r (octets-read m at stop r g h e))
 
@@ -83,36 +83,26 @@ module _ (m : List ℕ) (at stop r : ℕ) where
   abbrev Known : Bool → Type 0
   Known s = Reads (aroundItem 160 (onlyBody (level 12) (pduItem s))) m at stop r
 
-  by-outside : (s u : Bool) → 0 ≡ kindOf s u → Holds false false m at stop r → Holds s u m at stop r
-  unfolding kindOf
-  by-outside true u e q = absurd (omega (arith, e))
-  by-outside false true e q = absurd (omega (arith, e))
-  by-outside false false e q = q
+  by-outside : (a : Text) (s u : Bool) → 0 ≡ kindOf s u → Holds m at stop r → Reads (heldItem the93 a s u) m at stop r
+  unfolding kindOf Holds
+  by-outside a true u e q = absurd (omega (arith, e))
+  by-outside a false true e q = absurd (omega (arith, e))
+  by-outside a false false e q = q a
 
-  by-known : (k : ℕ) (s u : Bool) → k ≡ kindOf s u → (k ≡ 0 → ⊥) → Known (eqb k 1) → Holds s u m at stop r
-  unfolding kindOf Holds pduItem
-  by-known k true u e f q = λ n. rw e at q
-  by-known k false true e f q = λ n. rw e at q
-  by-known k false false e f q = absurd (f e)
+  by-known : (a : Text) (k : ℕ) (s u : Bool) → k ≡ kindOf s u → (k ≡ 0 → ⊥) → Known (eqb k 1) → Reads (heldItem the93 a s u) m at stop r
+  unfolding kindOf pduItem
+  by-known a k true u e f q = rw e at q
+  by-known a k false true e f q = rw e at q
+  by-known a k false false e f q = absurd (f e)
 
-  module _ (name k : ℕ) (xs : List ℕ) (xs-is : xs ≡ take (at - name) (drop name m)) (told : k ≡ nameKind xs) where
-    abbrev Behind : Type 0
-    Behind = Holds (same structured (take (at - name) (drop name m))) (same unstructured (take (at - name) (drop name m))) m at stop r
-
-    pub held-outside : k ≡ 0 → Holds false false m at stop r → Behind
-    held-outside z e = rw (← xs-is) (by-outside (same structured xs) (same unstructured xs) (sym z ∙ told) e)
-
-    pub held-known : (k ≡ 0 → ⊥) → Reads (aroundItem 160 (onlyBody (level 12) (pduItem (eqb k 1)))) m at stop r → Behind
-    held-known f e = rw (← xs-is) (by-known k (same structured xs) (same unstructured xs) told f e)
+abbrev pub held-by : Text → Item (Dialogue Text)
+held-by a = heldItem the93 a (same structured (a .1)) (same unstructured (a .1))
 
 -- The contents of 28
 
 module _ (m : List ℕ) (at stop r : ℕ) (e : Reads nameItem m at stop r) where
   pub name-lifted : Placed at (until stop) (ask (front (level 13) FaultKind.Another nameItem) (finite stop) at (part m at stop)) r
   name-lifted = placed-where nameItem FaultKind.Another (level 13) (λ f. refl) (finite stop) at (part m at stop) (until stop) r refl e
-
-  abbrev held-by : Text → Item (Dialogue Text)
-  held-by n = heldItem the93 n (same structured (n .1)) (same unstructured (n .1))
 
   pub external-far : Far r → Finishes (externalBody the93) m at stop r
   external-far f = map-closed (λ v. v .1) (bindBody (level 13) silently nameItem (λ n. onlyBody (level 13) (held-by n))) m at stop r (bind-far (level 13) nameItem m at stop r name-lifted silently (λ a f. refl) (λ n. onlyBody (level 13) (held-by n)) f)
@@ -122,29 +112,31 @@ module _ (m : List ℕ) (at stop r : ℕ) (e : Reads nameItem m at stop r) where
       let z = placed-got _ at (until stop) r _ e f (value-leaf 6 16 identifierOk (omega arith, omega arith, omega arith) (omega arith) name-sized at (part m at stop) (level 1) (finite stop)) in
       omega (arith, z .2 .0)
 
-  module _ (h : until stop ≤ length m) (near : Near r) where
-    -- the octets of the name stand behind its tag and length
-    octets-are : (a : Text) (n : ℕ) → ask (front (level 13) FaultKind.Another nameItem) (finite stop) at (part m at stop) ≡ got a n → r ≡ at + n → a .1 ≡ take (r - (at + 2)) (drop (at + 2) m)
-    octets-are a n i z =
-        let s = the-fact (rw i at (value-leaf 6 16 identifierOk (omega arith, omega arith, omega arith) (omega arith) name-sized at (part m at stop) (level 13) (finite stop))) in
-        let l = placed-near _ at (until stop) r e near in
-        let k : n - 2 ≡ r - (at + 2) = omega (arith, z) in
-        ap (λ (v : Text). v .1) (s .1) ∙ span-take m at (until stop) 2 (n - 2) (omega (arith, z, l, s .0)) h ∙ ap (λ (j : ℕ). take j (drop (at + 2) m)) k
+-- a name of n octets
 
-    module _ (s : ℕ) (held : Holds (same structured (take (r - (at + 2)) (drop (at + 2) m))) (same unstructured (take (r - (at + 2)) (drop (at + 2) m))) m r stop s) where
-      held-lifted : (a : Text) → a .1 ≡ take (r - (at + 2)) (drop (at + 2) m) → Placed r (until stop) (ask (front (level 13) FaultKind.Another (held-by a)) (finite stop) r (part m r stop)) s
-      unfolding Holds
-      held-lifted a i = placed-where (held-by a) FaultKind.Another (level 13) (λ f. refl) (finite stop) r (part m r stop) (until stop) s refl (rw (ap (same structured) i, ap (same unstructured) i) (held a))
+module _ (m : List ℕ) (at stop n : ℕ) (e : Reads nameItem m at stop (at + 2 + n)) (h : until stop ≤ length m) (near : Near (at + 2 + n)) where
+  -- they stand behind its tag and length
+  octets-are : (a : Text) (k : ℕ) → ask (front (level 13) FaultKind.Another nameItem) (finite stop) at (part m at stop) ≡ got a k → at + 2 + n ≡ at + k → a .1 ≡ take n (drop (at + 2) m)
+  octets-are a k i z =
+      let s = the-fact (rw i at (value-leaf 6 16 identifierOk (omega arith, omega arith, omega arith) (omega arith) name-sized at (part m at stop) (level 13) (finite stop))) in
+      let l = placed-near _ at (until stop) (at + 2 + n) e near in
+      let size : k - 2 ≡ n = omega (arith, z) in
+      ap (λ (v : Text). v .1) (s .1) ∙ span-take m at (until stop) 2 (k - 2) (omega (arith, z, l, s .0)) h ∙ ap (λ (j : ℕ). take j (drop (at + 2) m)) size
 
-      pub external-held : Far s → Finishes (externalBody the93) m at stop s
-      external-held f =
-          map-closed (λ v. v .1) (bindBody (level 13) silently nameItem (λ n. onlyBody (level 13) (held-by n))) m at stop s (bind-known (level 13) nameItem m at stop r name-lifted (λ n. onlyBody (level 13) (held-by n)) s near (λ a n i z.
-          only-far (level 13) (held-by a) m r stop s (held-lifted a (octets-are a n i z)) f))
+  module _ (s : ℕ) (held : (a : Text) → a .1 ≡ take n (drop (at + 2) m) → Reads (held-by a) m (at + 2 + n) stop s) where
+    held-lifted : (a : Text) → a .1 ≡ take n (drop (at + 2) m) → Placed (at + 2 + n) (until stop) (ask (front (level 13) FaultKind.Another (held-by a)) (finite stop) (at + 2 + n) (part m (at + 2 + n) stop)) s
+    held-lifted a i = placed-where (held-by a) FaultKind.Another (level 13) (λ f. refl) (finite stop) (at + 2 + n) (part m (at + 2 + n) stop) (until stop) s refl (held a i)
 
-      pub external-near : Near s → (q : ℕ) → Finishes nothing m s stop q → Finishes (externalBody the93) m at stop q
-      external-near f q y =
-          map-closed (λ v. v .1) (bindBody (level 13) silently nameItem (λ n. onlyBody (level 13) (held-by n))) m at stop q (bind-known (level 13) nameItem m at stop r name-lifted (λ n. onlyBody (level 13) (held-by n)) q near (λ a n i z.
-          only-near (level 13) (held-by a) m r stop s (held-lifted a (octets-are a n i z)) (λ f. refl) refl q f y))
+    external-by : (q : ℕ) → ((a : Text) → a .1 ≡ take n (drop (at + 2) m) → Finishes (onlyBody (level 13) (held-by a)) m (at + 2 + n) stop q) → Finishes (externalBody the93) m at stop q
+    external-by q y =
+        map-closed (λ v. v .1) (bindBody (level 13) silently nameItem (λ a. onlyBody (level 13) (held-by a))) m at stop q
+        (bind-known (level 13) nameItem m at stop (at + 2 + n) (name-lifted m at stop (at + 2 + n) e) (λ a. onlyBody (level 13) (held-by a)) q near (λ a k i z. y a (octets-are a k i z)))
+
+    external-held : Far s → Finishes (externalBody the93) m at stop s
+    external-held f = external-by s (λ a i. only-far (level 13) (held-by a) m (at + 2 + n) stop s (held-lifted a i) f)
+
+    external-near : Near s → (q : ℕ) → Finishes nothing m s stop q → Finishes (externalBody the93) m at stop q
+    external-near f q y = external-by q (λ a i. only-near (level 13) (held-by a) m (at + 2 + n) stop s (held-lifted a i) (λ f. refl) refl q f y)
 
 -- by how many octets are counted of the name: none, one of the two names, which are sound, or another
 
@@ -187,25 +179,22 @@ module _ (m : List ℕ) (at stop n : ℕ) (ready : Ready m at stop) where
     name-near = omega (arith, name-to)
 
     module _ (xs : List ℕ) (xs-is : xs ≡ take n (drop (at + 2) m)) where
-      pub piece-is : xs ≡ take (at + 2 + n - (at + 2)) (drop (at + 2) m)
-      piece-is = let z : at + 2 + n - (at + 2) ≡ n = omega arith in rw z xs-is
-
-      abbrev pub Behind-name : ℕ → Type 0
-      Behind-name r = Holds (same structured (take (at + 2 + n - (at + 2)) (drop (at + 2) m))) (same unstructured (take (at + 2 + n - (at + 2)) (drop (at + 2) m))) m (at + 2 + n) stop r
+      abbrev Behind : ℕ → Type 0
+      Behind r = (a : Text) → a .1 ≡ take n (drop (at + 2) m) → Reads (held-by a) m (at + 2 + n) stop r
 
       module _ (k : ℕ) (told : k ≡ nameKind xs) (known : k ≡ 0 → ⊥) where
         pub known-name : Reads nameItem m at stop (at + 2 + n)
         known-name = name-good m at stop n (ready .0 .0) (ready .0 .1) (counted .0) there xs true xs-is (sym (sound-name xs (same structured xs) (same unstructured xs) refl refl (λ z. known (told ∙ z)))) refl
 
         module _ (r : ℕ) (e : Reads (aroundItem 160 (onlyBody (level 12) (pduItem (eqb k 1)))) m (at + 2 + n) stop r) where
-          pub known-behind : Behind-name r
-          known-behind = held-known m (at + 2 + n) stop r (at + 2) k xs piece-is told known e
+          pub known-behind : Behind r
+          known-behind a i = by-known m (at + 2 + n) stop r a k _ _ (told ∙ ap nameKind (xs-is ∙ sym i)) known e
 
           pub known-far : Far r → Finishes (externalBody the93) m at stop r
-          known-far f = external-held m at stop (at + 2 + n) known-name (ready .0 .1) name-near r known-behind f
+          known-far f = external-held m at stop n known-name (ready .0 .1) name-near r known-behind f
 
           pub known-near : Near r → (s : ℕ) → Finishes nothing m r stop s → Finishes (externalBody the93) m at stop s
-          known-near f s q = external-near m at stop (at + 2 + n) known-name (ready .0 .1) name-near r known-behind f s q
+          known-near f s q = external-near m at stop n known-name (ready .0 .1) name-near r known-behind f s q
 
       module _ (other : nameKind (take n (drop (at + 2) m)) ≡ 0) (b : Bool) (told : b ≡ identifierOk xs) where
         pub other-bad : b ≡ false → Finishes (externalBody the93) m at stop (badContents + at)
@@ -215,19 +204,19 @@ module _ (m : List ℕ) (at stop n : ℕ) (ready : Ready m at stop) where
           pub other-name : Reads nameItem m at stop (at + 2 + n)
           other-name = name-good m at stop n (ready .0 .0) (ready .0 .1) (counted .0) there xs b xs-is told t
 
-          module _ (r : ℕ) (e : Holds false false m (at + 2 + n) stop r) where
-            pub other-behind : Behind-name r
-            other-behind = held-outside m (at + 2 + n) stop r (at + 2) 0 xs piece-is (sym other ∙ ap nameKind (sym xs-is)) refl e
+          module _ (r : ℕ) (e : Holds m (at + 2 + n) stop r) where
+            pub other-behind : Behind r
+            other-behind a i = by-outside m (at + 2 + n) stop r a _ _ (sym other ∙ ap nameKind (sym i)) e
 
             pub other-far : Far r → Finishes (externalBody the93) m at stop r
-            other-far f = external-held m at stop (at + 2 + n) other-name (ready .0 .1) name-near r other-behind f
+            other-far f = external-held m at stop n other-name (ready .0 .1) name-near r other-behind f
 
             pub other-near : Near r → (s : ℕ) → Finishes nothing m r stop s → Finishes (externalBody the93) m at stop s
-            other-near f s q = external-near m at stop (at + 2 + n) other-name (ready .0 .1) name-near r other-behind f s q
+            other-near f s q = external-near m at stop n other-name (ready .0 .1) name-near r other-behind f s q
 
-pub holds-within : (s u : Bool) (m : List ℕ) (at stop r : ℕ) → Holds s u m at stop r → Near r → r ≤ until stop
+pub holds-within : (m : List ℕ) (at stop r : ℕ) → Holds m at stop r → Near r → r ≤ until stop
 unfolding Holds
-holds-within s u m at stop r e f = placed-near _ at (until stop) r (e (0, [])) f .1
+holds-within m at stop r e f = placed-near _ at (until stop) r (e (0, [])) f .1
 
 -- 28, and 6B around it
 

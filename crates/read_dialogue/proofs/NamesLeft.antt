@@ -7,7 +7,6 @@ use native.Mathlib.Omega.{arith}
 use lib.ListN.{length, getD, drop, take, set}
 use lib.Dec.{eqb}
 use lib.Seq.{take-take}
-use Rattle.base.specs.Value.{same}
 use Rattle.element.specs.declared.FaultKind.{FaultKind}
 use Rattle.element.specs.declared.LengthRead.{LengthRead}
 use Rattle.element.specs.declared.Walk.{Walk}
@@ -21,7 +20,7 @@ use Rattle.element.specs.Walk.{walkItem}
 use Rattle.element.proofs.Asking.{Then, fact, void, then-next, then-blamed, ask-sound}
 use Rattle.element.proofs.Reading.{definite-size, indefinite-size}
 use Rattle.primitive.specs.Primitive.{identifierOk}
-use Rattle.tcap.specs.Meaning.{Dialogue, single, octets, structured, unstructured}
+use Rattle.tcap.specs.Meaning.{Dialogue, single, octets}
 use Rattle.tcap.specs.WellFormed.{the93}
 use Rattle.tcap.specs.Productions.{nameItem, heldItem, externalBody, inside6B, dialogueItem}
 use Rattle.read_place.specs.Places.{Far, Near, until, finite, part, front, nothing, Reads, Finishes, endedOf, unfinishedOf, standsOf, entryPlace, lengthPlace, lengthSize, Ready, Walked, cutOff, missing, badContents}
@@ -39,7 +38,7 @@ use Rattle.read_place.proofs.Values.{value-walk}
 use Rattle.read_dialogue.specs.Dialogues.{pduItem, NameCounted, Holds, textAt, layElse, Lays}
 use Rattle.tcap.specs.Names.{kindOf, nameKind}
 use Rattle.read_dialogue.proofs.Around.{size-is}
-use Rattle.read_dialogue.proofs.Names.{single-near, name-lifted, octets-read, outside-octets, name-to, name-near, piece-is, known-name, known-behind, other-bad, other-name, other-behind, dialogue-keeps}
+use Rattle.read_dialogue.proofs.Names.{single-near, name-lifted, octets-read, outside-octets, name-to, name-near, held-by, known-name, known-behind, other-bad, other-name, other-behind, dialogue-keeps}
 use Rattle.read_dialogue.proofs.Gives.{whatever, gives-where, around-gives}
 use Rattle.read_dialogue.proofs.Values.{known, name-gives, octets-gives}
 use Rattle.read_dialogue.proofs.Leaving.{value-left, same-left, span-laid, leaves-map, leaves-first, one-left, known-left}
@@ -116,19 +115,19 @@ module _ (m : List ℕ) (at stop r : ℕ) (g : at ≤ until stop) (h : until sto
     pub octets-from : st ≤ r
     octets-from = let z = octets-room in omega (arith, z .1, start)
 
-    pub octets-left : (old new : List ℕ) → new ≡ layText 32 st (r - st) (set old 3 7) → Lays layElse false false m at stop old new
+    pub octets-left : (old new : List ℕ) → new ≡ layText 32 st (r - st) (set old 3 7) → Lays m at stop old new
     unfolding Lays layElse
     octets-left old new z = λ n.
         value-left layElse _ (octets n (textAt m st r)) old new (octets-gives m at stop r g h entry near st start n) (z ∙ span-laid m st r 32 (r - st) (set old 3 7) (omega (arith, h, reads-within (leafItem 129 (λ c. true)) m at stop r (octets-read m at stop r g h entry) near)) refl)
 
 module _ (m : List ℕ) (at stop : ℕ) (h : until stop ≤ length m) (b : Bool) (is : b ≡ standsOf m at stop 160) (old new : List ℕ) where
-  pub outside-left : b ≡ true → Leaves (laySpan 32) untold (aroundItem 160 (onlyBody (level 12) (walkItem 12))) m at stop (set old 3 6) new → Lays layElse false false m at stop old new
+  pub outside-left : b ≡ true → Leaves (laySpan 32) untold (aroundItem 160 (onlyBody (level 12) (walkItem 12))) m at stop (set old 3 6) new → Lays m at stop old new
   unfolding Lays layElse
   outside-left t e = λ n.
       leaves-first m at stop (mapItem (single n) (aroundItem 160 (onlyBody (level 12) (walkItem 12)))) (mapItem (octets n) (leafItem 129 (λ c. true))) layElse old new (λ a s z. ap (λ (q : ℕ). eqb q 129) (stands-only m at stop 160 h (sym is ∙ t) a s z))
       (leaves-map m at stop (single n) (aroundItem 160 (onlyBody (level 12) (walkItem 12))) (laySpan 32) layElse old (set old 3 6) new (λ t. refl) e)
 
-  pub outside-left-far : b ≡ false → at ≤ until stop → (r : ℕ) → r ≡ entryPlace false m at stop 129 → Far r → Lays layElse false false m at stop old new
+  pub outside-left-far : b ≡ false → at ≤ until stop → (r : ℕ) → r ≡ entryPlace false m at stop 129 → Far r → Lays m at stop old new
   unfolding Lays Holds
   outside-left-far t g r e f = λ n. leaves-far layElse (heldItem the93 n false false) m at stop r old new (outside-octets m at stop r h b is g t e n) f
 
@@ -149,12 +148,12 @@ both-left (bad f) old mid new q e = tt
 -- Behind a name, by its octets
 
 module _ (m : List ℕ) (at stop : ℕ) (n : Text) (old new : List ℕ) where
-  left-outside : (mid : List ℕ) → mid ≡ layName n old → Lays layElse false false m at stop mid new → Leaves layDialogue untold (heldItem the93 n false false) m at stop old new
+  left-outside : (mid : List ℕ) → mid ≡ layName n old → Lays m at stop mid new → Leaves layDialogue untold (heldItem the93 n false false) m at stop old new
   unfolding Lays
   left-outside mid z e =
       both-left _ old mid new (rw z (ask-sound (λ a k. layDialogue a old ≡ layElse a (layName n old)) (front (level 1) FaultKind.Another (heldItem the93 n false false)) (finite stop) at (part m at stop) (λ v e f. let z : _≡_ {A = ℕ} 0 1 = cc in absurd (omega arith)) (λ h i m. then-blamed (λ f. f) (else-named n old (eqb (firstOf h) 160) _ _)))) (e n)
 
-  by-outside : (mid : List ℕ) → mid ≡ layName n old → (s u : Bool) → 0 ≡ kindOf s u → Lays layElse false false m at stop mid new → Leaves layDialogue untold (heldItem the93 n s u) m at stop old new
+  by-outside : (mid : List ℕ) → mid ≡ layName n old → (s u : Bool) → 0 ≡ kindOf s u → Lays m at stop mid new → Leaves layDialogue untold (heldItem the93 n s u) m at stop old new
   unfolding kindOf
   by-outside mid z true u e q = absurd (omega (arith, e))
   by-outside mid z false true e q = absurd (omega (arith, e))
@@ -166,54 +165,42 @@ module _ (m : List ℕ) (at stop : ℕ) (n : Text) (old new : List ℕ) where
   by-known k false true e f q = rw e at q
   by-known k false false e f q = absurd (f e)
 
-module _ (m : List ℕ) (at stop name k : ℕ) (xs : List ℕ) (xs-is : xs ≡ take (at - name) (drop name m)) (told : k ≡ nameKind xs) (old new : List ℕ) where
-  abbrev Leaves-behind : Type 0
-  Leaves-behind = Leaves layDialogue untold (heldItem the93 (textAt m name at) (same structured (take (at - name) (drop name m))) (same unstructured (take (at - name) (drop name m)))) m at stop old new
-
-  pub held-outside-left : k ≡ 0 → at ≤ until stop → until stop ≤ length m → (mid : List ℕ) → mid ≡ layText 24 name (at - name) old → Lays layElse false false m at stop mid new → Leaves-behind
-  held-outside-left z g h mid e q = by-outside m at stop (textAt m name at) old new mid (e ∙ span-laid m name at 24 (at - name) old (omega (arith, g, h)) refl) _ _ (sym z ∙ told ∙ ap nameKind xs-is) q
-
-  pub held-known-left : (k ≡ 0 → ⊥) → Leaves layDialogue untold (aroundItem 160 (onlyBody (level 12) (pduItem (eqb k 1)))) m at stop old new → Leaves-behind
-  held-known-left f q = by-known m at stop (textAt m name at) old new k _ _ (told ∙ ap nameKind xs-is) f q
-
--- The contents of 28
-
-module _ (m : List ℕ) (at stop r : ℕ) (h : until stop ≤ length m) (e : Reads nameItem m at stop r) (near : Near r) where
-  abbrev named : Text
-  named = textAt m (at + 2) r
-
-  abbrev held-by : Text → Item (Dialogue Text)
-  held-by n = heldItem the93 n (same structured (n .1)) (same unstructured (n .1))
-
-  pub external-left : (s : ℕ) → Holds (same structured (take (r - (at + 2)) (drop (at + 2) m))) (same unstructured (take (r - (at + 2)) (drop (at + 2) m))) m r stop s → Near s → (old new : List ℕ)
-      → Leaves layDialogue untold (heldItem the93 (textAt m (at + 2) r) (same structured (take (r - (at + 2)) (drop (at + 2) m))) (same unstructured (take (r - (at + 2)) (drop (at + 2) m)))) m r stop old new → LeavesAll layDialogue untold (externalBody the93) m at stop old new
-  unfolding Holds
-  external-left s held found old new q =
-      let behind : LeavesAll layDialogue untold (onlyBody (level 13) (held-by named)) m r stop old new =
-      only-left untold (level 13) (held-by named) m r stop s (placed-where (held-by named) FaultKind.Another (level 13) (λ f. refl) (finite stop) r (part m r stop) (until stop) s refl (held named)) layDialogue old (λ f l t. tt) refl new found
-      (left-where untold layDialogue (held-by named) FaultKind.Another (level 13) (λ f l t. tt) (finite stop) r (part m r stop) old new refl q) (same-left _ new) in
-      map-left untold (λ v. v .1) (bindBody (level 13) silently nameItem (λ n. onlyBody (level 13) (held-by n))) (λ v l. layDialogue (v .1) l) layDialogue m at stop old new (λ a l. refl)
-      (rw (ask-bind (level 13) nameItem (finite stop) at (part m at stop) silently (λ n. onlyBody (level 13) (held-by n)))
-      (known-left _ _ at (until stop) r named (λ v l. layDialogue (v .1) l) old new (name-lifted m at stop r e) (gives-where nameItem m at stop named (name-gives m at stop r h near e) (level 13) refl) (λ n z.
-      left-blamed untold (λ v l. layDialogue (v .1) l) (silently named) (λ f l t. tt) _ old new
-      (rw (span-drop m at (until stop) n, ← z) (left-next untold layDialogue (λ v l. layDialogue (v .1) l) (λ b. (named, b)) (λ k. n + k) (ask (onlyBody (level 13) (held-by named)) (finite stop) r (part m r stop)) old old new (λ b. refl) behind)))))
+-- The contents of 28, by how many octets are counted of the name
 
 module _ (m : List ℕ) (at stop n : ℕ) (ready : Ready m at stop) (counted : NameCounted m at stop n) (xs : List ℕ) (xs-is : xs ≡ take n (drop (at + 2) m)) (old new : List ℕ) where
+  abbrev named : Text
+  named = textAt m (at + 2) (at + 2 + n)
+
+  size : at + 2 + n - (at + 2) ≡ n
+  size = omega arith
+
+  named-is : named .1 ≡ take n (drop (at + 2) m)
+  named-is = rw size
+
+  external-left : Reads nameItem m at stop (at + 2 + n) → (r : ℕ) → Reads (held-by named) m (at + 2 + n) stop r → Near r → Leaves layDialogue untold (held-by named) m (at + 2 + n) stop old new → LeavesAll layDialogue untold (externalBody the93) m at stop old new
+  external-left e r held found q =
+      let near = name-near m at stop n ready counted in
+      let behind : LeavesAll layDialogue untold (onlyBody (level 13) (held-by named)) m (at + 2 + n) stop old new =
+      only-left untold (level 13) (held-by named) m (at + 2 + n) stop r (placed-where (held-by named) FaultKind.Another (level 13) (λ f. refl) (finite stop) (at + 2 + n) (part m (at + 2 + n) stop) (until stop) r refl held) layDialogue old (λ f l t. tt) refl new found
+      (left-where untold layDialogue (held-by named) FaultKind.Another (level 13) (λ f l t. tt) (finite stop) (at + 2 + n) (part m (at + 2 + n) stop) old new refl q) (same-left _ new) in
+      map-left untold (λ v. v .1) (bindBody (level 13) silently nameItem (λ a. onlyBody (level 13) (held-by a))) (λ v l. layDialogue (v .1) l) layDialogue m at stop old new (λ a l. refl)
+      (rw (ask-bind (level 13) nameItem (finite stop) at (part m at stop) silently (λ a. onlyBody (level 13) (held-by a)))
+      (known-left _ _ at (until stop) (at + 2 + n) named (λ v l. layDialogue (v .1) l) old new (name-lifted m at stop (at + 2 + n) e) (gives-where nameItem m at stop named (name-gives m at stop (at + 2 + n) (ready .0 .1) near e) (level 13) refl) (λ k z.
+      left-blamed untold (λ v l. layDialogue (v .1) l) (silently named) (λ f l t. tt) _ old new
+      (rw (span-drop m at (until stop) k, ← z) (left-next untold layDialogue (λ v l. layDialogue (v .1) l) (λ b. (named, b)) (λ j. k + j) (ask (onlyBody (level 13) (held-by named)) (finite stop) (at + 2 + n) (part m (at + 2 + n) stop)) old old new (λ b. refl) behind)))))
+
   pub known-laid : (k : ℕ) → k ≡ nameKind xs → (k ≡ 0 → ⊥) → (r : ℕ) → Reads (aroundItem 160 (onlyBody (level 12) (pduItem (eqb k 1)))) m (at + 2 + n) stop r → Near r
       → Leaves layDialogue untold (aroundItem 160 (onlyBody (level 12) (pduItem (eqb k 1)))) m (at + 2 + n) stop old new → LeavesAll layDialogue untold (externalBody the93) m at stop old new
   known-laid k told f r e near q =
-      external-left m at stop (at + 2 + n) (ready .0 .1) (known-name m at stop n ready counted xs xs-is k told f) (name-near m at stop n ready counted) r (known-behind m at stop n ready counted xs xs-is k told f r e) near old new
-      (held-known-left m (at + 2 + n) stop (at + 2) k xs (piece-is m at stop n ready counted xs xs-is) told old new f q)
+      external-left (known-name m at stop n ready counted xs xs-is k told f) r (known-behind m at stop n ready counted xs xs-is k told f r e named named-is) near (by-known m (at + 2 + n) stop named old new k _ _ (told ∙ ap nameKind (xs-is ∙ sym named-is)) f q)
 
   pub other-bad-left : nameKind (take n (drop (at + 2) m)) ≡ 0 → (b : Bool) → b ≡ identifierOk xs → b ≡ false → LeavesAll layDialogue untold (externalBody the93) m at stop old new
   other-bad-left other b told t = leaves-all-far layDialogue (externalBody the93) m at stop (badContents + at) old new (other-bad m at stop n ready counted xs xs-is other b told t) (omega arith)
 
-  pub other-laid : nameKind (take n (drop (at + 2) m)) ≡ 0 → (b : Bool) → b ≡ identifierOk xs → b ≡ true → (r : ℕ) → Holds false false m (at + 2 + n) stop r → Near r → (mid : List ℕ) → mid ≡ layText 24 (at + 2) n old → Lays layElse false false m (at + 2 + n) stop mid new
-      → LeavesAll layDialogue untold (externalBody the93) m at stop old new
+  pub other-laid : nameKind (take n (drop (at + 2) m)) ≡ 0 → (b : Bool) → b ≡ identifierOk xs → b ≡ true → (r : ℕ) → Holds m (at + 2 + n) stop r → Near r → (mid : List ℕ) → mid ≡ layText 24 (at + 2) n old → Lays m (at + 2 + n) stop mid new → LeavesAll layDialogue untold (externalBody the93) m at stop old new
   other-laid other b told t r e near mid z q =
-      let size : at + 2 + n - (at + 2) ≡ n = omega arith in
-      external-left m at stop (at + 2 + n) (ready .0 .1) (other-name m at stop n ready counted xs xs-is other b told t) (name-near m at stop n ready counted) r (other-behind m at stop n ready counted xs xs-is other b told t r e) near old new
-      (held-outside-left m (at + 2 + n) stop (at + 2) 0 xs (piece-is m at stop n ready counted xs xs-is) (sym other ∙ ap nameKind (sym xs-is)) old new refl (name-to m at stop n ready counted) (ready .0 .1) mid (rw size z) q)
+      external-left (other-name m at stop n ready counted xs xs-is other b told t) r (other-behind m at stop n ready counted xs xs-is other b told t r e named named-is) near
+      (by-outside m (at + 2 + n) stop named old new mid (z ∙ span-laid m (at + 2) (at + 2 + n) 24 n old (omega (arith, name-to m at stop n ready counted, ready .0 .1)) (sym size)) _ _ (sym other ∙ ap nameKind (sym named-is)) q)
 
 -- 28, and 6B around it
 

@@ -54,9 +54,9 @@ pduItem false = askedItem the93 unidialogue
 abbrev pub NameCounted : List ℕ → ℕ → ℕ → ℕ → Type 0
 NameCounted m at stop n = (n ≡ countOf (until stop) at (getD m at 0) (getD m (at + 1) 0) 0x06 16) × (1 ≤ n)
 
--- what stands behind a name, whatever its octets were: the structured dialogue, the unstructured, another
-unfoldable pub Holds : Bool → Bool → List ℕ → ℕ → ℕ → ℕ → Type 0
-Holds s u m at stop r = (n : Text) → Reads (heldItem the93 n s u) m at stop r
+-- what stands behind another name, whatever that was
+unfoldable pub Holds : List ℕ → ℕ → ℕ → ℕ → Type 0
+Holds m at stop r = (n : Text) → Reads (heldItem the93 n false false) m at stop r
 
 -- what is told of whom a fault at a place in the contents of 6B belongs to: the portion (0), where they end or lack their end pair, or the dialogue (1)
 unfoldable pub ownerMark : EndRead → ℕ
@@ -98,6 +98,6 @@ layElse (aborted r u) l = l
 layElse (single n e) l = laySpan 32 e (set l 3 6)
 layElse (octets n c) l = laySpan 32 c (set l 3 7)
 
--- what is laid out of what stands behind a name, whatever its octets were
-unfoldable pub Lays : (Dialogue Text → List ℕ → List ℕ) → Bool → Bool → List ℕ → ℕ → ℕ → List ℕ → List ℕ → Type 0
-Lays lay s u m at stop old new = (n : Text) → Leaves lay untold (heldItem the93 n s u) m at stop old new
+-- what is laid out of what stands behind another name, whatever that was
+unfoldable pub Lays : List ℕ → ℕ → ℕ → List ℕ → List ℕ → Type 0
+Lays m at stop old new = (n : Text) → Leaves layElse untold (heldItem the93 n false false) m at stop old new

@@ -1,20 +1,18 @@
 // The dialogue portion: an answer is the place behind what was read, or a fault.
 ghost use mathlib.Core.Path.{_≡_};
-ghost use mathlib.Core.Bool.{true, false};
-ghost use Prim.Native.Nat.{_+_, _-_, _/_, _%_, _≤_, _<_};
+ghost use mathlib.Core.Bool.{true};
+ghost use Prim.Native.Nat.{_+_, _/_, _%_, _≤_, _<_};
 ghost use lib.ListN.{length, take, drop};
-ghost use Rattle.base.specs.Value.{same};
 ghost use Rattle.element.specs.Parts.{aroundItem, onlyBody};
 ghost use Rattle.element.specs.Head.{endOf};
 ghost use Rattle.read_place.specs.Places.{Leads, Reads, Finishes, Ready, finite, part, standsOf};
 ghost use Rattle.read_place.specs.Laying.{laySpan, layName, layInfo, layDiagnostic, layDialogue};
 ghost use Rattle.read_place.specs.Leaves.{Leaves, LeavesAll, untold};
 ghost use Rattle.read_place.specs.Blames.{Blames};
-ghost use Rattle.tcap.specs.Meaning.{version};
 ghost use Rattle.tcap.specs.Names.{nameKind};
 ghost use Rattle.tcap.specs.WellFormed.{the93};
 ghost use Rattle.tcap.specs.Productions.{levelAt, contextItem, sourceItem, infoBody, parameterItem, externalBody, dialogueItem};
-ghost use Rattle.read_dialogue.specs.Dialogues.{externalsBody, versionItem, Passes, numberIn, diagnosticItem, askedBody, acceptedBody, answeredBody, abortedBody, pduItem, Holds, NameCounted, ownerMark, contentsEnd, layNumber, layAsked, layResult, layAnswered, layAborted, layElse, Lays};
+ghost use Rattle.read_dialogue.specs.Dialogues.{externalsBody, versionItem, Passes, numberIn, diagnosticItem, askedBody, acceptedBody, answeredBody, abortedBody, pduItem, Holds, NameCounted, ownerMark, contentsEnd, layNumber, layAsked, layResult, layAnswered, layAborted, Lays};
 use base::piece;
 use read_field::name_at;
 use read_field::small_at;
@@ -369,8 +367,8 @@ fn single_at(m: &[u8], at: usize, stop: usize, out: &mut [u8]) -> usize
 // What stands behind another name: A0 around one element, or octets in 81.
 fn encoding_at(m: &[u8], at: usize, stop: usize, out: &mut [u8]) -> usize
     requires { ⌜ Ready (now m) at stop × (length (now out) ≡ 428) ⌝ }
-    ensures { λ r. ⌜ Holds false false (now (m .entry)) at stop r ⌝ }
-    ensures { λ r. ⌜ Lays layElse false false (now (m .entry)) at stop (now (out .entry)) (now (out .exit)) ⌝ }
+    ensures { λ r. ⌜ Holds (now (m .entry)) at stop r ⌝ }
+    ensures { λ r. ⌜ Lays (now (m .entry)) at stop (now (out .entry)) (now (out .exit)) ⌝ }
 {
     if stands(m, at, stop, 0xA0) {
         out[3] = 6;

@@ -1,6 +1,5 @@
 // Messages: an answer is the place behind what was read, or the first fault. What is read is laid out in the octets lent, or whom the fault belongs to is told there.
 ghost use mathlib.Core.Path.{_≡_};
-ghost use mathlib.Core.Bool.{true};
 ghost use Prim.Native.Nat.{_≤_};
 ghost use lib.ListN.{length, set};
 ghost use Rattle.element.specs.Parts.{lastBody};

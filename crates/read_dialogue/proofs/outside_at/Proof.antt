@@ -1,7 +1,6 @@
 -- `outside_at` meets its contract. Assumes nothing.
 use borrow.Author.Needs.{needs}
 use native.Mathlib.Omega.{arith}
-use mathlib.Core.Bool.{false}
 use denote.Ref.{now}
 use Rattle.read_place.proofs.Leaves.{leaves-all-far}
 use Rattle.read_dialogue.proofs.Names.{name-to, other-bad, other-far, other-near, holds-within}
@@ -22,7 +21,7 @@ returns : tie.Need-returns
 returns c = search (other-far, leaves-all-far)
 
 leave-requires : tie.Need-leave-requires
-leave-requires c κs = let w = holds-within false false (now (c .before .before .before .before .before .before .before .before .before .before .before .before .before .before .args .m)) _ _ _ (c .before .before .before .encoding-at .ensures .0) (c .if2 .left) in omega (arith, w, c .before .before .before .before .before .before .before .before .before .before .before .before .before .before .pre .0)
+leave-requires c κs = let w = holds-within (now (c .before .before .before .before .before .before .before .before .before .before .before .before .before .before .args .m)) _ _ _ (c .before .before .before .encoding-at .ensures .0) (c .if2 .left) in omega (arith, w, c .before .before .before .before .before .before .before .before .before .before .before .before .before .before .pre .0)
 
 returns-2 : tie.Need-returns-2
 returns-2 c = search (other-near, other-laid)
