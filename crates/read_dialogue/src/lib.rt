@@ -384,7 +384,7 @@ fn encoding_at(m: &[u8], at: usize, stop: usize, out: &mut [u8]) -> usize
     r
 }
 
-// The contents of 28 where `n` octets are counted of another name, which may yet be none.
+// The contents of 28 under another name, of `n` octets, which must be a sound one.
 fn outside_at(m: &[u8], at: usize, stop: usize, n: usize, out: &mut [u8]) -> usize
     requires { ⌜ Ready (now m) at stop × NameCounted (now m) at stop n × (nameKind (take n (drop (at + 2) (now m))) ≡ 0) × (length (now out) ≡ 428) ⌝ }
     ensures { λ r. ⌜ Finishes (externalBody the93) (now (m .entry)) at stop r ⌝ }
