@@ -75,6 +75,12 @@ number-laid l o n =
     let c : o + 3 ≡ suc (suc (suc o)) = omega arith in
     rw (a, b, c)
 
+-- what was got is known, and laid out
+got-left : {A : Type 0} (lay : A → List ℕ → List ℕ) (P : A → ℕ → Type 0) (x : Got A) (p end r : ℕ) (old new : List ℕ) → Placed p end x r → Then P x → ((a : A) → P a (r - p) → new ≡ lay a old) → Left lay untold x old new
+unfolding Placed Left
+got-left lay P (got a n) p end r old new e t g = let i : n ≡ r - p = omega (arith, e) in g a (rw i at (the-fact t))
+got-left lay P (bad b) p end r old new e t g = tt
+
 -- what lays nothing out changes nothing
 pub quiet : {A : Type 0} (x : Got A) (l : List ℕ) → Left (λ (a : A) (l : List ℕ). l) untold x l l
 unfolding Left
