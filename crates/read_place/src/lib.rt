@@ -295,17 +295,17 @@ fn short_stop(m: &[u8], at: usize, end: usize, tag: u8) -> usize
     if m[at] != tag {
         return 0;
     }
-    let n = m[at + 1] as usize;
-    if n == 128 {
+    let b = m[at + 1] as usize;
+    if b == 128 {
         return OPEN + end;
     }
-    if n > 127 {
+    if b > 127 {
         return 0;
     }
-    if end < at + 2 + n {
+    if end < at + 2 + b {
         return 0;
     }
-    at + 2 + n
+    at + 2 + b
 }
 
 // A constructor of this tag must stand here: the stop of its contents. Most lengths take one octet.

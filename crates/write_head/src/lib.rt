@@ -14,7 +14,7 @@ ghost use Rattle.judging.specs.Forms.{octetsOf};
 use base::back_part;
 use base::back_three;
 use base::back_two;
-use base::piece;
+use judging::octets_of;
 use tcap::Span;
 
 // Tag and length: never the indefinite form, and as few octets as there can be.
@@ -42,22 +42,12 @@ pub fn back_leaf(out: &mut [u8], at: usize, tag: u8, contents: &[u8]) -> usize
     back_head(out, next, tag, contents.len())
 }
 
-// The octets of a string.
-pub fn octets_of(material: &[u8], string: Span) -> &[u8]
-    requires { ⌜ lies (length (now material)) string ≡ true ⌝ }
-    ensures { λ r. ⌜ now r ≡ octetsIn (now (material .entry)) string ⌝ }
-{
-    let place = string.place as usize;
-    let len = string.len as usize;
-    piece(material, place, len)
-}
-
 pub fn back_span(out: &mut [u8], at: usize, material: &[u8], string: Span) -> usize
     requires { ⌜ lies (length (now material)) string ≡ true ⌝ }
     requires { ⌜ Room (now out) at (octetsIn (now material) string) ⌝ }
     ensures { λ r. ⌜ PutBack (now (out .entry)) at (octetsIn (now (material .entry)) string) r (now (out .exit)) ⌝ }
 {
-    let octets = octets_of(material, string);
+    let octets = octets_of(string, material);
     back_part(out, at, octets)
 }
 
@@ -67,6 +57,6 @@ pub fn back_string(out: &mut [u8], at: usize, material: &[u8], tag: u8, string: 
     requires { ⌜ Room (now out) at (octetsOf (leaf tag (octetsIn (now material) string))) ⌝ }
     ensures { λ r. ⌜ PutBack (now (out .entry)) at (octetsOf (leaf tag (octetsIn (now (material .entry)) string))) r (now (out .exit)) ⌝ }
 {
-    let octets = octets_of(material, string);
+    let octets = octets_of(string, material);
     back_leaf(out, at, tag, octets)
 }

@@ -12,6 +12,7 @@ ghost use Rattle.judging.specs.Forms.{infoForm, askedForm, dialogueForm, octets
 ghost use Rattle.write_portion.specs.Enclosed.{named, opened, Encloses, Enclosed};
 use base::back_three;
 use base::back_two;
+use judging::octets_of;
 use tcap::Diagnostic;
 use tcap::Dialogue;
 use tcap::OptionalSpan;
@@ -19,7 +20,6 @@ use tcap::Span;
 use write_head::back_head;
 use write_head::back_leaf;
 use write_head::back_string;
-use write_head::octets_of;
 
 // User information, BE.
 fn back_info(out: &mut [u8], at: usize, material: &[u8], info: OptionalSpan) -> usize
@@ -164,7 +164,7 @@ fn back_outside(
     ensures { λ r. ⌜ PutBack (now (out .entry)) at (octetsOf (external (octetsIn (now (material .entry)) name) (leaf tag (octetsIn (now (material .entry)) string)))) r (now (out .exit)) ⌝ }
 {
     let next = back_string(out, at, material, tag, string);
-    let octets = octets_of(material, name);
+    let octets = octets_of(name, material);
     back_naming(out, next, at, octets)
 }
 

@@ -19,7 +19,7 @@ use Rattle.layout.specs.Layout.{isProblemTag, problemIn}
 use Rattle.write_head.proofs.Heads.{room-inside}
 use Rattle.write_head.proofs.Lengths.{octet-octets}
 use Rattle.write_head.proofs.Integers.{small-parts}
-use Rattle.write_row.specs.Rest.{restForm}
+use Rattle.judging.specs.Forms.{restForm}
 
 -- an octet for a number of eight bits is the number's one octet
 pub signed-parts : (tag n : ℕ) → n < 256 → octetsOf (integer tag (signedAt (topOf 1) n)) ≡ tag ∷ 1 ∷ n ∷ []

@@ -8,7 +8,7 @@ ghost use Rattle.element.specs.Form.{then, seriesForm};
 ghost use Rattle.judging.specs.Verdict.{every, optionLies, codeLies, returnedLies, rowLies};
 ghost use Rattle.judging.specs.Forms.{idForm, linkedForm, codeForm, parameterForm, returnedForm, rowForm, octetsOf};
 ghost use Rattle.layout.specs.Layout.{idIn, linkedIn, codeAt, parameterAt, returnedIn, isKind, kindIn, isRow, rowIn, areRows, rowsIn};
-ghost use Rattle.write_row.specs.Rest.{restForm};
+ghost use Rattle.judging.specs.Forms.{restForm};
 use base::after;
 use base::back_three;
 use base::back_two;

@@ -15,8 +15,8 @@ returns-2 : tie.Need-returns-2
 unfolding shortStop
 returns-2 c = search tests
 
-cast-n : tie.Need-cast-n
-cast-n c = omega (arith, c .shared-slice-known2 .given (c .before .before .before .before .args .at + 1))
+cast-b : tie.Need-cast-b
+cast-b c = omega (arith, c .shared-slice-known2 .given (c .before .before .before .before .args .at + 1))
 
 returns-3 : tie.Need-returns-3
 unfolding shortStop
@@ -44,7 +44,7 @@ short-stop-spec =
     returns-2
     (λ c. search needs)
     (λ c. search needs)
-    cast-n
+    cast-b
     (λ c. search needs)
     returns-3
     returns-4
