@@ -6,7 +6,7 @@ pub mod Walker
 pub mod Shortest
 pub mod Integers
 pub mod Reading
-pub mod Short
+pub mod Views
 pub mod Whole
 pub mod Walking
 pub mod Moved

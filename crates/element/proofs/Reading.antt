@@ -1,27 +1,27 @@
 -- What the readers of a front answer, from what their code was told on the way, and how many octets they take.
 -- Assumes nothing.
 use Prim.Native.Nat.{ℕ, _+_, _-_, _*_, _/_, _≤_, _<_}
-use mathlib.Core.Path.{_≡_, refl, ap, _∙_}
+use mathlib.Core.Path.{_≡_, refl, ap}
 use mathlib.Core.Logic.{inl, inr}
 use mathlib.Core.Bool.{Bool, true, false, cond, not}
 use mathlib.Core.List.{List, [], _∷_}
 use native.Mathlib.Omega.{arith}
 use native.Mathlib.Numerals.{add-one}
 use native.Mathlib.Nat.{le-refl}
-use lib.ListN.{length, getD, take, drop, length-append, length-take, length-drop, drop-of-length-le}
+use lib.ListN.{length, getD, take, drop, length-append, length-take, drop-of-length-le}
 use lib.Seq.{drop-cons}
 use lib.Dec.{ltb, eqb}
-use borrow.Author.Tests.{ltb-true, lt-ltb, le-ltb, le-leb, lt-leb, ne-eqb}
+use borrow.Author.Tests.{ltb-true, le-leb, lt-leb, ne-eqb}
 use Rattle.base.specs.Number.{numberFrom}
 use Rattle.base.proofs.Tests.{cond-all}
-use Rattle.element.specs.Form.{StandsFor, fewestOf}
+use Rattle.element.specs.Form.{StandsFor}
 use Rattle.element.specs.Element.{codeZero}
-use Rattle.element.specs.Head.{endOf, tagOf, within, longOf, lengthOf}
+use Rattle.element.specs.Head.{endOf, tagOf, within, lengthOf}
 use Rattle.element.specs.Fault.{at}
-use Rattle.element.specs.Ask.{Got, bad, check, Body, askTag, askEnd, ask}
+use Rattle.element.specs.Ask.{Got, bad, check, Body, askTag}
 use Rattle.element.specs.Answers.{fronted, frontOf}
 use Rattle.element.specs.declared.FaultKind.{FaultKind}
-use Rattle.element.specs.declared.FaultKind.the-variants.{PassesEnd, CodeZero, TooDeep, Seventeenth}
+use Rattle.element.specs.declared.FaultKind.the-variants.{PassesEnd, CodeZero, TooDeep}
 use Rattle.element.specs.declared.EndRead.{EndRead}
 use Rattle.element.specs.declared.EndRead.the-variants.{Ended, Unfinished, More}
 use Rattle.element.specs.declared.TagRead.{TagRead}
@@ -78,34 +78,7 @@ module _ (xs : List ℕ) (v i : ℕ) where
     unfolding within
     count-past h g = rw (number-end h, lt-leb v room g)
 
--- a length in more octets than one
-pub length-long : (p q : List ℕ) (c f : Bool) (r : LengthRead) → (length p ≡ 0 → ⊥) → 128 ≤ getD p 0 0 → getD p 0 0 < 255 → (getD p 0 0 ≡ 128 → ⊥) → getD p 0 0 - 128 ≤ length p - 1
-    → f ≡ fewestOf (getD p 1 0) (getD p 0 0 - 128) → f ≡ true → q ≡ take (getD p 0 0 - 128) (drop 1 p) → r ≡ within (getD p 0 0 - 128 + 1) (numberFrom 0 q) (length p - 1 - (getD p 0 0 - 128)) → r ≡ lengthOf p c
-unfolding lengthOf longOf
-length-long p q c f r some long least most fits few told is is-count =
-    is-count ∙ rw (is, add-one, ne-eqb (length p) 0 some, le-ltb (getD p 0 0) 128 long, lt-leb 255 (getD p 0 0) least, ne-eqb (getD p 0 0) 128 most, le-ltb (length p - 1) (getD p 0 0 - 128) fits, ← few, told)
-
--- Tag, code 0 and level
-
-module _ (left : ℕ) (p : List ℕ) (t : TagRead) (is : t ≡ tagOf p) where
-  pub front-fault : (k : FaultKind) → t ≡ tagFault k → tagFault k ≡ frontOf left p
-  unfolding frontOf fronted
-  front-fault k e = rw (← is, e)
-
-  module _ (a s : ℕ) (e : t ≡ Tag a s) (z : Bool) (zero-is : z ≡ codeZero a) where
-    pub front-zero : z ≡ true → tagFault CodeZero ≡ frontOf left p
-    unfolding frontOf fronted
-    front-zero h = rw (← is, e, ← zero-is, h)
-
-    pub front-deep : z ≡ false → left ≡ 0 → tagFault TooDeep ≡ frontOf left p
-    unfolding frontOf fronted
-    front-deep h l = rw (← is, e, ← zero-is, h, le-ltb 0 left (omega arith))
-
-    pub front-tag : z ≡ false → (left ≡ 0 → ⊥) → Tag a s ≡ frontOf left p
-    unfolding frontOf fronted
-    front-tag h l = rw (← is, e, ← zero-is, h, lt-ltb 0 left (omega arith))
-
--- and what a front that is no fault says
+-- Tag, code 0 and level: what a front that is no fault says
 unfoldable pub FrontIs : ℕ → List ℕ → TagRead → Type 0
 FrontIs left p (tagFault k) = Unit {0}
 FrontIs left p (Tag a s) = (tagOf p ≡ Tag a s) × (codeZero a ≡ false) × (ltb 0 left ≡ true)
@@ -135,10 +108,6 @@ front-refused {A} b d p part k e = by-tag (tagOf part) e
     by-tag (tagFault j) e = let q : j ≡ k = cc in rw q
     by-tag (Tag a s) e = by-tests a s (codeZero a) (ltb 0 (b .left)) _ e
 
-pub ask-front : {A : Type 0} (b : Body A) (d : Bool) (p : ℕ) (part : List ℕ) (k : FaultKind) → endOf d part ≡ More → b .full ≡ false → frontOf (b .left) part ≡ tagFault k → ask b d p part ≡ bad (b .owner (at k p))
-unfolding ask askEnd check
-ask-front b d p part k m f e = rw m (ap (λ (x : Bool). check (not x) (at Seventeenth p) (askTag b d p part (tagOf part))) f ∙ front-refused b d p part k e)
-
 -- How many octets each takes
 
 pub tag-size : (p : List ℕ) (a s : ℕ) → tagOf p ≡ Tag a s → (1 ≤ s) × (s ≤ length p)
@@ -146,6 +115,11 @@ unfolding TagIs
 tag-size p a s e =
     let (x, r, q, i, z) : TagIs p (Tag a s) = rw e at (tag-sound p) in
     omega (arith, z, ap length q, length-append (a ∷ x) r)
+
+-- a tag is read from its first octet
+pub tag-first : (p : List ℕ) (a s : ℕ) → tagOf p ≡ Tag a s → getD p 0 0 ≡ a
+unfolding TagIs
+tag-first p a s e = let (x, r, q, i, z) : TagIs p (Tag a s) = rw e at (tag-sound p) in rw q
 
 pub front-size : (left : ℕ) (p : List ℕ) (a s : ℕ) (t : TagRead) → t ≡ frontOf left p → t ≡ Tag a s → (1 ≤ s) × (s ≤ length p) × (1 ≤ left)
 unfolding FrontIs
@@ -169,11 +143,3 @@ unfolding LengthIs
 indefinite-size q c r is e =
     let (z, (l, f)) : LengthIs q c Indefinite = rw (← is, e) at (length-sound q c) in
     (omega (arith, ap length f), z)
-
--- and both together: the contents are within the part
-module _ (left : ℕ) (p q : List ℕ) (a s : ℕ) (t : TagRead) (c : Bool) (r : LengthRead) (is : t ≡ frontOf left p) (tag : t ≡ Tag a s) (is-rest : q ≡ drop s p) (is-length : r ≡ lengthOf q c) where
-  pub definite-room : (k n : ℕ) → r ≡ Definite k n → (1 ≤ left) × (1 ≤ s) × (s + k + n ≤ length p)
-  definite-room k n e = omega (arith, front-size left p a s t is tag, definite-size q c k n r is-length e, ap length is-rest, length-drop s p)
-
-  pub indefinite-room : r ≡ Indefinite → (1 ≤ left) × (1 ≤ s) × (s + 1 ≤ length p)
-  indefinite-room e = omega (arith, front-size left p a s t is tag, indefinite-size q c r is-length e .0, ap length is-rest, length-drop s p)

@@ -2,7 +2,7 @@
 -- Assumes nothing.
 use Prim.Native.Nat.{ℕ, zero, suc, _+_, _-_, _≤_}
 use mathlib.Core.Path.{_≡_, refl, sym, ap, _∙_}
-use mathlib.Core.Bool.{Bool, true, false, not, cond, false≢true}
+use mathlib.Core.Bool.{Bool, true, false, not, false≢true}
 use mathlib.Core.List.{List, [], _∷_}
 use mathlib.Core.Option.{Option, none, some}
 use native.Mathlib.Omega.{arith}
@@ -10,14 +10,14 @@ use native.Mathlib.Nat.{add-zero, zero-add, add-assoc}
 use native.Mathlib.Numerals.{sub-one}
 use lib.ListN.{length, take, drop, length-drop, length-take}
 use lib.Seq.{drop-drop}
-use lib.Dec.{ltb, eqb}
+use lib.Dec.{ltb}
 use Rattle.element.specs.Element.{constructorOf, codeZero}
 use Rattle.element.specs.Fault.{fault, at, Text}
 use Rattle.element.specs.Head.{endOf, tagOf, lengthOf}
 use Rattle.element.specs.Ask.{Got, got, bad, next, check, blamed, Size, definite, indefinite, Head, head, Body, askLength, askTag, askEnd, ask}
 use Rattle.element.specs.Parts.{level, leafContents, inside, place, onward, silently, seriesBody}
 use Rattle.element.specs.Walk.{walkPick, walkContents}
-use Rattle.element.specs.Answers.{frontOf, wantedItem, another, walkOf, elementWalk, seriesWalk}
+use Rattle.element.specs.Answers.{frontOf, wantedItem, walkOf, elementWalk, seriesWalk}
 use Rattle.element.specs.declared.FaultKind.{FaultKind}
 use Rattle.element.specs.declared.FaultKind.the-variants.{CutOff, BadLength, TooDeep, CodeZero, Another}
 use Rattle.element.specs.declared.EndRead.{EndRead}
@@ -177,78 +177,51 @@ contents-walk zero h a u z p part = absurd (false≢true h)
 contents-walk (suc l) h a u z p part =
     rw (sub-one (suc l)) (pick-walk (λ n. wantedBodies 0 l n 0) (seriesWalk 0 l) (λ n d p part h. enough 0 l n (length part) 0 0 d p part h (omega arith)) (constructorOf a) a u z p part)
 
--- What `walk_element` answers
+-- One element of any tag
 
-pub element-fault : (t l p : ℕ) (part : List ℕ) (r : TagRead) → r ≡ frontOf l part → (k : FaultKind) → r ≡ tagFault k → walkFault k p ≡ elementWalk t l p part
+pub element-fault : (l p : ℕ) (part : List ℕ) (k : FaultKind) → tagFault k ≡ frontOf l part → walkFault k p ≡ elementWalk 0 l p part
 unfolding elementWalk walkOf
-element-fault t l p part r is k e = rw (front-refused (wantedBody t l) true p part k (sym is ∙ e))
+element-fault l p part k e = rw (front-refused (wantedBody 0 l) true p part k (sym e))
 
-module _ (t l p : ℕ) (part : List ℕ) (a s : ℕ) (r : TagRead) (is : r ≡ frontOf l part) (tag : r ≡ Tag a s) (w : Bool) (is-w : w ≡ another t a) where
-  mine-is : wantedItem t l .mine a ≡ not w
-  unfolding wantedTag another FrontIs
-  mine-is = rw (wanted-is t l, is-w, front-says l part a s r is tag .1) (by-tests (eqb t 0) (eqb a t))
-    where
-      by-tests : (b c : Bool) → cond b true c ≡ not (cond b false (not c))
-      by-tests true c = refl
-      by-tests false true = refl
-      by-tests false false = refl
+-- its tag takes s octets, and behind them stands q
+module _ (l p : ℕ) (part : List ℕ) (a s : ℕ) (tag : Tag a s ≡ frontOf l part) (q : List ℕ) (c : Bool) (is-rest : q ≡ drop s part) (is-c : c ≡ constructorOf a) where
+  opened : (n : LengthRead) → n ≡ lengthOf q c → elementWalk 0 l p part ≡ walkOf (askLength (wantedBody 0 l) true p part a s n)
+  unfolding elementWalk askTag check FrontIs wantedTag
+  opened n is-n = let (e, z, d) : FrontIs l part (Tag a s) = front-says l part a s (Tag a s) tag refl in rw (e, z, d, wanted-is 0 l, z, is-n, is-rest, is-c)
 
-  pub element-other : w ≡ true → walkFault Another p ≡ elementWalk t l p part
-  unfolding elementWalk askTag check walkOf FrontIs
-  element-other o = let (e, z, d) : FrontIs l part (Tag a s) = front-says l part a s r is tag in rw (e, z, d, mine-is, o)
+  contents-of : (u : ℕ) (z : Size) → walkOf (wantedItem 0 l .contents (head a u z) p part) ≡ contentsWalk c (seriesWalk 0 (l - 1)) u z p part
+  unfolding FrontIs
+  contents-of u z = let (e, y, d) : FrontIs l part (Tag a s) = front-says l part a s (Tag a s) tag refl in rw (wanted-is 0 l, is-c) (contents-walk l d a u z p part)
 
-  module _ (q : List ℕ) (c : Bool) (n : LengthRead) (mine : w ≡ false) (is-rest : q ≡ drop s part) (is-c : c ≡ constructorOf a) (is-n : n ≡ lengthOf q c) where
-    opened : elementWalk t l p part ≡ walkOf (askLength (wantedBody t l) true p part a s n)
-    unfolding elementWalk askTag check FrontIs
-    opened = let (e, z, d) : FrontIs l part (Tag a s) = front-says l part a s r is tag in rw (e, z, d, mine-is, mine, is-n, is-rest, is-c)
+  pub element-length : (k : FaultKind) → lengthFault k ≡ lengthOf q c → walkFault k p ≡ elementWalk 0 l p part
+  unfolding askLength walkOf
+  element-length k e = rw (opened (lengthFault k) e)
 
-    pub element-length : (k : FaultKind) → n ≡ lengthFault k → walkFault k p ≡ elementWalk t l p part
-    unfolding askLength walkOf
-    element-length k e = rw (opened, e)
-
-    contents-of : (u : ℕ) (z : Size) → walkOf (wantedItem t l .contents (head a u z) p part) ≡ contentsWalk c (seriesWalk 0 (l - 1)) u z p part
-    unfolding FrontIs
-    contents-of u z = let (e, y, d) : FrontIs l part (Tag a s) = front-says l part a s r is tag in rw (wanted-is t l, is-c) (contents-walk l d a u z p part)
-
-    definite-is : (k m : ℕ) → n ≡ Definite k m → elementWalk t l p part ≡ contentsWalk c (seriesWalk 0 (l - 1)) (s + k) (definite m) p part
+  module _ (k n : ℕ) (len : Definite k n ≡ lengthOf q c) where
+    definite-is : elementWalk 0 l p part ≡ contentsWalk c (seriesWalk 0 (l - 1)) (s + k) (definite n) p part
     unfolding askLength
-    definite-is k m e = opened ∙ rw e (contents-of (s + k) (definite m))
+    definite-is = opened (Definite k n) len ∙ contents-of (s + k) (definite n)
 
-    indefinite-is : n ≡ Indefinite → elementWalk t l p part ≡ contentsWalk c (seriesWalk 0 (l - 1)) (s + 1) indefinite p part
-    unfolding askLength
-    indefinite-is e = opened ∙ rw e (contents-of (s + 1) indefinite)
-
-    pub element-primitive : (k m : ℕ) → n ≡ Definite k m → c ≡ false → Whole (s + k + m) ≡ elementWalk t l p part
+    pub element-primitive : c ≡ false → Whole (s + k + n) ≡ elementWalk 0 l p part
     unfolding contentsWalk
-    element-primitive k m e f = rw (definite-is k m e, f)
+    element-primitive f = rw (definite-is, f)
 
-    module _ (i : Walk) (inner : List ℕ) where
-      module _ (k m : ℕ) (e : n ≡ Definite k m) (f : c ≡ true) (is-inner : inner ≡ take m (drop (s + k) part)) (is-i : i ≡ seriesWalk 0 (l - 1) true (p + (s + k)) inner) where
-        pub element-definite-fault : (j : FaultKind) (found : ℕ) → i ≡ walkFault j found → walkFault j found ≡ elementWalk t l p part
-        unfolding contentsWalk thenWalk
-        element-definite-fault j found g = rw (definite-is k m e, f, ← is-inner, ← is-i, g)
+    pub element-definite : c ≡ true → elementWalk 0 l p part ≡ thenWalk (seriesWalk 0 (l - 1) true (p + (s + k)) (take n (drop (s + k) part))) (λ j. Whole (s + k + n))
+    unfolding contentsWalk
+    element-definite f = rw (definite-is, f)
 
-        pub element-definite : (j : ℕ) → i ≡ Whole j → Whole (s + k + m) ≡ elementWalk t l p part
-        unfolding contentsWalk thenWalk
-        element-definite j g = rw (definite-is k m e, f, ← is-inner, ← is-i, g)
+  pub element-indefinite : Indefinite ≡ lengthOf q c → elementWalk 0 l p part ≡ thenWalk (seriesWalk 0 (l - 1) false (p + (s + 1)) (drop (s + 1) part)) (λ j. Whole (s + 1 + (j + 2)))
+  unfolding askLength contentsWalk
+  element-indefinite e = opened Indefinite e ∙ contents-of (s + 1) indefinite ∙ rw (indefinite-size q c Indefinite e refl .1)
 
-      module _ (e : n ≡ Indefinite) (is-inner : inner ≡ drop (s + 1) part) (is-i : i ≡ seriesWalk 0 (l - 1) false (p + (s + 1)) inner) where
-        pub element-indefinite-fault : (j : FaultKind) (found : ℕ) → i ≡ walkFault j found → walkFault j found ≡ elementWalk t l p part
-        unfolding contentsWalk thenWalk
-        element-indefinite-fault j found g = rw (indefinite-is e, indefinite-size q c n is-n e .1, ← is-inner, ← is-i, g)
+-- A series of which `at` octets are walked
 
-        pub element-indefinite : (j : ℕ) → i ≡ Whole j → Whole (s + 1 + (j + 2)) ≡ elementWalk t l p part
-        unfolding contentsWalk thenWalk
-        element-indefinite j g = rw (indefinite-is e, indefinite-size q c n is-n e .1, ← is-inner, ← is-i, g)
-
--- What `walk_series` answers, whose loop has walked `at` octets
-
-grown-zero : (w : Walk) → grown 0 w ≡ w
+pub grown-zero : (w : Walk) → grown 0 w ≡ w
 unfolding grown
 grown-zero (walkFault k p) = refl
 grown-zero (Whole m) = ap (λ (k : ℕ). Whole k) (zero-add m)
 
-grown-grown : (j k : ℕ) (w : Walk) → grown j (grown k w) ≡ grown (j + k) w
+pub grown-grown : (j k : ℕ) (w : Walk) → grown j (grown k w) ≡ grown (j + k) w
 unfolding grown
 grown-grown j k (walkFault n p) = refl
 grown-grown j k (Whole m) = ap (λ (k : ℕ). Whole k) (sym (add-assoc j k m))
@@ -264,10 +237,6 @@ module _ (t l : ℕ) (d : Bool) (p : ℕ) (part : List ℕ) (at : ℕ) (q : List
   pub loop-ended : e ≡ Ended → Whole at ≡ seriesWalk t l d p part
   unfolding Left grown
   loop-ended f = rw (inv, ← is-rest, series-ended t l d (p + at) q (sym is ∙ f), add-zero at)
-
-  pub loop-unfinished : e ≡ Unfinished → walkFault CutOff (p + at) ≡ seriesWalk t l d p part
-  unfolding Left grown
-  loop-unfinished f = rw (inv, ← is-rest, series-unfinished t l d (p + at) q (sym is ∙ f))
 
   module _ (more : e ≡ More) (w : Walk) (again : List ℕ) (is-again : again ≡ drop at part) (is-first : w ≡ elementWalk t l (p + at) again) where
     one-more : seriesWalk t l d p part ≡ grown at (thenWalk w (λ n. grown n (seriesWalk t l d (p + at + n) (drop n q))))

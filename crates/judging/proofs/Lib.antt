@@ -2,3 +2,4 @@ pub mod Joining
 pub mod Leaves
 pub mod Rows
 pub mod Listed
+pub mod Shapes

@@ -3,9 +3,9 @@
 use Prim.Native.Nat.{ℕ, suc, _+_, min, max}
 use mathlib.Core.{Bool.Bool, Bool.true, Bool.cond, Bool._&&_, List.List}
 use lib.{ListN.length, Dec.leb, Dec.eqb}
-use Rattle.element.specs.{declared.Walk.Walk, Form.Form, Form.then, Form.seriesForm, Form.lengthOctets, Form.shortest, Form.document01}
+use Rattle.element.specs.{Form.Form, Form.then, Form.seriesForm, Form.lengthOctets, Form.shortest, Form.document01}
 use Rattle.tcap.specs.{declared.Span.Span, declared.OptionalSpan.OptionalSpan, declared.Code.Code, declared.Problem.Problem, declared.Returned.Returned, declared.ComponentKind.ComponentKind, declared.Row.Row, Meaning.problemForm, WellFormed.mostOctets}
-use Rattle.judging.specs.{declared.Judged.Judged, Verdict.every, Verdict.rowPartsFit, Verdict.ranges, Verdict.nameRanges, Verdict.codeRanges, Verdict.problemRanges, Verdict.returnedRanges, Verdict.rowRanges, Verdict.lies, Verdict.optionLies, Verdict.codeLies, Verdict.returnedLies, Verdict.rowLies, Verdict.tookAll, Verdict.isElement, Verdict.isSeries, Verdict.octetsIn, Verdict.nameShaped, Verdict.parameterShaped, Verdict.codeShaped, Verdict.returnedShaped, Verdict.rowShaped, Forms.codeForm, Forms.parameterForm, Forms.returnedForm, Forms.restForm, Forms.rowForm}
+use Rattle.judging.specs.{declared.Judged.Judged, Verdict.every, Verdict.rowPartsFit, Verdict.ranges, Verdict.nameRanges, Verdict.codeRanges, Verdict.problemRanges, Verdict.returnedRanges, Verdict.rowRanges, Verdict.lies, Verdict.optionLies, Verdict.codeLies, Verdict.returnedLies, Verdict.rowLies, Verdict.isElement, Verdict.isSeries, Verdict.octetsIn, Verdict.nameShaped, Verdict.parameterShaped, Verdict.codeShaped, Verdict.returnedShaped, Verdict.rowShaped, Forms.codeForm, Forms.parameterForm, Forms.returnedForm, Forms.restForm, Forms.rowForm}
 
 -- the worst of a part by the four tests, in the order of document 01: 4 for 24, 3 for 23, 2 for 21, 1 for 22, and 0 for none
 unfoldable pub rankOf : Bool → Bool → Bool → Bool → ℕ
@@ -40,10 +40,7 @@ wrapped (Judged.Bad k) = Judged.Bad k
 abbrev pub sizeOf : Form → ℕ
 sizeOf f = length (shortest document01 f)
 
--- octets that a walk took or not; one octet of 0 to `most`
-abbrev pub walkJudged : Walk → ℕ → Judged
-walkJudged w n = judged (rankOf true true true (tookAll w n)) n
-
+-- one octet of 0 to `most`
 abbrev pub octetJudged : ℕ → ℕ → Judged
 octetJudged x most = judged (rankOf true (leb x most) true true) 3
 

@@ -5,14 +5,12 @@ ghost use mathlib.Core.Path.{_≡_};
 ghost use mathlib.Core.Bool.{true};
 ghost use Prim.Native.Nat.{_+_, min, max};
 ghost use lib.ListN.{length};
-ghost use Rattle.judging.specs.Verdict.{lies, octetsIn};
-ghost use Rattle.judging.specs.Judged.{sizeCap, joined, wrapped, walkJudged, octetJudged, octetsJudged, sizedJudged, nameJudged, elementJudged, seriesJudged};
+ghost use Rattle.judging.specs.Verdict.{lies, isElement, isSeries, octetsIn};
+ghost use Rattle.judging.specs.Judged.{sizeCap, joined, wrapped, octetJudged, octetsJudged, sizedJudged, nameJudged, elementJudged, seriesJudged};
 use base::piece;
-use element::Walk;
-use element::walk_element;
-use element::walk_series;
 use primitive::identifier_ok;
 use tcap::Span;
+use walk::whole_at;
 
 // The most octets that a message may have.
 pub const MOST_OCTETS: usize = 255;
@@ -144,19 +142,33 @@ pub fn name_judged(span: Span, material: &[u8]) -> Judged
     }
 }
 
-// Whether a walk took all `len` octets.
-fn walk_judged(walk: Walk, len: usize) -> Judged
-    ensures { λ r. ⌜ r ≡ walkJudged walk len ⌝ }
+// Whether octets are just one element, for which `left` levels are left.
+fn is_element(octets: &[u8], left: usize) -> bool
+    ensures { λ r. ⌜ r ≡ isElement left (now (octets .entry)) ⌝ }
 {
-    match walk {
-        Walk::Fault { kind, place } => Judged::Bad(1),
-        Walk::Whole { size } => {
-            if size != len {
-                return Judged::Bad(1);
-            }
-            Judged::Fine(capped(len))
-        }
+    let end = whole_at(octets, 0, octets.len(), left);
+    if end == 0 {
+        return false;
     }
+    end == octets.len()
+}
+
+// Whether they are a series of 28.
+fn is_series(octets: &[u8], left: usize) -> bool
+    ensures { λ r. ⌜ r ≡ isSeries left (now (octets .entry)) ⌝ }
+{
+    let mut at: usize = 0;
+    while at < octets.len() {
+        if octets[at] != 0x28 {
+            return false;
+        }
+        let r = whole_at(octets, at, octets.len(), left);
+        if r == 0 {
+            return false;
+        }
+        at = r;
+    }
+    true
 }
 
 // Just one element, for which `left` levels are left.
@@ -167,7 +179,10 @@ pub fn element_judged(span: Span, material: &[u8], left: usize) -> Judged
         return Judged::Bad(2);
     }
     let octets = octets_of(span, material);
-    walk_judged(walk_element(octets, 0, left, 0), octets.len())
+    if !is_element(octets, left) {
+        return Judged::Bad(1);
+    }
+    Judged::Fine(capped(octets.len()))
 }
 
 // A series of 28.
@@ -178,7 +193,10 @@ pub fn series_judged(span: Span, material: &[u8], left: usize) -> Judged
         return Judged::Bad(2);
     }
     let octets = octets_of(span, material);
-    walk_judged(walk_series(octets, 0, left, 0x28, true), octets.len())
+    if !is_series(octets, left) {
+        return Judged::Bad(1);
+    }
+    Judged::Fine(capped(octets.len()))
 }
 
 // An element of one octet, 0 to `most`.

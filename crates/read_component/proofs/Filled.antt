@@ -15,6 +15,7 @@ use Rattle.element.specs.Head.{endOf}
 use Rattle.element.specs.Ask.{Got, got, bad, ask}
 use Rattle.element.specs.Parts.{onward, seriesBody}
 use Rattle.element.proofs.Asking.{Then, fact, void, the-fact, then-next, then-blamed, ask-sound}
+use Rattle.element.proofs.Views.{span-drop}
 use Rattle.tcap.specs.declared.Ground.{Ground}
 use Rattle.tcap.specs.Meaning.{Component}
 use Rattle.tcap.specs.Reading.{byOwner, answerFor}
@@ -24,7 +25,6 @@ use Rattle.read_place.specs.Places.{Far, Near, until, finite, part, Placed, Clo
 use Rattle.read_place.specs.Leaves.{Left, LeavesAll, untold}
 use Rattle.read_place.specs.Laying.{layComponent, layRow, layRows, layComponents}
 use Rattle.read_place.specs.Blames.{ownerIn, idIn, Blames}
-use Rattle.read_place.proofs.Views.{span-drop}
 use Rattle.read_place.proofs.Answers.{far-fault}
 use Rattle.read_place.proofs.Fronts.{ended-is}
 use Rattle.read_place.proofs.Leaves.{left-where, left-next, left-near}

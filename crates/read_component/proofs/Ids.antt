@@ -17,17 +17,17 @@ use Rattle.element.specs.declared.EndRead.{EndRead}
 use Rattle.element.specs.declared.TagRead.{TagRead}
 use Rattle.element.specs.declared.LengthRead.{LengthRead}
 use Rattle.element.specs.Head.{endOf, lengthOf}
-use Rattle.element.specs.Answers.{frontOf}
+use Rattle.element.specs.Answers.{frontOf, lengthSize}
 use Rattle.element.proofs.Reading.{definite-size}
 use Rattle.element.specs.Fault.{Fault, fault, Text, withInvokeId}
 use Rattle.element.specs.Ask.{Got, got, bad, next, check, blamed, Body, askLength, atEnd, ask}
 use Rattle.element.specs.Parts.{Item, Where, firstOf, level, leafItem, mapItem, aroundItem, integerItem, optBody, lastBody, onlyBody, bindBody, mapBody}
 use Rattle.element.proofs.Asking.{Then, fact, void, then-next, then-blamed, ask-sound}
+use Rattle.element.proofs.Views.{span-length, span-get}
 use Rattle.tcap.specs.Meaning.{last, notLast, reject}
 use Rattle.tcap.specs.WellFormed.{the93}
 use Rattle.tcap.specs.Productions.{idItem, idOrNullItem, problemItem, codeBody, bothItem, invokeBody, resultBody, errorBody, componentItem, noted}
-use Rattle.read_place.specs.Places.{Far, Near, until, finite, part, front, Placed, Reads, standsOf, entryPlace, lengthPlace, lengthSize}
-use Rattle.read_place.proofs.Views.{span-length, span-get}
+use Rattle.read_place.specs.Places.{Far, Near, until, finite, part, front, Placed, Reads, standsOf, entryPlace, lengthPlace}
 use Rattle.read_place.proofs.Answers.{placed-near}
 use Rattle.read_place.proofs.Values.{placed-got}
 use Rattle.read_place.proofs.Fronts.{byFront, ask-front}

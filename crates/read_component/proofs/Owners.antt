@@ -18,11 +18,11 @@ use Rattle.element.specs.Head.{endOf, lengthOf}
 use Rattle.element.specs.Answers.{frontOf}
 use Rattle.element.specs.Ask.{Got, got, bad, next, check, blamed, definite, indefinite, head, askLength, ask}
 use Rattle.element.specs.Parts.{Item, Where, level}
+use Rattle.element.proofs.Views.{span-drop}
 use Rattle.tcap.specs.Meaning.{Component}
 use Rattle.tcap.specs.WellFormed.{the93}
 use Rattle.tcap.specs.Productions.{componentAt, componentItem}
 use Rattle.read_place.specs.Places.{Far, Near, until, finite, part, front, Placed, endedOf, unfinishedOf}
-use Rattle.read_place.proofs.Views.{span-drop}
 use Rattle.read_place.proofs.Answers.{far-fault}
 use Rattle.read_place.proofs.Fronts.{byFront, ask-front, ended-is, more-here}
 use Rattle.read_place.proofs.Walks.{unfinished-is}

@@ -13,11 +13,11 @@ use Rattle.element.specs.Fault.{fault, Text, at, inComponent}
 use Rattle.element.specs.Head.{endOf}
 use Rattle.element.specs.Ask.{Got, got, bad, next, check, blamed, atEnd, askEnd, ask}
 use Rattle.element.specs.Parts.{Item, Where, onward, silently, seriesBody}
+use Rattle.element.proofs.Views.{span-drop, endBy, end-view}
 use Rattle.tcap.specs.Meaning.{Component}
 use Rattle.tcap.specs.WellFormed.{the93}
 use Rattle.tcap.specs.Productions.{componentAt, componentItem}
 use Rattle.read_place.specs.Places.{Far, Near, until, finite, part, faultPlace, base, front, Placed, Closing, Finishes, endedOf, unfinishedOf, behindOf, cutOff, missing, seventeenth}
-use Rattle.read_place.proofs.Views.{span-drop, endBy, end-view}
 use Rattle.read_place.proofs.Answers.{Keeps, placed-near, close-far, close-near, closing-rest}
 use Rattle.read_place.proofs.Fronts.{ended-is, not-ended, more-here, shut-here}
 use Rattle.read_place.proofs.Walks.{unfinished-is}

@@ -12,10 +12,10 @@ use Rattle.element.specs.declared.FaultKind.{FaultKind}
 use Rattle.element.specs.Ask.{Head, ask}
 use Rattle.element.specs.Parts.{Where, level, firstOf, integerItem}
 use Rattle.element.proofs.Asking.{Then, fact, then-next, then-blamed, HeadOf, finite as finite-head, unended, ask-sound}
+use Rattle.element.proofs.Views.{span-take}
+use Rattle.element.proofs.Reading.{tag-first}
 use Rattle.read_place.specs.Places.{part, finite, Placed, front, Reads, until, Near}
-use Rattle.read_place.proofs.Views.{span-take}
 use Rattle.read_place.proofs.Answers.{placed-near}
-use Rattle.read_place.proofs.Fronts.{tag-first}
 use Rattle.read_place.proofs.Bodies.{placed-where}
 use Rattle.read_place.proofs.Values.{leaf-stood}
 use Rattle.read_field.proofs.Fields.{integer-sized}

@@ -15,17 +15,17 @@ use Rattle.element.specs.declared.LengthRead.{LengthRead}
 use Rattle.element.specs.Element.{constructorOf}
 use Rattle.element.specs.Fault.{Fault, Text, at}
 use Rattle.element.specs.Head.{endOf, lengthOf}
-use Rattle.element.specs.Answers.{frontOf}
+use Rattle.element.specs.Answers.{frontOf, lengthSize}
 use Rattle.element.specs.Ask.{Got, got, bad, next, check, blamed, Head, definite, indefinite, head, Body, askLength, atEnd, ask}
 use Rattle.element.specs.Parts.{Item, Where, level, place, inside, aroundItem, keptItem, mapItem, bindBody, silently, onlyBody, mapBody}
 use Rattle.element.proofs.Reading.{definite-size, indefinite-size}
-use Rattle.read_place.specs.Places.{Far, Near, until, finite, part, front, Placed, Closed, nothing, Reads, Finishes, Leads, entryPlace, lengthPlace, lengthSize, opening}
-use Rattle.read_place.proofs.Views.{span-length, span-get, span-drop}
+use Rattle.element.proofs.Views.{span-length, span-get, span-drop, SizeIs, length-sized}
+use Rattle.read_place.specs.Places.{Far, Near, until, finite, part, front, Placed, Closed, nothing, Reads, Finishes, Leads, entryPlace, lengthPlace, opening}
 use Rattle.read_place.proofs.Answers.{Keeps, far, close-near, closing-blamed, closing-rest}
 use Rattle.read_place.proofs.Fronts.{byFront, ask-front}
 use Rattle.read_place.proofs.Onto.{ask-bind, ask-only, ask-map}
 use Rattle.read_place.proofs.Bodies.{placed-where, only-far, only-near}
-use Rattle.read_place.proofs.Items.{SizeIs, length-sized, Entered, entered, ask-entered, around-near}
+use Rattle.read_place.proofs.Items.{Entered, entered, ask-entered, around-near}
 use Rattle.read_place.proofs.Optional.{around-entry, around-read}
 use Rattle.read_field.proofs.Choices.{reads-map}
 

@@ -14,7 +14,7 @@ use Rattle.element.specs.declared.Walk.{Walk}
 use Rattle.element.specs.Element.{constructorOf, codeZero}
 use Rattle.element.specs.Fault.{Text, at}
 use Rattle.element.specs.Head.{endOf, lengthOf}
-use Rattle.element.specs.Answers.{frontOf, elementWalk}
+use Rattle.element.specs.Answers.{frontOf, elementWalk, lengthSize}
 use Rattle.element.specs.Ask.{Got, got, bad, next, check, blamed, Body, askLength, atEnd, askEnd, ask}
 use Rattle.element.specs.Parts.{level, onward, silently, keptItem, seriesBody}
 use Rattle.element.specs.Walk.{walkItem, walkTagItem}
@@ -22,8 +22,8 @@ use Rattle.element.proofs.Walking.{not-more}
 use Rattle.element.proofs.Whole.{element-size}
 use Rattle.tcap.specs.WellFormed.{the93}
 use Rattle.tcap.specs.Productions.{infoBody}
-use Rattle.read_place.specs.Places.{Far, Near, until, finite, part, base, faultPlace, front, Placed, Closing, nothing, Reads, Finishes, endedOf, behindOf, askedPlace, standsOf, wrongPlace, entryPlace, lengthSize, Walked, another}
-use Rattle.read_place.proofs.Views.{span-length, span-drop}
+use Rattle.element.proofs.Views.{span-length, span-drop}
+use Rattle.read_place.specs.Places.{Far, Near, until, finite, part, base, faultPlace, front, Placed, Closing, nothing, Reads, Finishes, endedOf, behindOf, askedPlace, standsOf, wrongPlace, entryPlace, Walked, another}
 use Rattle.read_place.proofs.Answers.{far, close-far, close-near, closing-rest}
 use Rattle.read_place.proofs.Fronts.{byFront, ask-front, ended-is, not-ended, shut-here, wrong-closed}
 use Rattle.read_place.proofs.Onto.{rest, blamed-same, ask-onto}

@@ -13,11 +13,11 @@ use Rattle.element.specs.declared.LengthRead.{LengthRead}
 use Rattle.element.specs.Element.{constructorOf}
 use Rattle.element.specs.Fault.{Fault, at}
 use Rattle.element.specs.Head.{endOf, lengthOf}
-use Rattle.element.specs.Answers.{frontOf}
+use Rattle.element.specs.Answers.{frontOf, lengthSize}
 use Rattle.element.specs.Ask.{Got, got, bad, check, blamed, Head, definite, indefinite, head, Body, askLength, atEnd, ask}
 use Rattle.element.specs.Parts.{Item, Where, level, done, aroundItem, mapItem, orItem, onlyBody, lastBody}
 use Rattle.element.proofs.Asking.{Then, fact, void, then-next, then-weaken, then-blamed}
-use Rattle.read_place.specs.Places.{Near, until, finite, part, front, Placed, Reads, Leads, entryPlace, lengthSize}
+use Rattle.read_place.specs.Places.{Near, until, finite, part, front, Placed, Reads, Leads, entryPlace}
 use Rattle.read_place.proofs.Answers.{Keeps}
 use Rattle.read_place.proofs.Fronts.{byFront, ask-front}
 use Rattle.read_place.proofs.Onto.{ask-only, ask-last-ended}

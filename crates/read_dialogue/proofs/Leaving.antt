@@ -10,11 +10,11 @@ use lib.Dec.{eqb, ltb}
 use Rattle.element.specs.declared.FaultKind.{FaultKind}
 use Rattle.element.specs.declared.TagRead.{TagRead}
 use Rattle.element.specs.Element.{constructorOf}
-use Rattle.element.specs.Answers.{frontOf}
+use Rattle.element.specs.Answers.{frontOf, lengthSize}
 use Rattle.element.specs.Ask.{Got, got, bad, next, Body}
 use Rattle.element.specs.Parts.{Item, Where, level, aroundItem, mapItem, orItem, onlyBody, optBody, mapBody}
 use Rattle.element.proofs.Asking.{Then, fact, void, then-next}
-use Rattle.read_place.specs.Places.{Near, until, finite, part, Placed, Reads, Leads, standsOf, entryPlace, lengthSize}
+use Rattle.read_place.specs.Places.{Near, until, finite, part, Placed, Reads, Leads, standsOf, entryPlace}
 use Rattle.read_place.specs.Laying.{layText, laySpan}
 use Rattle.read_place.specs.Leaves.{Left, Leaves, LeavesAll, untold, unlaid}
 use Rattle.read_place.proofs.Answers.{Keeps}

@@ -23,8 +23,9 @@ use Rattle.tcap.specs.Meaning.{Dialogue, single, octets, structured, unstructur
 use Rattle.tcap.specs.Names.{kindOf, nameKind}
 use Rattle.tcap.specs.WellFormed.{the93}
 use Rattle.tcap.specs.Productions.{nameItem, heldItem, externalBody, inside6B, dialogueItem}
-use Rattle.read_place.specs.Places.{Far, Near, until, faults, finite, part, faultPlace, front, Placed, nothing, Reads, Finishes, standsOf, entryPlace, badPlace, countOf, base, badContents, lengthPlace, lengthSize, Ready}
-use Rattle.read_place.proofs.Views.{span-length, span-take}
+use Rattle.element.specs.Answers.{lengthSize}
+use Rattle.element.proofs.Views.{span-length, span-take}
+use Rattle.read_place.specs.Places.{Far, Near, until, faults, finite, part, faultPlace, front, Placed, nothing, Reads, Finishes, standsOf, entryPlace, badPlace, countOf, base, badContents, lengthPlace, Ready}
 use Rattle.read_place.proofs.Answers.{Keeps, far, placed-near}
 use Rattle.read_place.proofs.Bodies.{placed-where, bind-far, only-far, only-near, map-closed}
 use Rattle.read_place.proofs.Items.{Entered, entered, ask-entered, entry-far, stands-only, stands-other}

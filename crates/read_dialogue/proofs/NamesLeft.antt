@@ -13,7 +13,7 @@ use Rattle.element.specs.declared.Walk.{Walk}
 use Rattle.element.specs.Element.{constructorOf}
 use Rattle.element.specs.Fault.{Text}
 use Rattle.element.specs.Head.{endOf, lengthOf}
-use Rattle.element.specs.Answers.{elementWalk}
+use Rattle.element.specs.Answers.{elementWalk, lengthSize}
 use Rattle.element.specs.Ask.{Got, got, bad, next, ask}
 use Rattle.element.specs.Parts.{Item, level, leafItem, aroundItem, mapItem, firstOf, bindBody, silently, onlyBody}
 use Rattle.element.specs.Walk.{walkItem}
@@ -23,10 +23,10 @@ use Rattle.primitive.specs.Primitive.{identifierOk}
 use Rattle.tcap.specs.Meaning.{Dialogue, single, octets}
 use Rattle.tcap.specs.WellFormed.{the93}
 use Rattle.tcap.specs.Productions.{nameItem, heldItem, externalBody, inside6B, dialogueItem}
-use Rattle.read_place.specs.Places.{Far, Near, until, finite, part, front, nothing, Reads, Finishes, endedOf, unfinishedOf, standsOf, entryPlace, lengthPlace, lengthSize, Ready, Walked, cutOff, missing, badContents}
+use Rattle.element.proofs.Views.{span-length, span-drop, span-cut}
+use Rattle.read_place.specs.Places.{Far, Near, until, finite, part, front, nothing, Reads, Finishes, endedOf, unfinishedOf, standsOf, entryPlace, lengthPlace, Ready, Walked, cutOff, missing, badContents}
 use Rattle.read_place.specs.Laying.{layText, laySpan, layName, layDialogue}
 use Rattle.read_place.specs.Leaves.{Left, Leaves, LeavesAll, untold}
-use Rattle.read_place.proofs.Views.{span-length, span-drop, span-cut}
 use Rattle.read_place.proofs.Answers.{far}
 use Rattle.read_place.proofs.Onto.{ask-bind, ask-only}
 use Rattle.read_place.proofs.Bodies.{placed-where}

@@ -12,19 +12,19 @@ use Rattle.element.specs.declared.LengthRead.{LengthRead}
 use Rattle.element.specs.Element.{constructorOf}
 use Rattle.element.specs.Fault.{Owner, portion, dialogue, fault, Text, at, inDialogue}
 use Rattle.element.specs.Head.{endOf, lengthOf}
-use Rattle.element.specs.Answers.{frontOf}
+use Rattle.element.specs.Answers.{frontOf, lengthSize}
 use Rattle.element.specs.Ask.{Got, got, bad, next, check, blamed, definite, indefinite, head, Body, askLength, atEnd, askEnd, ask}
 use Rattle.element.specs.Parts.{Item, level, done, aroundItem, onlyBody}
 use Rattle.element.proofs.Reading.{definite-size}
 use Rattle.tcap.specs.Meaning.{Dialogue}
 use Rattle.tcap.specs.WellFormed.{the93}
 use Rattle.tcap.specs.Productions.{externalBody, inside6B, dialogueItem}
-use Rattle.read_place.specs.Places.{Far, Near, until, finite, part, front, nothing, Placed, Reads, Finishes, Leads, standsOf, entryPlace, lengthPlace, lengthSize, wrongPlace, Ready, base, endedOf, unfinishedOf}
+use Rattle.element.proofs.Views.{span-length, span-drop}
+use Rattle.read_place.specs.Places.{Far, Near, until, finite, part, front, nothing, Placed, Reads, Finishes, Leads, standsOf, entryPlace, lengthPlace, wrongPlace, Ready, base, endedOf, unfinishedOf}
 use Rattle.read_place.specs.Laying.{layDialogue}
 use Rattle.read_place.specs.Leaves.{Leaves, untold}
 use Rattle.read_place.specs.Blames.{Blames}
 use Rattle.read_place.proofs.Around.{around-ask}
-use Rattle.read_place.proofs.Views.{span-length, span-drop}
 use Rattle.read_place.proofs.Answers.{far-fault}
 use Rattle.read_place.proofs.Fronts.{byFront, ask-front, ended-is, more-here}
 use Rattle.read_place.proofs.Walks.{unfinished-is}

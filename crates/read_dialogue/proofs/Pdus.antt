@@ -17,11 +17,12 @@ use Rattle.element.specs.Element.{constructorOf}
 use Rattle.element.specs.Fault.{Text}
 use Rattle.element.specs.Ask.{Body, ask}
 use Rattle.element.specs.Parts.{Item, level, aroundItem, mapItem, thenBody, onlyBody, optBody}
+use Rattle.element.specs.Answers.{lengthSize}
 use Rattle.tcap.specs.declared.Diagnostic.{Diagnostic}
 use Rattle.tcap.specs.Meaning.{version, request, unidialogue, response, aborted}
 use Rattle.tcap.specs.WellFormed.{the93}
 use Rattle.tcap.specs.Productions.{octetItem, nameItem, versionBody, contextItem, infoBody, numberItem, sourceItem, askedItem, answeredItem, abortedItem}
-use Rattle.read_place.specs.Places.{Far, Near, until, finite, part, front, Placed, nothing, Reads, Finishes, Leads, standsOf, entryPlace, badPlace, countOf, lengthSize, badContents}
+use Rattle.read_place.specs.Places.{Far, Near, until, finite, part, front, Placed, nothing, Reads, Finishes, Leads, standsOf, entryPlace, badPlace, countOf, badContents}
 use Rattle.read_place.proofs.Answers.{Keeps}
 use Rattle.read_place.proofs.Bodies.{placed-where, then-far, then-near, map-closed}
 use Rattle.read_place.proofs.Items.{stands-only, stands-other, leaf-good, leaf-bad, leaf-none}

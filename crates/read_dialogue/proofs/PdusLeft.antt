@@ -15,11 +15,12 @@ use Rattle.element.specs.Head.{endOf}
 use Rattle.element.specs.Ask.{Got, got, bad, Body, ask}
 use Rattle.element.specs.Parts.{Item, level, leafItem, aroundItem, mapItem, thenBody, onlyBody, mapBody}
 use Rattle.element.proofs.Asking.{fact, then-next}
+use Rattle.element.specs.Answers.{lengthSize}
 use Rattle.tcap.specs.declared.Diagnostic.{Diagnostic}
 use Rattle.tcap.specs.Meaning.{Dialogue, request, unidialogue, response, aborted}
 use Rattle.tcap.specs.WellFormed.{the93}
 use Rattle.tcap.specs.Productions.{single?, octetItem, nameItem, versionBody, contextItem, infoBody, numberItem, sourceItem, askedItem, answeredItem, abortedItem}
-use Rattle.read_place.specs.Places.{Near, until, finite, part, front, Closing, Shut, Reads, Finishes, Leads, endedOf, standsOf, entryPlace, lengthSize}
+use Rattle.read_place.specs.Places.{Near, until, finite, part, front, Closing, Shut, Reads, Finishes, Leads, endedOf, standsOf, entryPlace}
 use Rattle.read_place.specs.Laying.{layText, layName, layInfo, layDiagnostic, layDialogue}
 use Rattle.read_place.specs.Leaves.{Leaves, LeavesAll, untold}
 use Rattle.read_place.proofs.Answers.{far-fault}

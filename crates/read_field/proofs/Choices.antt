@@ -20,11 +20,11 @@ use Rattle.element.specs.Ask.{check, blamed, ask, askLength}
 use Rattle.element.specs.Parts.{Item, level, leafContents, leafItem, mapItem, orItem, integerItem}
 use Rattle.element.proofs.Heads.{LengthIs, length-sound}
 use Rattle.element.proofs.Reading.{definite-size, indefinite-size}
+use Rattle.element.proofs.Views.{span-length}
 use Rattle.tcap.specs.declared.Problem.{Problem}
 use Rattle.tcap.specs.WellFormed.{idOk}
 use Rattle.tcap.specs.Productions.{octetItem, idItem, idOrNullItem, problemItem}
 use Rattle.read_place.specs.Places.{Far, Near, until, finite, part, base, faultPlace, lengthPlace, Placed, front, Reads, Leads, standsOf, entryPlace, badPlace, countOf, badContents}
-use Rattle.read_place.proofs.Views.{span-length}
 use Rattle.read_place.proofs.Answers.{far}
 use Rattle.read_place.proofs.Items.{Entered, entered, entry-far, ask-entered, stands-short, take-head, stands-only, stands-other, counted, leaf-good, leaf-none, placed-item, or-left, or-right}
 use Rattle.read_field.proofs.Fields.{plain}

@@ -18,7 +18,8 @@ use Rattle.tcap.specs.Meaning.{Message, silent, unidirectional, begin, finish, 
 use Rattle.tcap.specs.WellFormed.{the93}
 use Rattle.tcap.specs.Productions.{origItem, destItem, carried, componentsItem, dialogueItem, tailBody, uniBody, beginBody, endBody, continueBody, abortBody}
 use Rattle.tcap.specs.Reading.{learnt, readFirst, locatedUpTo}
-use Rattle.read_place.specs.Places.{Far, Near, until, finite, part, front, Placed, Reads, Finishes, span, lengthPlace, lengthSize}
+use Rattle.element.specs.Answers.{span, lengthSize}
+use Rattle.read_place.specs.Places.{Far, Near, until, finite, part, front, Placed, Reads, Finishes, lengthPlace}
 use Rattle.read_place.specs.Leaves.{Left, Leaves, LeavesAll, untold}
 use Rattle.read_place.specs.Laying.{layMessage, tagIn, layAccepted}
 use Rattle.read_place.specs.Blames.{Blames}

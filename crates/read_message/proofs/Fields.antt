@@ -16,11 +16,11 @@ use Rattle.element.proofs.Asking.{Then, fact, then-next, then-blamed, ask-sound
 use Rattle.tcap.specs.Meaning.{orig, dest, cause, says}
 use Rattle.tcap.specs.WellFormed.{the93, idOk}
 use Rattle.tcap.specs.Productions.{single?, octetItem, origItem, destItem, dialogueItem}
+use Rattle.element.proofs.Views.{span-length, span-get}
 use Rattle.read_place.specs.Places.{Far, Near, until, finite, part, front, Reads, Finishes, Leads, standsOf}
 use Rattle.read_place.specs.Leaves.{Left, Leaves}
 use Rattle.read_place.specs.Laying.{layText, layOrig, layDest, layDialogue, layEnding}
 use Rattle.read_place.specs.Blames.{Blames}
-use Rattle.read_place.proofs.Views.{span-length, span-get}
 use Rattle.read_place.proofs.Answers.{placed-near}
 use Rattle.read_place.proofs.Onto.{ask-onto, missing-both}
 use Rattle.read_place.proofs.Items.{stands-only, stands-other, or-left, or-right}

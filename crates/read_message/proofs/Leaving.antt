@@ -13,10 +13,11 @@ use Rattle.element.specs.Fault.{Text, portion}
 use Rattle.element.specs.Head.{endOf}
 use Rattle.element.specs.Ask.{Got, got, bad, Body, ask}
 use Rattle.element.specs.Parts.{Item, level, bindBody, thenBody, onlyBody, lastBody, optBody, mapBody}
+use Rattle.element.specs.Answers.{lengthSize}
 use Rattle.tcap.specs.Meaning.{Originating, Destination, Component, Dialogue, Ending, Message, silent, unidirectional, begin, finish, continue, abort}
 use Rattle.tcap.specs.WellFormed.{the93}
 use Rattle.tcap.specs.Productions.{origItem, destItem, carried, componentsItem, dialogueItem, tailBody, uniBody, beginBody, endBody, continueBody, abortBody}
-use Rattle.read_place.specs.Places.{Far, Near, until, finite, part, front, Placed, Closing, nothing, Reads, Finishes, endedOf, standsOf, entryPlace, lengthSize}
+use Rattle.read_place.specs.Places.{Far, Near, until, finite, part, front, Placed, Closing, nothing, Reads, Finishes, endedOf, standsOf, entryPlace}
 use Rattle.read_place.specs.Leaves.{Left, Leaves, LeavesAll, unlaid}
 use Rattle.read_place.specs.Laying.{layOrig, layDest, layDialogue, layPortion, layComponents, layEnding, layMessage}
 use Rattle.read_place.specs.Blames.{Blames}

@@ -13,10 +13,11 @@ use Rattle.element.specs.Fault.{fault, Text, withOrigId}
 use Rattle.element.specs.Head.{endOf}
 use Rattle.element.specs.Ask.{Body, ask}
 use Rattle.element.specs.Parts.{Item, level, mapItem, bindBody, thenBody, onlyBody, lastBody, optBody, mapBody}
+use Rattle.element.specs.Answers.{lengthSize}
 use Rattle.tcap.specs.Meaning.{Originating, orig, Destination, Component, Dialogue, Message, cause, says, silent, unidirectional, begin, finish, continue, abort}
 use Rattle.tcap.specs.WellFormed.{the93}
 use Rattle.tcap.specs.Productions.{octetItem, origItem, destItem, carried, componentsItem, dialogueItem, tailBody, uniBody, beginBody, endBody, continueBody, abortBody}
-use Rattle.read_place.specs.Places.{Far, Near, until, finite, part, faultPlace, front, Placed, nothing, Reads, Finishes, endedOf, behindOf, standsOf, entryPlace, lengthSize}
+use Rattle.read_place.specs.Places.{Far, Near, until, finite, part, faultPlace, front, Placed, nothing, Reads, Finishes, endedOf, behindOf, standsOf, entryPlace}
 use Rattle.read_place.proofs.Answers.{Keeps}
 use Rattle.read_place.proofs.Fronts.{ended-is, not-ended}
 use Rattle.read_place.proofs.Bodies.{placed-where, bind-far, bind-near, then-far, then-near, only-far, only-near, last-far, last-near, last-none, map-closed}

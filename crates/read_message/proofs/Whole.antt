@@ -14,14 +14,14 @@ use Rattle.element.specs.declared.TagRead.{TagRead}
 use Rattle.element.specs.Element.{constructorOf}
 use Rattle.element.specs.Fault.{Text, at}
 use Rattle.element.specs.Head.{lengthOf}
-use Rattle.element.specs.Answers.{frontOf}
+use Rattle.element.specs.Answers.{frontOf, span, lengthSize}
 use Rattle.element.specs.Ask.{Got, got, next, check, blamed, Head, Body, ask}
 use Rattle.element.specs.Parts.{Item, level, place, aroundItem, orItem}
 use Rattle.tcap.specs.Meaning.{Message, unidirectional, begin, finish, continue, abort}
 use Rattle.tcap.specs.WellFormed.{the93}
 use Rattle.tcap.specs.Productions.{uniBody, beginBody, endBody, continueBody, abortBody, messageItem}
 use Rattle.tcap.specs.Reading.{learnt, aloneBody, readFirst, locatedUpTo}
-use Rattle.read_place.specs.Places.{Far, Near, until, finite, span, part, base, faultPlace, front, Placed, Reads, Finishes, Leads, standsOf, entryPlace, lengthPlace, lengthSize, octetsAfter, noMessage, overlong, cutOff, opening}
+use Rattle.read_place.specs.Places.{Far, Near, until, finite, part, base, faultPlace, front, Placed, Reads, Finishes, Leads, standsOf, entryPlace, lengthPlace, octetsAfter, noMessage, overlong, cutOff, opening}
 use Rattle.read_place.specs.Leaves.{LeavesAll}
 use Rattle.read_place.specs.Laying.{layMessage}
 use Rattle.read_place.specs.Blames.{Blames}

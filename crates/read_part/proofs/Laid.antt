@@ -25,13 +25,13 @@ use Rattle.element.specs.Walk.{walkItem}
 use Rattle.element.specs.Ask.{Got, got, bad, next, blamed, Head, Body, ask}
 use Rattle.element.specs.Parts.{Item, Where, level, place, leafItem, mapItem, orItem, integerItem, onlyBody, lastBody}
 use Rattle.element.proofs.Asking.{Then, fact, the-fact, then-next, then-blamed, ask-sound}
+use Rattle.element.proofs.Views.{span-take, span-length}
 use Rattle.tcap.specs.declared.Problem.{Problem}
 use Rattle.tcap.specs.Meaning.{local, global}
 use Rattle.tcap.specs.Productions.{single?, octetItem, idItem, nameItem, codeItem, idOrNullItem, problemItem}
 use Rattle.read_place.specs.Places.{Far, Near, until, finite, part, front, Placed, Reads, Finishes, Leads, Walked, standsOf, countOf, entryPlace, badPlace, base, endedOf, unfinishedOf}
 use Rattle.read_place.specs.Leaves.{Left, Leaves, LeavesAll, untold}
 use Rattle.read_place.specs.Laying.{layText, layId, layRejectId, layCode, layElement, layParameter, layProblem}
-use Rattle.read_place.proofs.Views.{span-take, span-length}
 use Rattle.read_place.proofs.Answers.{placed-near}
 use Rattle.read_place.proofs.Fronts.{ended-is, not-ended, more-here}
 use Rattle.read_place.proofs.Items.{stands-only, stands-other, counted, or-left, or-right}

@@ -15,14 +15,14 @@ use Rattle.element.specs.declared.LengthRead.{LengthRead}
 use Rattle.element.specs.Element.{constructorOf}
 use Rattle.element.specs.Fault.{Text}
 use Rattle.element.specs.Head.{endOf, lengthOf}
-use Rattle.element.specs.Answers.{frontOf}
+use Rattle.element.specs.Answers.{frontOf, span, lengthSize}
 use Rattle.element.specs.Ask.{Got, got, bad, next, check, atEnd, definite, indefinite, head, Body, askLength, ask}
 use Rattle.element.specs.Parts.{Item, Where, level, inside, aroundItem}
 use Rattle.element.proofs.Reading.{definite-size, indefinite-size}
-use Rattle.read_place.specs.Places.{Near, until, opening, finite, part, span, front, Leads, lengthSize, lengthPlace, entryPlace}
-use Rattle.read_place.proofs.Views.{span-length, span-get, span-drop, span-inner}
+use Rattle.element.proofs.Views.{span-length, span-get, span-drop, span-inner, SizeIs, length-sized}
+use Rattle.read_place.specs.Places.{Near, until, opening, finite, part, front, Leads, lengthPlace, entryPlace}
 use Rattle.read_place.proofs.Answers.{far}
-use Rattle.read_place.proofs.Items.{SizeIs, length-sized, Entered, entered, ask-entered}
+use Rattle.read_place.proofs.Items.{Entered, entered, ask-entered}
 use Rattle.read_place.proofs.Fronts.{byFront, ask-front}
 use Rattle.read_place.proofs.Onto.{blamed-same}
 

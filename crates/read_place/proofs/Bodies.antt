@@ -17,8 +17,8 @@ use Rattle.element.specs.Head.{endOf, lengthOf}
 use Rattle.element.specs.Answers.{frontOf}
 use Rattle.element.specs.Ask.{Got, got, next, check, definite, indefinite, head, Body, askLength, atEnd, ask}
 use Rattle.element.specs.Parts.{Item, Where, level, done, bindBody, silently, thenBody, onlyBody, lastBody, mapBody}
+use Rattle.element.proofs.Views.{span-drop}
 use Rattle.read_place.specs.Places.{part, finite, behindOf, Placed, Closing, Closed, front, nothing, until, Far, Near}
-use Rattle.read_place.proofs.Views.{span-drop}
 use Rattle.read_place.proofs.Answers.{Keeps, close-far, close-near, closing-map, placed-blamed, closing-blamed, closing-rest}
 use Rattle.read_place.proofs.Fronts.{byFront, ask-front, closed-ends}
 use Rattle.read_place.proofs.Onto.{ask-bind, ask-only, ask-last, ask-map, blamed-same}

@@ -15,13 +15,13 @@ use Rattle.element.specs.declared.TagRead.{TagRead}
 use Rattle.element.specs.Element.{constructorOf, codeZero}
 use Rattle.element.specs.Fault.{Fault, at}
 use Rattle.element.specs.Head.{endOf, tagOf, lengthOf}
-use Rattle.element.specs.Answers.{fronted, frontOf}
+use Rattle.element.specs.Answers.{fronted, frontOf, span}
 use Rattle.element.specs.Ask.{Got, got, bad, check, Body, askLength, askTag, atEnd, askEnd, ask}
 use Rattle.element.specs.Parts.{place}
-use Rattle.element.proofs.Heads.{TagIs, tag-sound}
-use Rattle.element.proofs.Reading.{tag-size}
-use Rattle.read_place.specs.Places.{base, faultPlace, span, part, finite, endedOf, unfinishedOf, behindOf, tagPlace, lengthPlace, Placed, Shut, Closing, Closed, nothing, askedPlace, wrongPlace, standsOf, entryPlace, shortStop, badPlace, until, Far, Near, Finite, opening, faults, cutOff, badContents, missing, tooMany}
-use Rattle.read_place.proofs.Views.{span-length, span-get, ended-closed, length-short, length-open}
+use Rattle.element.proofs.Reading.{tag-size, tag-first}
+use Rattle.element.proofs.Views.{span-length, span-get}
+use Rattle.read_place.specs.Places.{base, faultPlace, part, finite, endedOf, unfinishedOf, behindOf, tagPlace, lengthPlace, Placed, Shut, Closing, Closed, nothing, askedPlace, wrongPlace, standsOf, entryPlace, shortStop, badPlace, until, Far, Near, Finite, opening, faults, cutOff, badContents, missing, tooMany}
+use Rattle.read_place.proofs.Views.{ended-closed, length-short, length-open}
 use Rattle.read_place.proofs.Answers.{far, Keeps}
 
 -- The questions of `ask` in the order of the code: the end, the front (tag, code 0), the expected tag
@@ -102,10 +102,6 @@ pub record TagHere (m : List ℕ) (at end r : ℕ) : Type 0 where
   pub place : r ≡ at + size
   pub some : 1 ≤ size
   pub room : at + size ≤ end
-
-pub tag-first : (l : List ℕ) (a s : ℕ) → tagOf l ≡ TagRead.Tag a s → getD l 0 0 ≡ a
-unfolding TagIs
-tag-first l a s e = let (x, r, q, i, z) : TagIs l (TagRead.Tag a s) = rw e at (tag-sound l) in rw q
 
 module _ (m : List ℕ) (at end r : ℕ) (g : at ≤ end) (h : end ≤ length m) where
   tag-here-by : (t : TagRead) → tagOf (span m at end) ≡ t → r ≡ tagPlace at t → Near r → TagHere m at end r

@@ -8,28 +8,27 @@ use native.Mathlib.Omega.{arith}
 use native.Mathlib.Nat.{add-zero}
 use lib.ListN.{length, getD, drop, take, length-drop}
 use lib.Dec.{eqb, ltb, leb}
-use borrow.Author.Tests.{ltb-true, ltb-false, leb-true, leb-false, eqb-true, eqb-false, lt-ltb, le-ltb, le-leb, lt-leb, eq-eqb, ne-eqb}
-use Rattle.base.proofs.Tests.{cond-all}
+use borrow.Author.Tests.{ltb-false, leb-true, leb-false, eqb-true, eqb-false, lt-ltb, le-ltb, le-leb, eq-eqb, ne-eqb}
 use Rattle.element.specs.declared.FaultKind.{FaultKind}
 use Rattle.element.specs.declared.EndRead.{EndRead}
 use Rattle.element.specs.declared.TagRead.{TagRead}
 use Rattle.element.specs.declared.LengthRead.{LengthRead}
 use Rattle.element.specs.Element.{constructorOf, codeZero, extendedOf}
 use Rattle.element.specs.Fault.{Fault, fault, at, Text, portion}
-use Rattle.element.specs.Form.{fewestOf, StandsFor}
+use Rattle.element.specs.Form.{StandsFor}
 use Rattle.element.proofs.Shortest.{long-only}
 use mathlib.Core.Logic.{inl, inr}
 use lib.Seq.{length-take-le, getD-take}
-use Rattle.element.specs.Head.{endOf, within, longOf, lengthOf}
-use Rattle.element.specs.Answers.{fronted, frontOf}
+use Rattle.element.specs.Head.{endOf, within, lengthOf}
+use Rattle.element.specs.Answers.{fronted, frontOf, span, lengthSize}
 use Rattle.element.specs.Ask.{Got, got, bad, next, check, blamed, definite, indefinite, Head, head, Body, askLength, atEnd, ask}
 use Rattle.element.specs.Parts.{Item, Where, level, leafContents, leafItem, inside, aroundItem, mapItem, orItem, place}
 use Rattle.element.proofs.Heads.{LengthIs, length-sound}
-use Rattle.element.proofs.Reading.{FrontIs, front-says, tag-size, definite-size, indefinite-size}
-use Rattle.read_place.specs.Places.{base, faultPlace, span, part, finite, lengthPlace, lengthSize, Placed, Shut, Closing, Closed, front, wrongPlace, standsOf, entryPlace, badPlace, countOf, Leads, until, Far, Near, opening, faults, badContents}
-use Rattle.read_place.proofs.Views.{span-length, span-get, span-drop, span-take, span-inner, end-view, endBy, tag-view, tagBy, length-view, lengthBy}
+use Rattle.element.proofs.Reading.{FrontIs, front-says, tag-size, definite-size, indefinite-size, tag-first}
+use Rattle.element.proofs.Views.{span-length, span-get, span-drop, span-take, span-inner, end-view, endBy, tag-view, tagBy, length-view, lengthBy, SizeIs, length-sized}
+use Rattle.read_place.specs.Places.{base, faultPlace, part, finite, lengthPlace, Placed, Shut, Closing, Closed, front, wrongPlace, standsOf, entryPlace, badPlace, countOf, Leads, until, Far, Near, opening, faults, badContents}
 use Rattle.read_place.proofs.Answers.{far, placed-map}
-use Rattle.read_place.proofs.Fronts.{byFront, ask-front, wrong-ask, asked-far, tag-first}
+use Rattle.read_place.proofs.Fronts.{byFront, ask-front, wrong-ask, asked-far}
 use Rattle.read_place.proofs.Onto.{ask-onto, missing-both, blamed-same}
 
 -- The tag that stands here
@@ -70,25 +69,6 @@ module _ (m : List ℕ) (at stop tag : ℕ) (h : until stop ≤ length m) where
   stands-other e a s f = let (l, q) = front-octet m at (until stop) a s h f in rw q at (rw (ne-eqb at (until stop) (λ z. omega (arith, z, l))) at e)
 
 -- The length: how many octets it takes is told by its first
-
-unfoldable pub SizeIs : ℕ → LengthRead → Type 0
-SizeIs b (LengthRead.Fault k) = Unit {0}
-SizeIs b (LengthRead.Definite k n) = k ≡ lengthSize b
-SizeIs b LengthRead.Indefinite = 1 ≡ lengthSize b
-
-within-size : (b size n room : ℕ) → size ≡ lengthSize b → SizeIs b (within size n room)
-unfolding within SizeIs
-within-size b size n room e = cond-all (SizeIs b) (leb n room) _ _ (λ _. e) (λ _. tt)
-
-pub length-sized : (p : List ℕ) (c : Bool) → SizeIs (getD p 0 0) (lengthOf p c)
-unfolding lengthOf longOf SizeIs lengthSize
-length-sized p c =
-    cond-all (SizeIs (getD p 0 0)) (eqb (length p) 0) _ _ (λ _. tt) λ e.
-    cond-all (SizeIs (getD p 0 0)) (ltb (getD p 0 0) 128) _ _ (λ l. within-size (getD p 0 0) 1 _ _ (rw (le-leb (getD p 0 0) 128 (omega (arith, ltb-true (getD p 0 0) 128 l))))) λ l.
-    cond-all (SizeIs (getD p 0 0)) (leb 255 (getD p 0 0)) _ _ (λ _. tt) λ f.
-    cond-all (SizeIs (getD p 0 0)) (eqb (getD p 0 0) 128) _ _ (λ q. cond-all (SizeIs (getD p 0 0)) c _ _ (λ _. rw (eqb-true (getD p 0 0) 128 q)) (λ _. tt)) λ q.
-    cond-all (SizeIs (getD p 0 0)) (ltb (length p - 1) (getD p 0 0 - 128)) _ _ (λ _. tt) λ i.
-    cond-all (SizeIs (getD p 0 0)) (fewestOf (getD p 1 0) (getD p 0 0 - 128)) _ _ (λ j. within-size (getD p 0 0) _ _ _ (rw (lt-leb (getD p 0 0) 128 (omega (arith, ltb-false (getD p 0 0) 128 l, eqb-false (getD p 0 0) 128 q))) (omega arith))) (λ _. tt)
 
 -- An element of one tag that must stand here
 

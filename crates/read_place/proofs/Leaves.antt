@@ -14,12 +14,12 @@ use Rattle.element.specs.declared.LengthRead.{LengthRead}
 use Rattle.element.specs.Element.{constructorOf}
 use Rattle.element.specs.Fault.{Fault, at}
 use Rattle.element.specs.Head.{endOf, lengthOf}
-use Rattle.element.specs.Answers.{frontOf}
+use Rattle.element.specs.Answers.{frontOf, lengthSize}
 use Rattle.element.specs.Ask.{Got, got, bad, next, check, blamed, definite, indefinite, head, Body, askLength, atEnd, ask}
-use Rattle.element.specs.Parts.{Item, Where, level, done, aroundItem, mapItem, orItem, bindBody, silently, thenBody, onlyBody, lastBody, optBody, mapBody}
-use Rattle.read_place.specs.Places.{Far, Near, until, finite, part, front, nothing, Placed, Closing, Closed, Shut, Reads, Finishes, Leads, standsOf, entryPlace, lengthSize}
+use Rattle.element.specs.Parts.{Item, Where, level, done, aroundItem, bindBody, thenBody, onlyBody, lastBody, optBody, mapBody}
+use Rattle.element.proofs.Views.{span-drop}
+use Rattle.read_place.specs.Places.{Far, Near, until, finite, part, front, nothing, Placed, Closing, Shut, Reads, Finishes, Leads, standsOf, entryPlace}
 use Rattle.read_place.specs.Leaves.{Left, Leaves, LeavesAll, untold}
-use Rattle.read_place.proofs.Views.{span-drop}
 use Rattle.read_place.proofs.Answers.{Keeps, far-fault}
 use Rattle.read_place.proofs.Fronts.{byFront, ask-front}
 use Rattle.read_place.proofs.Onto.{rest, ask-bind, ask-then, ask-only, ask-last, ask-last-ended, ask-map, blamed-same}

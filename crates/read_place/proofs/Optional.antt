@@ -15,11 +15,10 @@ use Rattle.element.specs.declared.LengthRead.{LengthRead}
 use Rattle.element.specs.Element.{constructorOf}
 use Rattle.element.specs.Fault.{Fault, fault, at}
 use Rattle.element.specs.Head.{endOf, tagOf, lengthOf}
-use Rattle.element.specs.Answers.{frontOf, wantedItem, walkOf, elementWalk}
+use Rattle.element.specs.Answers.{frontOf, wantedItem, walkOf, elementWalk, lengthSize}
 use Rattle.element.specs.Ask.{Got, got, bad, next, check, blamed, definite, indefinite, head, Body, askLength, askTag, atEnd, askEnd, ask}
 use Rattle.element.specs.Parts.{Item, Where, level, aroundItem, onward, silently, onlyBody, lastBody, optPick, optBody}
-use Rattle.read_place.specs.Places.{base, faultPlace, part, finite, endedOf, unfinishedOf, behindOf, lengthSize, Placed, Closing, front, nothing, standsOf, entryPlace, Leads, Walked, Reads, Finishes, until, Far, Near, cutOff, missing}
-use Rattle.read_place.proofs.Views.{span-drop}
+use Rattle.read_place.specs.Places.{base, faultPlace, part, finite, endedOf, unfinishedOf, behindOf, Placed, Closing, front, nothing, standsOf, entryPlace, Leads, Walked, Reads, Finishes, until, Far, Near, cutOff, missing}
 use Rattle.read_place.proofs.Answers.{Keeps, close-far, close-near, closing-map, closing-rest, placed-near}
 use Rattle.read_place.proofs.Fronts.{byFront, ask-front, ended-is, not-ended, more-here}
 use Rattle.read_place.proofs.Bodies.{placed-where, only-far, only-near, last-far, last-near, last-none}
@@ -28,6 +27,7 @@ use Rattle.read_place.proofs.Items.{lead-more, stands-here, stands-only
 use Rattle.read_place.proofs.Walks.{unfinished-is, length-inside, length-stands}
 use Rattle.element.specs.Walk.{walkItem}
 use Rattle.element.proofs.Walking.{tag-by}
+use Rattle.element.proofs.Views.{span-drop}
 
 -- A walked element in contents
 

@@ -21,12 +21,12 @@ use Rattle.element.specs.Parts.{Item, Where, leafContents, leafItem, inside, fi
 use Rattle.element.proofs.Heads.{TagIs, tag-sound, LengthIs, length-sound}
 use Rattle.element.proofs.Reading.{definite-size}
 use Rattle.read_place.specs.Places.{part, finite, Placed, front, standsOf, Leads, Reads, until, Near}
-use Rattle.read_place.proofs.Views.{span-drop}
 use Rattle.read_place.proofs.Answers.{Keeps, far-fault}
 use Rattle.read_place.proofs.Onto.{ask-bind, ask-last, ask-map}
 use Rattle.read_place.proofs.Items.{stands-other, stands-short, take-head}
 use Rattle.element.specs.Walk.{walkItem, walkContents, walkPick}
 use Rattle.element.proofs.Asking.{Then, fact, void, the-fact, then-next, then-check, then-blamed, HeadOf, finite as finite-head, unended, ask-sound}
+use Rattle.element.proofs.Views.{span-drop}
 use Rattle.read_place.proofs.Optional.{opt-absent, opened, lifted}
 
 -- a place that was told, and what is known of whatever was got

@@ -5,7 +5,7 @@ use mathlib.Core.Bool.{Bool, true, false, cond, false≢true}
 use mathlib.Core.List.{List, []}
 use mathlib.Core.Option.{none, some}
 use native.Mathlib.Omega.{arith}
-use native.Mathlib.Nat.{add-zero, zero-add, add-assoc}
+use native.Mathlib.Nat.{add-zero}
 use lib.ListN.{length, getD, drop, take, drop-of-length-le}
 use lib.Dec.{eqb, ltb}
 use borrow.Author.Tests.{ltb-false, eqb-true, eqb-false, lt-ltb, le-ltb, le-leb, eq-eqb, ne-eqb}
@@ -18,18 +18,17 @@ use Rattle.element.specs.Fault.{Fault, at}
 use mathlib.Core.Logic.{_⊎_, inl, inr}
 use lib.Seq.{length-take-le}
 use Rattle.element.specs.Head.{endOf, tagOf, within, lengthOf}
-use Rattle.element.specs.Answers.{fronted, frontOf, wantedItem, another, walkOf, elementWalk, seriesWalk}
+use Rattle.element.specs.Answers.{fronted, frontOf, wantedItem, walkOf, elementWalk, seriesWalk, span, lengthSize}
 use Rattle.element.specs.Ask.{next, check, askTag}
 use Rattle.element.specs.Parts.{level, place}
 use Rattle.element.proofs.Reading.{tag-size, definite-size, indefinite-size}
-use Rattle.read_place.specs.Places.{base, span, part, finite, endedOf, unfinishedOf, behindOf, tagPlace, lengthPlace, lengthSize, Shut, Walked, WalkedOut, shortPlace, until, Far, Near, Endless, Finite, opening, cutOff}
-use Rattle.read_place.proofs.Views.{span-length, span-get, span-drop, span-inner, tag-view, tagBy, length-view, lengthBy}
+use Rattle.read_place.specs.Places.{base, part, finite, endedOf, unfinishedOf, behindOf, tagPlace, lengthPlace, Shut, Walked, WalkedOut, shortPlace, until, Far, Near, Endless, Finite, opening, cutOff}
+use Rattle.element.proofs.Views.{span-inner, tag-view, tagBy, length-view, lengthBy, span-length, span-get, span-drop, length-sized, SizeIs}
 use Rattle.read_place.proofs.Answers.{far}
 use Rattle.read_place.proofs.Fronts.{ended-is, TagHere, tag-here, shut-here, more-here}
-use Rattle.read_place.proofs.Items.{length-sized, SizeIs}
 use Rattle.element.specs.declared.Walk.{Walk}
 use Rattle.element.proofs.Whole.{element-size}
-use Rattle.element.proofs.Walking.{thenWalk, grown, element-length, element-primitive, element-definite-fault, element-definite, element-indefinite-fault, element-indefinite, series-ended, series-unfinished, series-more}
+use Rattle.element.proofs.Walking.{thenWalk, grown, grown-zero, grown-grown, element-length, element-primitive, element-definite, element-indefinite, series-ended, series-unfinished, series-more}
 
 module _ (m : List ℕ) (at end left next : ℕ) (g : at ≤ end) (h : end ≤ length m) (top : length m ≤ 65535) (is : next ≡ tagPlace at (tagOf (span m at end))) where
   pub any-tag : Far next → Walked at end (elementWalk 0 left at (span m at end)) next
@@ -71,14 +70,14 @@ module _ (m : List ℕ) (at end left next : ℕ) (g : at ≤ end) (h : end ≤ l
 
         -- a primitive, or a length that is none
         length-walk : (c : Bool) → c ≡ constructorOf (getD m at 0) → (n : LengthRead) → n ≡ lengthOf (span m next end) c → (r : ℕ) → r ≡ lengthPlace at next end n → (c ≡ true → Far r) → Walked at end (elementWalk 0 left at (span m at end)) r
-        unfolding lengthPlace another Walked
+        unfolding lengthPlace Walked
         length-walk c is-c (LengthRead.Fault k) e r q f =
             let t = here in
-            rw (← (element-length 0 left at (span m at end) (getD m at 0) (t .size) _ any-front refl false refl (span m next end) c (LengthRead.Fault k) refl (sym (span-drop m at end (t .size) ∙ rw (← (t .place)))) is-c e k refl)) q
+            rw (← (element-length left at (span m at end) (getD m at 0) (t .size) any-front (span m next end) c (sym (span-drop m at end (t .size) ∙ rw (← (t .place)))) is-c k e)) q
         length-walk false is-c (LengthRead.Definite k n) e r q f =
             let t = here in
             let w = definite-size (span m next end) false k n (LengthRead.Definite k n) e refl in
-            rw (← (element-primitive 0 left at (span m at end) (getD m at 0) (t .size) _ any-front refl false refl (span m next end) false (LengthRead.Definite k n) refl (sym (span-drop m at end (t .size) ∙ rw (← (t .place)))) is-c e k n refl refl))
+            rw (← (element-primitive left at (span m at end) (getD m at 0) (t .size) any-front (span m next end) false (sym (span-drop m at end (t .size) ∙ rw (← (t .place)))) is-c k n e refl))
             (omega (arith, q, t .place), omega (arith, q, w, span-length m next end h, t .place, t .room))
         length-walk true is-c (LengthRead.Definite k n) e r q f =
             let t = here in
@@ -114,21 +113,25 @@ module _ (m : List ℕ) (at end left next : ℕ) (g : at ≤ end) (h : end ≤ l
             rest-is : span m next end ≡ drop (here .size) (span m at end)
             rest-is = let t = here in sym (span-drop m at end (t .size) ∙ rw (← (t .place)))
 
+            inner-definite : (k n : ℕ) → LengthRead.Definite k n ≡ lengthOf (span m next end) true → span m (at + (here .size + k)) stop ≡ take n (drop (here .size + k) (span m at end))
+                → elementWalk 0 left at (span m at end) ≡ thenWalk (seriesWalk 0 (left - 1) true (at + (here .size + k)) (span m (at + (here .size + k)) stop)) (λ j. Walk.Whole (here .size + k + n))
+            inner-definite k n e held = rw held (element-definite left at (span m at end) (getD m at 0) (here .size) any-front (span m next end) true rest-is built k n e refl)
+
+            inner-indefinite : LengthRead.Indefinite ≡ lengthOf (span m next end) true
+                → elementWalk 0 left at (span m at end) ≡ thenWalk (seriesWalk 0 (left - 1) false (at + (here .size + 1)) (span m (at + (here .size + 1)) end)) (λ j. Walk.Whole (here .size + 1 + (j + 2)))
+            inner-indefinite e = rw (← (span-drop m at end (here .size + 1))) (element-indefinite left at (span m at end) (getD m at 0) (here .size) any-front (span m next end) true rest-is built e)
+
             definite-case : (k n r : ℕ) → LengthRead.Definite k n ≡ lengthOf (span m next end) true → span m (at + (here .size + k)) stop ≡ take n (drop (here .size + k) (span m at end)) → at + (here .size + k) + n ≡ stop → stop ≤ end
                 → (i : Walk) → i ≡ seriesWalk 0 (left - 1) true (at + (here .size + k)) (span m (at + (here .size + k)) stop) → WalkedOut true (at + (here .size + k)) stop i r → Walked at end (elementWalk 0 left at (span m at end)) r
-            unfolding another Walked WalkedOut Shut
-            definite-case k n r e held to room (Walk.Fault j f) is-i o =
-                rw (← (element-definite-fault 0 left at (span m at end) (getD m at 0) (here .size) _ any-front refl false refl (span m next end) true (LengthRead.Definite k n) refl rest-is built e (Walk.Fault j f) _ k n refl refl held is-i j f refl)) o
-            definite-case k n r e held to room (Walk.Whole j) is-i o =
-                rw (← (element-definite 0 left at (span m at end) (getD m at 0) (here .size) _ any-front refl false refl (span m next end) true (LengthRead.Definite k n) refl rest-is built e (Walk.Whole j) _ k n refl refl held is-i j refl)) (omega (arith, o, to), omega (arith, o, room))
+            unfolding Walked WalkedOut Shut thenWalk
+            definite-case k n r e held to room (Walk.Fault j f) is-i o = rw (inner-definite k n e held, ← is-i) o
+            definite-case k n r e held to room (Walk.Whole j) is-i o = rw (inner-definite k n e held, ← is-i) (omega (arith, o, to), omega (arith, o, room))
 
             indefinite-case : (r : ℕ) → LengthRead.Indefinite ≡ lengthOf (span m next end) true
                 → (i : Walk) → i ≡ seriesWalk 0 (left - 1) false (at + (here .size + 1)) (span m (at + (here .size + 1)) end) → WalkedOut false (at + (here .size + 1)) end i r → Walked at end (elementWalk 0 left at (span m at end)) r
-            unfolding another Walked WalkedOut Shut
-            indefinite-case r e (Walk.Fault j f) is-i o =
-                rw (← (element-indefinite-fault 0 left at (span m at end) (getD m at 0) (here .size) _ any-front refl false refl (span m next end) true LengthRead.Indefinite refl rest-is built e (Walk.Fault j f) _ refl (sym (span-drop m at end (here .size + 1))) is-i j f refl)) o
-            indefinite-case r e (Walk.Whole j) is-i o =
-                rw (← (element-indefinite 0 left at (span m at end) (getD m at 0) (here .size) _ any-front refl false refl (span m next end) true LengthRead.Indefinite refl rest-is built e (Walk.Whole j) _ refl (sym (span-drop m at end (here .size + 1))) is-i j refl)) (omega (arith, o), omega (arith, o))
+            unfolding Walked WalkedOut Shut thenWalk
+            indefinite-case r e (Walk.Fault j f) is-i o = rw (inner-indefinite e, ← is-i) o
+            indefinite-case r e (Walk.Whole j) is-i o = rw (inner-indefinite e, ← is-i) (omega (arith, o), omega (arith, o))
 
             inner-walk : (n : LengthRead) → n ≡ lengthOf (span m next end) true → (r : ℕ)
                 → (at < st) × (st ≤ until stop) × (until stop ≤ end) × (WalkedOut (finite stop) st (until stop) (seriesWalk 0 (left - 1) (finite stop) st (part m st stop)) r → Walked at end (elementWalk 0 left at (span m at end)) r)
@@ -182,16 +185,6 @@ unfinished-is EndRead.Unfinished b i h = refl
 unfinished-is EndRead.More b i h = absurd (false≢true (sym i ∙ h))
 
 -- The loop over a series, which stands at `at`
-
-grown-zero : (w : Walk) → grown 0 w ≡ w
-unfolding grown
-grown-zero (Walk.Fault k p) = refl
-grown-zero (Walk.Whole n) = ap (λ (k : ℕ). Walk.Whole k) (zero-add n)
-
-grown-grown : (j k : ℕ) (w : Walk) → grown j (grown k w) ≡ grown (j + k) w
-unfolding grown
-grown-grown j k (Walk.Fault n p) = refl
-grown-grown j k (Walk.Whole n) = ap (λ (i : ℕ). Walk.Whole i) (sym (add-assoc j k n))
 
 unfoldable pub Going : List ℕ → ℕ → ℕ → ℕ → ℕ → Type 0
 Going m from stop left at = seriesWalk 0 left (finite stop) from (part m from stop) ≡ grown (at - from) (seriesWalk 0 left (finite stop) at (part m at stop))

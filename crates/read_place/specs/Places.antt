@@ -2,8 +2,8 @@
 -- the place where they end, or `opening` and the end of what is around them, if they are indefinite. Assumes nothing: these are definitions.
 use Prim.Native.Nat.{ℕ, _+_, _-_, _/_, _%_, _≤_, _<_}
 use mathlib.Core.{Path._≡_, Bool.Bool, Bool.true, Bool.false, Bool.cond, List.List, Option.none, Option.Option}
-use lib.{ListN.length, ListN.getD, ListN.drop, ListN.take, Dec.eqb, Dec.ltb, Dec.leb}
-use Rattle.element.specs.{declared.FaultKind.FaultKind, declared.EndRead.EndRead, declared.TagRead.TagRead, declared.LengthRead.LengthRead, declared.Walk.Walk, Fault.Fault, Fault.fault, Head.endOf, Head.longOf, Head.lengthOf, Answers.frontOf, Ask.Got, Ask.got, Ask.bad, Ask.Body, Ask.ask, Ask.blamed, Ask.Size, Ask.definite, Ask.indefinite, Ask.head, Parts.Item, Parts.Where, Parts.place, Parts.done, Parts.level}
+use lib.{ListN.length, ListN.getD, Dec.eqb, Dec.ltb, Dec.leb}
+use Rattle.element.specs.{declared.FaultKind.FaultKind, declared.EndRead.EndRead, declared.TagRead.TagRead, declared.LengthRead.LengthRead, declared.Walk.Walk, Fault.Fault, Fault.fault, Head.endOf, Head.lengthOf, Answers.frontOf, Answers.span, Ask.Got, Ask.got, Ask.bad, Ask.Body, Ask.ask, Ask.blamed, Ask.Size, Ask.definite, Ask.indefinite, Ask.head, Parts.Item, Parts.Where, Parts.place, Parts.done, Parts.level}
 
 -- Numbers: a place is below `opening`, an open stop between it and `faults`, a fault from there on, each kind in a block of its own
 
@@ -96,10 +96,6 @@ finite stop = ltb stop opening
 abbrev pub until : ℕ → ℕ
 until stop = stop % opening
 
--- the octets from a place to an end
-abbrev pub span : List ℕ → ℕ → ℕ → List ℕ
-span m at end = drop at (take end m)
-
 -- the octets from a place to a stop
 abbrev pub part : List ℕ → ℕ → ℕ → List ℕ
 part m at stop = span m at (until stop)
@@ -134,14 +130,6 @@ unfoldable pub lengthPlace : ℕ → ℕ → ℕ → LengthRead → ℕ
 lengthPlace at from end (LengthRead.Fault k) = base k + at
 lengthPlace at from end (LengthRead.Definite k n) = from + (k + n)
 lengthPlace at from end LengthRead.Indefinite = opening + end
-
--- a length that takes k octets behind its first; 127 is no such number
-unfoldable pub longRead : List ℕ → ℕ → LengthRead
-longRead p k = cond (ltb 126 k) (LengthRead.Fault FaultKind.BadLength) (longOf p k)
-
--- how many octets a length takes, by its first
-unfoldable pub lengthSize : ℕ → ℕ
-lengthSize b = cond (leb b 128) 1 (1 + (b - 128))
 
 -- the number of a fault: whom it belongs to and what was read before it is told elsewhere
 unfoldable pub faultPlace : Fault → ℕ

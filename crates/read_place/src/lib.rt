@@ -7,8 +7,8 @@ ghost use Prim.Native.Nat.{suc, _+_, _-_, _/_, _%_, _<_, _≤_};
 ghost use Rattle.base.specs.Number.{numberFrom};
 ghost use lib.ListN.{length, getD, take, drop};
 ghost use Rattle.element.specs.Head.{endOf, tagOf, within, lengthOf};
-ghost use Rattle.read_place.specs.Places.{span, part, finite, Stands, endedOf, unfinishedOf, behindOf, tagPlace, lengthPlace, longRead, lengthSize, wrongPlace, standsOf, entryPlace, shortStop, badPlace, countOf, Finishes, nothing, Walked, WalkedOut, shortPlace, until, Ready};
-ghost use Rattle.element.specs.Answers.{elementWalk, seriesWalk};
+ghost use Rattle.read_place.specs.Places.{part, finite, Stands, endedOf, unfinishedOf, behindOf, tagPlace, lengthPlace, wrongPlace, standsOf, entryPlace, shortStop, badPlace, countOf, Finishes, nothing, Walked, WalkedOut, shortPlace, until, Ready};
+ghost use Rattle.element.specs.Answers.{elementWalk, seriesWalk, span, longRead, lengthSize};
 ghost use Rattle.read_place.specs.Laying.{layText};
 use base::wide;
 

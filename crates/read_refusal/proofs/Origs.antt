@@ -16,11 +16,12 @@ use Rattle.element.specs.declared.LengthRead.{LengthRead}
 use Rattle.element.specs.Element.{constructorOf}
 use Rattle.element.specs.Fault.{Text, Fault, fault, at, withOrigId}
 use Rattle.element.specs.Head.{endOf, lengthOf}
-use Rattle.element.specs.Answers.{frontOf}
+use Rattle.element.specs.Answers.{frontOf, lengthSize}
 use Rattle.element.specs.Ask.{Got, got, bad, next, check, blamed, definite, indefinite, Head, head, Body, askLength, atEnd, ask}
 use Rattle.element.specs.Parts.{Item, level, leafItem, inside, aroundItem, orItem, bindBody, mapBody, thenBody}
 use Rattle.element.proofs.Asking.{Then, the-fact, fact, then-next, then-blamed, ask-sound}
 use Rattle.element.proofs.Reading.{definite-size}
+use Rattle.element.proofs.Views.{span-length, span-take}
 use Rattle.tcap.specs.declared.OptionalOrig.{OptionalOrig}
 use Rattle.tcap.specs.Meaning.{Originating, orig, Message, unidirectional, begin, finish, continue, abort, silent}
 use Rattle.tcap.specs.WellFormed.{the93, idOk}
@@ -28,8 +29,7 @@ use Rattle.tcap.specs.Productions.{origItem, destItem, carried, tailBody, uniBo
 use Rattle.tcap.specs.Record.{origField}
 use Rattle.tcap.specs.Reading.{learnt, readFirst, locatedUpTo}
 use Rattle.tcap.proofs.Places.{origOf}
-use Rattle.read_place.specs.Places.{Far, Near, until, finite, opening, part, front, Placed, Reads, Leads, standsOf, entryPlace, lengthPlace, lengthSize}
-use Rattle.read_place.proofs.Views.{span-length, span-take}
+use Rattle.read_place.specs.Places.{Far, Near, until, finite, opening, part, front, Placed, Reads, Leads, standsOf, entryPlace, lengthPlace}
 use Rattle.read_place.proofs.Answers.{far-fault, placed-near}
 use Rattle.read_place.proofs.Fronts.{byFront, ask-front}
 use Rattle.read_place.proofs.Onto.{ask-bind, ask-map}

@@ -13,13 +13,13 @@ use Rattle.element.specs.declared.FaultKind.{FaultKind}
 use Rattle.element.specs.declared.TagRead.{TagRead}
 use Rattle.element.specs.Element.{constructorOf}
 use Rattle.element.specs.Fault.{fault, Text, withInvokeId}
-use Rattle.element.specs.Answers.{frontOf}
+use Rattle.element.specs.Answers.{frontOf, lengthSize}
 use Rattle.element.specs.Ask.{Got, ask}
 use Rattle.element.specs.Parts.{Item, level, aroundItem, orItem, bindBody, onlyBody, lastBody, integerItem}
 use Rattle.tcap.specs.Meaning.{Component, last, notLast, reject}
 use Rattle.tcap.specs.WellFormed.{the93}
 use Rattle.tcap.specs.Productions.{idOrNullItem, problemItem, levelAt, bothItem, invokeBody, resultBody, errorBody, rejectBody, componentItem, noted}
-use Rattle.read_place.specs.Places.{Far, Near, until, finite, part, faultPlace, base, front, Placed, nothing, Reads, Finishes, Leads, standsOf, entryPlace, wrongPlace, lengthSize, unknownComponent}
+use Rattle.read_place.specs.Places.{Far, Near, until, finite, part, faultPlace, base, front, Placed, nothing, Reads, Finishes, Leads, standsOf, entryPlace, wrongPlace, unknownComponent}
 use Rattle.read_place.proofs.Answers.{Keeps}
 use Rattle.read_place.proofs.Fronts.{wrong-ask}
 use Rattle.read_place.proofs.Items.{front-octet, stands-only, or-left, or-right}

@@ -12,7 +12,8 @@ use Rattle.element.specs.Fault.{fault, at, withInvokeId}
 use Rattle.element.specs.Head.{endOf}
 use Rattle.element.specs.Ask.{Body, ask}
 use Rattle.element.specs.Parts.{level, bindBody, thenBody, onlyBody, lastBody, optBody, mapBody, integerItem}
-use Rattle.read_place.specs.Places.{faultPlace, part, finite, endedOf, behindOf, lengthSize, Placed, front, nothing, standsOf, entryPlace, Reads, Finishes, until, Far, Near}
+use Rattle.element.specs.Answers.{lengthSize}
+use Rattle.read_place.specs.Places.{faultPlace, part, finite, endedOf, behindOf, Placed, front, nothing, standsOf, entryPlace, Reads, Finishes, until, Far, Near}
 use Rattle.read_place.proofs.Answers.{Keeps}
 use Rattle.read_place.proofs.Fronts.{ended-is, not-ended}
 use Rattle.read_place.proofs.Bodies.{placed-where, bind-far, bind-near, then-far, then-near, last-far, last-near, last-none, map-closed}

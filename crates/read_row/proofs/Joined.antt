@@ -15,14 +15,14 @@ use Rattle.element.specs.declared.TagRead.{TagRead}
 use Rattle.element.specs.Element.{constructorOf}
 use Rattle.element.specs.Fault.{Text, withInvokeId}
 use Rattle.element.specs.Head.{endOf, lengthOf}
-use Rattle.element.specs.Answers.{frontOf}
+use Rattle.element.specs.Answers.{frontOf, lengthSize}
 use Rattle.element.specs.Walk.{walkItem}
 use Rattle.element.specs.Ask.{Body, ask}
 use Rattle.element.specs.Parts.{Item, level, integerItem, bindBody, onlyBody, lastBody, mapBody}
 use Rattle.tcap.specs.Meaning.{Code, Component, invoke, last, notLast, error, reject}
 use Rattle.tcap.specs.WellFormed.{the93}
 use Rattle.tcap.specs.Productions.{idItem, idOrNullItem, problemItem, codeItem, codeBody, bothItem, levelAt, noted, resultBody, componentItem}
-use Rattle.read_place.specs.Places.{Far, Near, until, finite, part, front, Placed, Reads, Finishes, standsOf, entryPlace, lengthPlace, lengthSize, endedOf, askedPlace, wrongPlace, base, unknownComponent}
+use Rattle.read_place.specs.Places.{Far, Near, until, finite, part, front, Placed, Reads, Finishes, standsOf, entryPlace, lengthPlace, endedOf, askedPlace, wrongPlace, base, unknownComponent}
 use Rattle.read_place.specs.Leaves.{Left, Leaves, LeavesAll, untold}
 use Rattle.read_place.specs.Laying.{layId, layRejectId, layLinked, layCode, layElement, layParameter, layReturned, layProblem, layComponent}
 use Rattle.read_place.proofs.Answers.{far}

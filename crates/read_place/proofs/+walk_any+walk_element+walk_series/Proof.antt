@@ -2,7 +2,7 @@
 use borrow.Author.Needs.{needs}
 use native.Mathlib.Omega.{arith}
 use denote.Ref.{now}
-use Prim.Native.Nat.{ℕ, _+_, _-_, _%_, _≤_, _<_}
+use Prim.Native.Nat.{ℕ, _+_, _-_, _≤_, _<_}
 use Rattle.read_place.proofs.Fronts.{tag-inside, tag-room}
 use Rattle.read_place.proofs.Walks.{short-walk, any-tag, any-zero, any-code, any-deep, any-leaf, any-open-far, length-inside, length-stands, tag-next, any-open, Going, going-less, going-from, going-to, going-on, going-start, going-ended, going-unfinished, going-far}
 use borrow.Fn.Kinds.{In}

@@ -1,10 +1,11 @@
 -- `ended` meets its contract. Assumes nothing.
 use borrow.Author.Needs.{needs}
-use Rattle.read_place.proofs.Views.{endBy, end-opened, ended-closed, ended-same}
+use Rattle.read_place.proofs.Views.{end-opened, ended-closed, ended-same}
 use Rattle.read_place.specs.Places.{endedOf}
 use Rattle.base.proofs.Tests.{tests}
 use Rattle.read_place.proofs.ended.Statement.{statement}
 use Rattle.read_place.proofs.ended.Tie as tie
+use Rattle.element.proofs.Views.{endBy}
 
 returns : tie.Need-returns
 unfolding endedOf endBy

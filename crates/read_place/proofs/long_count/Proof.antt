@@ -1,5 +1,5 @@
 -- `long_count` meets its contract. Assumes nothing.
-use Rattle.read_place.proofs.Views.{lengthOctets, place-next, place-early, place-within, place-past}
+use Rattle.read_place.proofs.Views.{place-early, place-within, place-past}
 use Rattle.base.specs.Number.{numberFrom}
 use lib.ListN.{drop}
 use Prim.Native.Nat.{_≤_, _-_}
@@ -7,6 +7,7 @@ use mathlib.Core.Path.{_≡_}
 use borrow.Author.Needs.{needs}
 use Rattle.read_place.proofs.long_count.Statement.{statement}
 use Rattle.read_place.proofs.long_count.Tie as tie
+use Rattle.element.proofs.Views.{lengthOctets, place-next}
 
 abbrev Inv-loop : tie.InvT-loop
 Inv-loop m at from k room value₀ i₀ value i = (i ≤ k) × (numberFrom 0 (lengthOctets m from k) ≡ numberFrom value (drop i (lengthOctets m from k)))

@@ -3,8 +3,10 @@ use borrow.Author.Needs.{needs}
 use native.Mathlib.Omega.{arith}
 use Prim.Native.Nat.{_+_}
 use Rattle.element.specs.Form.{fewestOf}
-use Rattle.read_place.proofs.Views.{longBy, long-view, long-low, long-one, long-past, long-more}
-use Rattle.read_place.specs.Places.{lengthPlace, longRead, base}
+use Rattle.element.proofs.Views.{longBy, long-view}
+use Rattle.element.specs.Answers.{longRead}
+use Rattle.read_place.proofs.Views.{long-low, long-one, long-past, long-more}
+use Rattle.read_place.specs.Places.{lengthPlace, base}
 use Rattle.base.proofs.Tests.{tests}
 use Rattle.read_place.proofs.long_length.Statement.{statement}
 use Rattle.read_place.proofs.long_length.Tie as tie

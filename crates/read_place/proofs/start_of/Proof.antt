@@ -1,10 +1,10 @@
 -- `start_of` meets its contract. Assumes nothing.
 use borrow.Author.Needs.{needs}
 use native.Mathlib.Omega.{arith}
-use Rattle.read_place.specs.Places.{lengthSize}
 use Rattle.base.proofs.Tests.{tests}
 use Rattle.read_place.proofs.start_of.Statement.{statement}
 use Rattle.read_place.proofs.start_of.Tie as tie
+use Rattle.element.specs.Answers.{lengthSize}
 
 cast-b : tie.Need-cast-b
 cast-b c = omega (arith, c .shared-slice-known .given (c .before .args .from))

@@ -1,7 +1,7 @@
 -- `tag_at` meets its contract. Assumes nothing.
 use borrow.Author.Needs.{needs}
 use Rattle.element.specs.Element.{extendedOf}
-use Rattle.read_place.proofs.Views.{tagBy, tag-view}
+use Rattle.element.proofs.Views.{tagBy, tag-view}
 use Rattle.read_place.specs.Places.{tagPlace, base}
 use Rattle.base.proofs.Tests.{tests}
 use Rattle.read_place.proofs.tag_at.Statement.{statement}

@@ -1,10 +1,11 @@
 -- `unfinished` meets its contract. Assumes nothing.
 use borrow.Author.Needs.{needs}
-use Rattle.read_place.proofs.Views.{unfinished-not, endBy, end-closed, end-opened, unfinished-same}
+use Rattle.read_place.proofs.Views.{unfinished-not, end-closed, end-opened, unfinished-same}
 use Rattle.read_place.specs.Places.{unfinishedOf}
 use Rattle.base.proofs.Tests.{tests}
 use Rattle.read_place.proofs.unfinished.Statement.{statement}
 use Rattle.read_place.proofs.unfinished.Tie as tie
+use Rattle.element.proofs.Views.{endBy}
 
 returns : tie.Need-returns
 unfolding unfinishedOf endBy
