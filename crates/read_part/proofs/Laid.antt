@@ -23,25 +23,25 @@ use Rattle.element.specs.Head.{endOf}
 use Rattle.element.specs.Answers.{elementWalk, frontOf}
 use Rattle.element.specs.Walk.{walkItem}
 use Rattle.element.specs.Ask.{Got, got, bad, next, blamed, Head, Body, ask}
-use Rattle.element.specs.Parts.{Item, Where, level, place, leafItem, mapItem, orItem, integerItem, onlyBody, lastBody}
+use Rattle.element.specs.Parts.{Item, Where, level, place, leafItem, mapItem, orItem, integerItem}
 use Rattle.element.proofs.Asking.{Then, fact, the-fact, then-next, then-blamed, ask-sound}
 use Rattle.element.proofs.Views.{span-take, span-length}
 use Rattle.tcap.specs.declared.Problem.{Problem}
 use Rattle.tcap.specs.Meaning.{local, global}
 use Rattle.tcap.specs.Productions.{single?, octetItem, idItem, nameItem, codeItem, idOrNullItem, problemItem}
-use Rattle.read_place.specs.Places.{Far, Near, until, finite, part, front, Placed, Reads, Finishes, Leads, Walked, standsOf, countOf, entryPlace, badPlace, base, endedOf, unfinishedOf}
+use Rattle.read_place.specs.Places.{Far, Near, until, finite, part, front, Placed, Reads, Finishes, Leads, Walked, standsOf, countOf, entryPlace, badPlace, base, endedOf, unfinishedOf, behindOf, nothing, missing, cutOff}
 use Rattle.read_place.specs.Leaves.{Left, Leaves, LeavesAll, untold}
 use Rattle.read_place.specs.Laying.{layText, layId, layRejectId, layCode, layElement, layParameter, layProblem}
 use Rattle.read_place.proofs.Answers.{placed-near}
-use Rattle.read_place.proofs.Fronts.{ended-is, not-ended, more-here}
+use Rattle.read_place.proofs.Fronts.{ended-is, not-ended}
 use Rattle.read_place.proofs.Items.{stands-only, stands-other, counted, or-left, or-right}
 use Rattle.read_place.proofs.Onto.{ask-onto, missing-both}
 use Rattle.read_place.proofs.Values.{placed-got, leaf-stood, value-walk}
-use Rattle.read_place.proofs.Optional.{walk-placed, deep-enough}
+use Rattle.read_place.proofs.Optional.{deep-enough, here-placed, last-ended, last-cut, last-walk-far, last-walk, sole-missing, sole-cut, sole-walk-far, sole-walk}
 use Rattle.read_place.proofs.Leaves.{leaves-far, leaves-all-far, left-next, only-left, last-left, last-left-none}
 use Rattle.read_field.proofs.Fields.{integer-sized, single-sized, name-sized, local-good}
 use Rattle.read_field.proofs.Choices.{reads-map}
-use Rattle.read_part.specs.Parts.{layOctet}
+use Rattle.read_part.specs.Parts.{layOctet, Held, parameterBody, layHeld}
 
 -- a fault leaves anything
 pub fault-one : {A : Type 0} (lay : A → List ℕ → List ℕ) (x : Item A) (m : List ℕ) (at stop r : ℕ) (old new : List ℕ) → Reads x m at stop r → Far r → Reads x m at stop r × Leaves lay untold x m at stop old new
@@ -275,32 +275,65 @@ module _ (m : List ℕ) (at stop : ℕ) (h : until stop ≤ length m) (old new :
 
 -- A parameter
 
-module _ (left : ℕ) (m : List ℕ) (at stop : ℕ) (h : until stop ≤ length m) (b : Bool) (is : b ≡ endedOf (endOf (finite stop) (part m at stop))) (old : List ℕ) where
-  pub no-parameter : b ≡ true → LeavesAll layParameter untold (lastBody (level left) (walkItem left)) m at stop old old
-  unfolding layParameter
-  no-parameter t = last-left-none untold (level left) (walkItem left) layParameter m at stop old (λ l. refl) (ended-is (endOf (finite stop) (part m at stop)) b is t)
+module _ (must : Bool) (left : ℕ) (m : List ℕ) (at stop : ℕ) (b : Bool) (is : b ≡ endedOf (endOf (finite stop) (part m at stop))) where
+  pub parameter-missing : b ≡ true → must ≡ true → Finishes (parameterBody must left) m at stop (missing + at)
+  unfolding Held parameterBody
+  parameter-missing t u = rw u (sole-missing m at stop left b is t)
 
-  module _ (c : Bool) (also : c ≡ unfinishedOf (endOf (finite stop) (part m at stop))) (no : b ≡ false) (nor : c ≡ false) (r : ℕ) (walked : Walked at (until stop) (elementWalk 0 left at (part m at stop)) r) (near : Near r) where
-    walk-here : Placed at (until stop) (ask (front (level left) FaultKind.Another (walkItem left)) (finite stop) at (part m at stop)) r
-    walk-here = walk-placed left (finite stop) at (until stop) r (part m at stop) (more-here (endOf (finite stop) (part m at stop)) b c is also no nor) walked
+  module _ (none-asked : must ≡ false) (t : b ≡ true) where
+    pub no-parameter : at ≤ until stop → until stop ≤ length m → (r : ℕ) → r ≡ behindOf at stop → Finishes (parameterBody must left) m at stop r
+    unfolding Held parameterBody
+    no-parameter g h r e = rw none-asked (last-ended m at stop left b is g h t r e)
 
-    pub walk-from : at ≤ r
-    walk-from = placed-near (ask (front (level left) FaultKind.Another (walkItem left)) (finite stop) at (part m at stop)) at (until stop) r walk-here near .0
+    pub no-parameter-left : (old : List ℕ) → LeavesAll (layHeld must) untold (parameterBody must left) m at stop old old
+    unfolding Held parameterBody layHeld layParameter
+    no-parameter-left old = rw none-asked (last-left-none untold (level left) (walkItem left) layParameter m at stop old (λ l. refl) (ended-is (endOf (finite stop) (part m at stop)) b is t))
 
-    pub walk-to : r ≤ until stop
-    walk-to = placed-near (ask (front (level left) FaultKind.Another (walkItem left)) (finite stop) at (part m at stop)) at (until stop) r walk-here near .1
+  module _ (c : Bool) (also : c ≡ unfinishedOf (endOf (finite stop) (part m at stop))) where
+    pub parameter-cut : c ≡ true → Finishes (parameterBody must left) m at stop (cutOff + at)
+    unfolding Held parameterBody
+    parameter-cut t = go must
+      where
+        go : (must : Bool) → Finishes (parameterBody must left) m at stop (cutOff + at)
+        go true = sole-cut m at stop left b is c also t
+        go false = last-cut m at stop left b is c also t
 
-    module _ (new : List ℕ) (laid : new ≡ layText 16 at (r - at) (set old 6 1)) where
-      walk-left : Left layElement untold (ask (front (level left) FaultKind.Another (walkItem left)) (finite stop) at (part m at stop)) old new
-      unfolding layElement
-      walk-left =
-          let long : length (take (r - at) (part m at stop)) ≡ r - at = length-take-le (r - at) (part m at stop) (omega (arith, walk-from, walk-to, span-length m at (until stop) h)) in
-          got-left layElement (λ v n. v ≡ (at, take n (part m at stop))) _ at (until stop) r old new walk-here (value-walk left (level left) (finite stop) at (part m at stop)) (λ v q. laid ∙ rw (q, long))
+    module _ (no : b ≡ false) (nor : c ≡ false) (r : ℕ) (walked : Walked at (until stop) (elementWalk 0 left at (part m at stop)) r) where
+      pub parameter-far : Far r → Finishes (parameterBody must left) m at stop r
+      unfolding Held parameterBody
+      parameter-far f = go must
+        where
+          go : (must : Bool) → Finishes (parameterBody must left) m at stop r
+          go true = sole-walk-far m at stop left b is c also no nor r walked f
+          go false = last-walk-far m at stop left b is c also no nor r walked f
 
-      pub last-parameter : 1 ≤ left → LeavesAll layParameter untold (lastBody (level left) (walkItem left)) m at stop old new
-      unfolding layParameter
-      last-parameter deep =
-          last-left untold (level left) (walkItem left) m at stop r walk-here layElement old (λ f l u. u) (deep-enough left deep) (not-ended (endOf (finite stop) (part m at stop)) b is no) layParameter (λ a l. refl) new near walk-left (quiet _ new)
+      module _ (near : Near r) where
+        abbrev here : Placed at (until stop) (ask (front (level left) FaultKind.Another (walkItem left)) (finite stop) at (part m at stop)) r
+        here = here-placed m at stop left b is c also no nor r walked
 
-      pub sole-parameter : 1 ≤ left → LeavesAll layElement untold (onlyBody (level left) (walkItem left)) m at stop old new
-      sole-parameter deep = only-left untold (level left) (walkItem left) m at stop r walk-here layElement old (λ f l u. u) (deep-enough left deep) new near walk-left (quiet _ new)
+        pub walk-from : at ≤ r
+        walk-from = placed-near (ask (front (level left) FaultKind.Another (walkItem left)) (finite stop) at (part m at stop)) at (until stop) r here near .0
+
+        pub parameter-near : 1 ≤ left → (s : ℕ) → Finishes nothing m r stop s → Finishes (parameterBody must left) m at stop s
+        unfolding Held parameterBody
+        parameter-near deep s e = go must
+          where
+            go : (must : Bool) → Finishes (parameterBody must left) m at stop s
+            go true = sole-walk m at stop left b is c also no nor r walked deep near s e
+            go false = last-walk m at stop left b is c also no nor r walked deep near s e
+
+        module _ (h : until stop ≤ length m) (old new : List ℕ) (laid : new ≡ layText 16 at (r - at) (set old 6 1)) where
+          walk-left : Left layElement untold (ask (front (level left) FaultKind.Another (walkItem left)) (finite stop) at (part m at stop)) old new
+          unfolding layElement
+          walk-left =
+              let to = placed-near (ask (front (level left) FaultKind.Another (walkItem left)) (finite stop) at (part m at stop)) at (until stop) r here near .1 in
+              let long : length (take (r - at) (part m at stop)) ≡ r - at = length-take-le (r - at) (part m at stop) (omega (arith, walk-from, to, span-length m at (until stop) h)) in
+              got-left layElement (λ v n. v ≡ (at, take n (part m at stop))) _ at (until stop) r old new here (value-walk left (level left) (finite stop) at (part m at stop)) (λ v q. laid ∙ rw (q, long))
+
+          pub parameter-left : 1 ≤ left → LeavesAll (layHeld must) untold (parameterBody must left) m at stop old new
+          unfolding Held parameterBody layHeld layParameter
+          parameter-left deep = go must
+            where
+              go : (must : Bool) → LeavesAll (layHeld must) untold (parameterBody must left) m at stop old new
+              go true = only-left untold (level left) (walkItem left) m at stop r here layElement old (λ f l u. u) (deep-enough left deep) new near walk-left (quiet _ new)
+              go false = last-left untold (level left) (walkItem left) m at stop r here layElement old (λ f l u. u) (deep-enough left deep) (not-ended (endOf (finite stop) (part m at stop)) b is no) layParameter (λ a l. refl) new near walk-left (quiet _ new)

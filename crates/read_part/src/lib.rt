@@ -6,12 +6,11 @@ ghost use lib.Seq.{sets};
 ghost use Rattle.base.specs.Number.{octetsIn};
 ghost use Rattle.read_place.specs.Places.{Leads, Reads, Finishes, Ready};
 ghost use Rattle.read_place.specs.Leaves.{Leaves, LeavesAll, untold};
-ghost use Rattle.read_place.specs.Laying.{layId, layRejectId, layCode, layElement, layParameter, layProblem};
-ghost use Rattle.read_part.specs.Parts.{layOctet};
+ghost use Rattle.read_place.specs.Laying.{layId, layRejectId, layCode, layProblem};
+ghost use Rattle.read_part.specs.Parts.{layOctet, parameterBody, layHeld};
 ghost use Rattle.tcap.specs.Meaning.{local, global};
 ghost use Rattle.tcap.specs.Productions.{octetItem, idItem, idOrNullItem, problemItem, nameItem, codeItem};
-ghost use Rattle.element.specs.Parts.{integerItem, mapItem, level, onlyBody, lastBody};
-ghost use Rattle.element.specs.Walk.{walkItem};
+ghost use Rattle.element.specs.Parts.{integerItem, mapItem};
 use base::piece;
 use primitive::bits;
 use read_field::name_at;
@@ -106,35 +105,24 @@ pub fn code_at(m: &[u8], at: usize, stop: usize, row: &mut [u8]) -> usize
     local_at(m, at, stop, row)
 }
 
-// A parameter, or none: the place behind the contents.
-pub fn last_put(m: &[u8], at: usize, stop: usize, left: usize, row: &mut [u8]) -> usize
+// A parameter, which must stand here or may be missing: the place behind the contents.
+pub fn parameter_at(
+    m: &[u8],
+    at: usize,
+    stop: usize,
+    left: usize,
+    must: bool,
+    row: &mut [u8],
+) -> usize
     requires { ⌜ Ready (now m) at stop × (1 ≤ left) × (length (now row) ≡ 24) ⌝ }
-    ensures { λ r. ⌜ Finishes (lastBody (level left) (walkItem left)) (now (m .entry)) at stop r ⌝ }
-    ensures { λ r. ⌜ LeavesAll layParameter untold (lastBody (level left) (walkItem left)) (now (m .entry)) at stop (now (row .entry)) (now (row .exit)) ⌝ }
+    ensures { λ r. ⌜ Finishes (parameterBody must left) (now (m .entry)) at stop r ⌝ }
+    ensures { λ r. ⌜ LeavesAll (layHeld must) untold (parameterBody must left) (now (m .entry)) at stop (now (row .entry)) (now (row .exit)) ⌝ }
 {
     if ended(m, at, stop) {
+        if must {
+            return MISSING + at;
+        }
         return behind(at, stop);
-    }
-    if unfinished(m, at, stop) {
-        return CUT_OFF + at;
-    }
-    let r = walk_element(m, at, stop % OPEN, left);
-    if r >= FAULT {
-        return r;
-    }
-    row[6] = 1;
-    put_text(row, 16, at, r - at);
-    leave(m, r, stop)
-}
-
-// A parameter that must stand here: the place behind the contents.
-pub fn sole_put(m: &[u8], at: usize, stop: usize, left: usize, row: &mut [u8]) -> usize
-    requires { ⌜ Ready (now m) at stop × (1 ≤ left) × (length (now row) ≡ 24) ⌝ }
-    ensures { λ r. ⌜ Finishes (onlyBody (level left) (walkItem left)) (now (m .entry)) at stop r ⌝ }
-    ensures { λ r. ⌜ LeavesAll layElement untold (onlyBody (level left) (walkItem left)) (now (m .entry)) at stop (now (row .entry)) (now (row .exit)) ⌝ }
-{
-    if ended(m, at, stop) {
-        return MISSING + at;
     }
     if unfinished(m, at, stop) {
         return CUT_OFF + at;

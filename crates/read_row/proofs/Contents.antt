@@ -11,46 +11,42 @@ use Rattle.element.specs.Element.{constructorOf}
 use Rattle.element.specs.Fault.{fault, at, withInvokeId}
 use Rattle.element.specs.Head.{endOf}
 use Rattle.element.specs.Ask.{Body, ask}
-use Rattle.element.specs.Parts.{level, bindBody, thenBody, onlyBody, lastBody, optBody, mapBody, integerItem}
+use Rattle.element.specs.Parts.{level, bindBody, lastBody, optBody, mapBody, integerItem}
 use Rattle.element.specs.Answers.{lengthSize}
 use Rattle.read_place.specs.Places.{faultPlace, part, finite, endedOf, behindOf, Placed, front, nothing, standsOf, entryPlace, Reads, Finishes, until, Far, Near}
 use Rattle.read_place.proofs.Answers.{Keeps}
 use Rattle.read_place.proofs.Fronts.{ended-is, not-ended}
 use Rattle.read_place.proofs.Bodies.{placed-where, bind-far, bind-near, then-far, then-near, last-far, last-near, last-none, map-closed}
 use Rattle.read_place.proofs.Items.{around-near, entry-far}
-use Rattle.element.specs.Walk.{walkItem}
 use Rattle.tcap.specs.WellFormed.{the93}
 use Rattle.tcap.specs.Productions.{codeItem, codeBody, invokeBody, errorBody, bothItem, levelAt, noted}
 use lib.IntN.{ℤ}
-use Rattle.read_place.proofs.Optional.{opt-far, opt-near, opt-none, reads-within}
+use Rattle.read_place.proofs.Optional.{opt-far, opt-near, opt-none, reads-within, deep-enough}
+use Rattle.read_part.specs.Parts.{Held, parameterBody}
+use Rattle.read_row.specs.Component.{codedBody, linkedBody}
 
 module _ (m : List ℕ) (at stop r : ℕ) (e : Reads codeItem m at stop r) where
   at-level : (l : ℕ) → ltb 0 l ≡ true → Placed at (until stop) (ask (front (level l) FaultKind.Another codeItem) (finite stop) at (part m at stop)) r
   at-level l d = placed-where codeItem FaultKind.Another (level l) (λ f. refl) (finite stop) at (part m at stop) (until stop) r d e
 
-  pub code-far : Far r → Finishes (codeBody the93) m at stop r
-  code-far f = then-far (level 13) codeItem m at stop r (at-level 13 refl) (lastBody (level 13) (walkItem 13)) f
+  module _ (must : Bool) (left : ℕ) (deep : 1 ≤ left) where
+    pub code-far : Far r → Finishes (codedBody must left) m at stop r
+    code-far f = then-far (level left) codeItem m at stop r (at-level left (deep-enough left deep)) (parameterBody must left) f
 
-  pub code-near : Near r → (s : ℕ) → Finishes (lastBody (level 13) (walkItem 13)) m r stop s → Finishes (codeBody the93) m at stop s
-  code-near f s q = then-near (level 13) codeItem m at stop r (at-level 13 refl) (lastBody (level 13) (walkItem 13)) s f q
-
-  pub both-far : Far r → Finishes (thenBody (level 12) codeItem (onlyBody (level 12) (walkItem 12))) m at stop r
-  both-far f = then-far (level 12) codeItem m at stop r (at-level 12 refl) (onlyBody (level 12) (walkItem 12)) f
-
-  pub both-near : Near r → (s : ℕ) → Finishes (onlyBody (level 12) (walkItem 12)) m r stop s → Finishes (thenBody (level 12) codeItem (onlyBody (level 12) (walkItem 12))) m at stop s
-  both-near f s q = then-near (level 12) codeItem m at stop r (at-level 12 refl) (onlyBody (level 12) (walkItem 12)) s f q
+    pub code-near : Near r → (s : ℕ) → Finishes (parameterBody must left) m r stop s → Finishes (codedBody must left) m at stop s
+    code-near f s q = then-near (level left) codeItem m at stop r (at-level left (deep-enough left deep)) (parameterBody must left) s f q
 
 -- a linked ID or none
 module _ (m : List ℕ) (at stop : ℕ) (g : at ≤ until stop) (h : until stop ≤ length m) (b : Bool) (is : b ≡ standsOf m at stop 128) where
-  pub linked-none : b ≡ false → (r : ℕ) → Finishes (codeBody the93) m at stop r → Finishes (optBody (integerItem 128 1) (codeBody the93)) m at stop r
-  linked-none t r e = opt-none 128 (integerItem 128 1) (λ a. refl) (codeBody the93) refl refl refl (λ f. refl) (omega arith, omega arith, omega arith) m at stop g h b is t r e
+  pub linked-none : b ≡ false → (r : ℕ) → Finishes (codedBody false 13) m at stop r → Finishes linkedBody m at stop r
+  linked-none t r e = opt-none 128 (integerItem 128 1) (λ a. refl) (codedBody false 13) refl refl refl (λ f. refl) (omega arith, omega arith, omega arith) m at stop g h b is t r e
 
   module _ (t : b ≡ true) (r : ℕ) (e : Reads (integerItem 128 1) m at stop r) where
-    pub linked-far : Far r → Finishes (optBody (integerItem 128 1) (codeBody the93)) m at stop r
-    linked-far f = opt-far 128 (integerItem 128 1) (λ a. refl) (codeBody the93) refl refl refl (λ f. refl) (omega arith, omega arith, omega arith) m at stop g h b is t r e f
+    pub linked-far : Far r → Finishes linkedBody m at stop r
+    linked-far f = opt-far 128 (integerItem 128 1) (λ a. refl) (codedBody false 13) refl refl refl (λ f. refl) (omega arith, omega arith, omega arith) m at stop g h b is t r e f
 
-    pub linked-near : Near r → (s : ℕ) → Finishes (codeBody the93) m r stop s → Finishes (optBody (integerItem 128 1) (codeBody the93)) m at stop s
-    linked-near f s q = opt-near 128 (integerItem 128 1) (λ a. refl) (codeBody the93) refl refl refl (λ f. refl) (omega arith, omega arith, omega arith) m at stop g h b is t r e f s q
+    pub linked-near : Near r → (s : ℕ) → Finishes (codedBody false 13) m r stop s → Finishes linkedBody m at stop s
+    linked-near f s q = opt-near 128 (integerItem 128 1) (λ a. refl) (codedBody false 13) refl refl refl (λ f. refl) (omega arith, omega arith, omega arith) m at stop g h b is t r e f s q
 
 -- the invoke ID and the rest; it goes with later faults, whose number it does not change
 pub noted-keeps : (i : ℤ) → Keeps (noted i)
@@ -71,13 +67,15 @@ module _ (m : List ℕ) (at stop r : ℕ) (e : Reads (integerItem 2 1) m at stop
   pub invoke-far : Far r → Finishes (invokeBody the93) m at stop r
   invoke-far h = with-id-far (optBody (integerItem 128 1) (codeBody the93)) _ m at stop r e h
 
-  pub invoke-near : Near r → (s : ℕ) → Finishes (optBody (integerItem 128 1) (codeBody the93)) m r stop s → Finishes (invokeBody the93) m at stop s
+  pub invoke-near : Near r → (s : ℕ) → Finishes linkedBody m r stop s → Finishes (invokeBody the93) m at stop s
+  unfolding Held parameterBody
   invoke-near h s q = with-id-near (optBody (integerItem 128 1) (codeBody the93)) _ m at stop r e h s q
 
   pub error-far : Far r → Finishes (errorBody the93) m at stop r
   error-far h = with-id-far (codeBody the93) _ m at stop r e h
 
-  pub error-near : Near r → (s : ℕ) → Finishes (codeBody the93) m r stop s → Finishes (errorBody the93) m at stop s
+  pub error-near : Near r → (s : ℕ) → Finishes (codedBody false 13) m r stop s → Finishes (errorBody the93) m at stop s
+  unfolding Held parameterBody
   error-near h s q = with-id-near (codeBody the93) _ m at stop r e h s q
 
 -- 30, or nothing
@@ -93,10 +91,10 @@ module _ (m : List ℕ) (at stop : ℕ) (g : at ≤ until stop) (h : until stop 
     unfolding constructorOf
     result-entry f = last-far (level 13) (bothItem the93) m at stop inner (lift-both inner (entry-far true m at stop 48 inner g h entry (bothItem the93) (omega arith, omega arith, omega arith) refl (λ a. refl) f)) (not-ended (endOf (finite stop) (part m at stop)) b is no) f
 
-    module _ (top : length m ≤ 65535) (near : Near inner) (st : ℕ) (start : st ≡ at + 1 + lengthSize (getD m (at + 1) 0)) (r : ℕ) (e : Finishes (thenBody (level 12) codeItem (onlyBody (level 12) (walkItem 12))) m st inner r) where
+    module _ (top : length m ≤ 65535) (near : Near inner) (st : ℕ) (start : st ≡ at + 1 + lengthSize (getD m (at + 1) 0)) (r : ℕ) (e : Finishes (codedBody true 12) m st inner r) where
       held : Reads (bothItem the93) m at stop r
-      unfolding constructorOf
-      held = around-near (thenBody (level 12) codeItem (onlyBody (level 12) (walkItem 12))) m at stop 48 inner st r g h top (omega arith, omega arith, omega arith) refl entry near start e
+      unfolding constructorOf Held parameterBody
+      held = around-near (codedBody true 12) m at stop 48 inner st r g h top (omega arith, omega arith, omega arith) refl entry near start e
 
       pub result-far : Far r → Finishes (lastBody (levelAt the93 4) (bothItem the93)) m at stop r
       result-far f = last-far (level 13) (bothItem the93) m at stop r (lift-both r held) (not-ended (endOf (finite stop) (part m at stop)) b is no) f

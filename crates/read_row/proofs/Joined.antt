@@ -16,23 +16,23 @@ use Rattle.element.specs.Element.{constructorOf}
 use Rattle.element.specs.Fault.{Text, withInvokeId}
 use Rattle.element.specs.Head.{endOf, lengthOf}
 use Rattle.element.specs.Answers.{frontOf, lengthSize}
-use Rattle.element.specs.Walk.{walkItem}
 use Rattle.element.specs.Ask.{Body, ask}
 use Rattle.element.specs.Parts.{Item, level, integerItem, bindBody, onlyBody, lastBody, mapBody}
 use Rattle.tcap.specs.Meaning.{Code, Component, invoke, last, notLast, error, reject}
 use Rattle.tcap.specs.WellFormed.{the93}
-use Rattle.tcap.specs.Productions.{idItem, idOrNullItem, problemItem, codeItem, codeBody, bothItem, levelAt, noted, resultBody, componentItem}
+use Rattle.tcap.specs.Productions.{idItem, idOrNullItem, problemItem, codeItem, bothItem, levelAt, noted, resultBody, componentItem}
 use Rattle.read_place.specs.Places.{Far, Near, until, finite, part, front, Placed, Reads, Finishes, standsOf, entryPlace, lengthPlace, endedOf, askedPlace, wrongPlace, base, unknownComponent}
 use Rattle.read_place.specs.Leaves.{Left, Leaves, LeavesAll, untold}
-use Rattle.read_place.specs.Laying.{layId, layRejectId, layLinked, layCode, layElement, layParameter, layReturned, layProblem, layComponent}
+use Rattle.read_place.specs.Laying.{layId, layRejectId, layLinked, layCode, layElement, layReturned, layProblem, layComponent}
 use Rattle.read_place.proofs.Answers.{far}
 use Rattle.read_place.proofs.Fronts.{ended-is, not-ended}
 use Rattle.read_place.proofs.Bodies.{placed-where}
 use Rattle.read_place.proofs.Items.{around-near, entry-of}
 use Rattle.read_place.proofs.Onto.{ask-map}
-use Rattle.read_place.proofs.Optional.{entry-inside, entry-from, entry-to}
+use Rattle.read_place.proofs.Optional.{deep-enough, entry-inside, entry-from, entry-to}
+use Rattle.read_part.specs.Parts.{Held, parameterBody, layHeld}
 use Rattle.read_place.proofs.Leaves.{far-left, left-next, left-where, bind-left-far, bind-left, then-left, only-left-far, only-left, last-left, last-left-none, around-left, opt-left-none, opt-left}
-use Rattle.read_row.specs.Component.{bothBody, linkedBody, invokedBody, erredBody, returnedBody, rejectedBody, bodyOf, layBoth, layCoded, layInvoked, ReadsComponent, LeavesComponent}
+use Rattle.read_row.specs.Component.{codedBody, linkedBody, invokedBody, erredBody, returnedBody, rejectedBody, bodyOf, layBoth, layCoded, layInvoked, ReadsComponent, LeavesComponent}
 use Rattle.read_row.proofs.ByTag.{lead, by-tag, component-far, component-near}
 use Rattle.read_part.proofs.Laid.{quiet, linked-left}
 
@@ -47,25 +47,24 @@ module _ {A : Type 0} (x : Item A) (l : ℕ) (deep : ltb 0 l ≡ true) (m : List
 -- A code and what stands behind it
 
 module _ (m : List ℕ) (at stop r : ℕ) (e : Reads codeItem m at stop r) (near : Near r) (old mid new : List ℕ) (first : Leaves layCode untold codeItem m at stop old mid) where
-  pub coded-left : LeavesAll layParameter untold (lastBody (level 13) (walkItem 13)) m r stop mid new → LeavesAll layCoded untold (codeBody the93) m at stop old new
-  coded-left q = then-left untold (level 13) codeItem m at stop r (at-level codeItem 13 refl m at stop r e) layCode old (lastBody (level 13) (walkItem 13)) layParameter mid new near (left-level codeItem 13 refl m at stop layCode old mid first) q
-
-  pub both-left : LeavesAll layElement untold (onlyBody (level 12) (walkItem 12)) m r stop mid new → LeavesAll (layBoth layCode layElement) untold bothBody m at stop old new
-  both-left q = then-left untold (level 12) codeItem m at stop r (at-level codeItem 12 refl m at stop r e) layCode old (onlyBody (level 12) (walkItem 12)) layElement mid new near (left-level codeItem 12 refl m at stop layCode old mid first) q
+  pub coded-left : (must : Bool) (left : ℕ) → 1 ≤ left → LeavesAll (layHeld must) untold (parameterBody must left) m r stop mid new → LeavesAll (layCoded must) untold (codedBody must left) m at stop old new
+  coded-left must left deep q =
+      let d = deep-enough left deep in
+      then-left untold (level left) codeItem m at stop r (at-level codeItem left d m at stop r e) layCode old (parameterBody must left) (layHeld must) mid new near (left-level codeItem left d m at stop layCode old mid first) q
 
 -- A linked ID or none
 
 module _ (m : List ℕ) (at stop : ℕ) (g : at ≤ until stop) (h : until stop ≤ length m) (b : Bool) (is : b ≡ standsOf m at stop 128) (old new : List ℕ) where
-  pub unlinked-left : b ≡ false → LeavesAll layCoded untold (codeBody the93) m at stop old new → LeavesAll (layBoth layLinked layCoded) untold linkedBody m at stop old new
+  pub unlinked-left : b ≡ false → LeavesAll (layCoded false) untold (codedBody false 13) m at stop old new → LeavesAll (layBoth layLinked (layCoded false)) untold linkedBody m at stop old new
   unfolding layLinked
   unlinked-left t e =
-      opt-left-none untold 128 (integerItem 128 1) (λ a. refl) (codeBody the93) refl refl refl (λ f. refl) (omega arith, omega arith, omega arith) m at stop g h b is (λ i l. set (set l 3 1) 4 (bitsAt (topOf 1) i)) layCoded (layBoth layLinked layCoded) old t (λ v l. refl) new e
+      opt-left-none untold 128 (integerItem 128 1) (λ a. refl) (codedBody false 13) refl refl refl (λ f. refl) (omega arith, omega arith, omega arith) m at stop g h b is (λ i l. set (set l 3 1) 4 (bitsAt (topOf 1) i)) (layCoded false) (layBoth layLinked (layCoded false)) old t (λ v l. refl) new e
 
-  pub linked-on-left : b ≡ true → (r : ℕ) → Reads (integerItem 128 1) m at stop r → Near r → ((i : ℕ) → getD m i 0 < 256) → LeavesAll layCoded untold (codeBody the93) m r stop (set (set old 3 1) 4 (getD m (at + 2) 0)) new
-      → LeavesAll (layBoth layLinked layCoded) untold linkedBody m at stop old new
+  pub linked-on-left : b ≡ true → (r : ℕ) → Reads (integerItem 128 1) m at stop r → Near r → ((i : ℕ) → getD m i 0 < 256) → LeavesAll (layCoded false) untold (codedBody false 13) m r stop (set (set old 3 1) 4 (getD m (at + 2) 0)) new
+      → LeavesAll (layBoth layLinked (layCoded false)) untold linkedBody m at stop old new
   unfolding layLinked
   linked-on-left t r e near low q =
-      opt-left untold 128 (integerItem 128 1) (λ a. refl) (codeBody the93) refl refl refl (λ f. refl) (omega arith, omega arith, omega arith) m at stop g h b is (λ i l. set (set l 3 1) 4 (bitsAt (topOf 1) i)) layCoded (layBoth layLinked layCoded) old t r e (λ f l u. u)
+      opt-left untold 128 (integerItem 128 1) (λ a. refl) (codedBody false 13) refl refl refl (λ f. refl) (omega arith, omega arith, omega arith) m at stop g h b is (λ i l. set (set l 3 1) 4 (bitsAt (topOf 1) i)) (layCoded false) (layBoth layLinked (layCoded false)) old t r e (λ f l u. u)
       (λ a v l. refl) (set (set old 3 1) 4 (getD m (at + 2) 0)) new near (linked-left m at stop r h 128 (omega arith, omega arith, omega arith) e near low old) q
 
 -- An invoke ID and the rest
@@ -79,20 +78,20 @@ module _ {B : Type 0} (y : Body B) (put : B → List ℕ → List ℕ) (m : List
 
 module _ (m : List ℕ) (at stop r : ℕ) (e : Reads idItem m at stop r) (old mid : List ℕ) (first : Leaves layId untold idItem m at stop old mid) where
   pub invoke-left-far : Far r → LeavesAll layInvoked untold invokedBody m at stop old mid
-  invoke-left-far f = with-id-far linkedBody (layBoth layLinked layCoded) m at stop r e old f mid first
+  invoke-left-far f = with-id-far linkedBody (layBoth layLinked (layCoded false)) m at stop r e old f mid first
 
-  pub error-left-far : Far r → LeavesAll (layBoth layId layCoded) untold erredBody m at stop old mid
-  error-left-far f = with-id-far (codeBody the93) layCoded m at stop r e old f mid first
+  pub error-left-far : Far r → LeavesAll (layBoth layId (layCoded false)) untold erredBody m at stop old mid
+  error-left-far f = with-id-far (codedBody false 13) (layCoded false) m at stop r e old f mid first
 
   pub returned-left-far : Far r → LeavesAll (layBoth layId layReturned) untold returnedBody m at stop old mid
   returned-left-far f = with-id-far (lastBody (level 13) (bothItem the93)) layReturned m at stop r e old f mid first
 
   module _ (f : Near r) (new : List ℕ) where
-    pub invoke-left : LeavesAll (layBoth layLinked layCoded) untold linkedBody m r stop mid new → LeavesAll layInvoked untold invokedBody m at stop old new
-    invoke-left q = with-id linkedBody (layBoth layLinked layCoded) m at stop r e old f mid new first q
+    pub invoke-left : LeavesAll (layBoth layLinked (layCoded false)) untold linkedBody m r stop mid new → LeavesAll layInvoked untold invokedBody m at stop old new
+    invoke-left q = with-id linkedBody (layBoth layLinked (layCoded false)) m at stop r e old f mid new first q
 
-    pub error-left : LeavesAll layCoded untold (codeBody the93) m r stop mid new → LeavesAll (layBoth layId layCoded) untold erredBody m at stop old new
-    error-left q = with-id (codeBody the93) layCoded m at stop r e old f mid new first q
+    pub error-left : LeavesAll (layCoded false) untold (codedBody false 13) m r stop mid new → LeavesAll (layBoth layId (layCoded false)) untold erredBody m at stop old new
+    error-left q = with-id (codedBody false 13) (layCoded false) m at stop r e old f mid new first q
 
     pub returned-left : LeavesAll layReturned untold (lastBody (levelAt the93 4) (bothItem the93)) m r stop mid new → LeavesAll (layBoth layId layReturned) untold returnedBody m at stop old new
     returned-left q = with-id (lastBody (level 13) (bothItem the93)) layReturned m at stop r e old f mid new first q
@@ -108,13 +107,13 @@ module _ (m : List ℕ) (at stop : ℕ) (g : at ≤ until stop) (h : until stop 
   unfolding layReturned
   result-left-none t = last-left-none untold (level 13) (bothItem the93) layReturned m at stop old (λ l. refl) (ended-is (endOf (finite stop) (part m at stop)) b is t)
 
-  pub result-left : b ≡ false → (inner : ℕ) → inner ≡ entryPlace true m at stop 48 → length m ≤ 65535 → Near inner → (st : ℕ) → st ≡ at + 1 + lengthSize (getD m (at + 1) 0) → (r : ℕ) → Finishes bothBody m st inner r → Near r → (new : List ℕ)
-      → LeavesAll (layBoth layCode layElement) untold bothBody m st inner old new → LeavesAll layReturned untold (lastBody (levelAt the93 4) (bothItem the93)) m at stop old new
-  unfolding constructorOf
+  pub result-left : b ≡ false → (inner : ℕ) → inner ≡ entryPlace true m at stop 48 → length m ≤ 65535 → Near inner → (st : ℕ) → st ≡ at + 1 + lengthSize (getD m (at + 1) 0) → (r : ℕ) → Finishes (codedBody true 12) m st inner r → Near r → (new : List ℕ)
+      → LeavesAll (layCoded true) untold (codedBody true 12) m st inner old new → LeavesAll layReturned untold (lastBody (levelAt the93 4) (bothItem the93)) m at stop old new
+  unfolding constructorOf Held parameterBody layHeld
   result-left more inner entry top near st start r e f new q =
-      last-left untold (level 13) (bothItem the93) m at stop r (at-level (bothItem the93) 13 refl m at stop r (around-near bothBody m at stop 48 inner st r g h top (omega arith, omega arith, omega arith) refl entry near start e)) (layBoth layCode layElement) old
+      last-left untold (level 13) (bothItem the93) m at stop r (at-level (bothItem the93) 13 refl m at stop r (around-near (codedBody true 12) m at stop 48 inner st r g h top (omega arith, omega arith, omega arith) refl entry near start e)) (layBoth layCode layElement) old
       (λ f l u. u) refl (not-ended (endOf (finite stop) (part m at stop)) b is more) layReturned same-returned new f
-      (left-level (bothItem the93) 13 refl m at stop (layBoth layCode layElement) old new (around-left untold bothBody m at stop 48 inner st g h top (omega arith, omega arith, omega arith) refl entry near start (layBoth layCode layElement) old new q)) (quiet _ new)
+      (left-level (bothItem the93) 13 refl m at stop (layBoth layCode layElement) old new (around-left untold (codedBody true 12) m at stop 48 inner st g h top (omega arith, omega arith, omega arith) refl entry near start (layBoth layCode layElement) old new q)) (quiet _ new)
 
 -- A Reject
 
@@ -142,13 +141,13 @@ module _ (tag : ℕ) (m : List ℕ) (at stop : ℕ) (old new : List ℕ) where
   by-name f b lay same e = rw (ask-map f b (finite stop) at (part m at stop)) (left-next untold lay layComponent f (λ n. n) _ old (set old 0 tag) new same e)
 
   pub contents-left-invoke : tag ≡ 161 → LeavesAll layInvoked untold invokedBody m at stop (set old 0 tag) new → LeavesAll layComponent untold (bodyOf tag) m at stop old new
-  unfolding bodyOf layComponent
+  unfolding bodyOf layComponent Held parameterBody layHeld
   contents-left-invoke e q = rw (eq-eqb tag 161 e) (by-name (λ v. invoke (v .0) (v .1 .0) (v .1 .1 .0) (v .1 .1 .1)) invokedBody layInvoked (λ v. ap (λ (t : ℕ). layInvoked v (set old 0 t)) e) q)
 
   module _ (a : tag ≡ 161 → ⊥) where
-    pub contents-left-error : tag ≡ 163 → LeavesAll (layBoth layId layCoded) untold erredBody m at stop (set old 0 tag) new → LeavesAll layComponent untold (bodyOf tag) m at stop old new
-    unfolding bodyOf layComponent
-    contents-left-error e q = rw (ne-eqb tag 161 a, eq-eqb tag 163 e) (by-name (λ v. error (v .0) (v .1 .0) (v .1 .1)) erredBody (layBoth layId layCoded) (λ v. ap (λ (t : ℕ). layBoth layId layCoded v (set old 0 t)) e) q)
+    pub contents-left-error : tag ≡ 163 → LeavesAll (layBoth layId (layCoded false)) untold erredBody m at stop (set old 0 tag) new → LeavesAll layComponent untold (bodyOf tag) m at stop old new
+    unfolding bodyOf layComponent Held parameterBody layHeld
+    contents-left-error e q = rw (ne-eqb tag 161 a, eq-eqb tag 163 e) (by-name (λ v. error (v .0) (v .1 .0) (v .1 .1)) erredBody (layBoth layId (layCoded false)) (λ v. ap (λ (t : ℕ). layBoth layId (layCoded false) v (set old 0 t)) e) q)
 
     module _ (b : tag ≡ 163 → ⊥) where
       pub contents-left-reject : tag ≡ 164 → LeavesAll (layBoth layRejectId layProblem) untold rejectedBody m at stop (set old 0 tag) new → LeavesAll layComponent untold (bodyOf tag) m at stop old new

@@ -1,27 +1,28 @@
 -- What the readers of a component answer and lay out, as their contracts cite it; the definition of reading rests on none of it.
 -- Assumes nothing: these are definitions.
 use Prim.Native.Nat.{ℕ}
-use mathlib.Core.{Bool.cond, List.List, Option.Option}
+use mathlib.Core.{Bool.Bool, Bool.true, Bool.false, Bool.cond, List.List, Option.Option}
 use lib.{Dec.eqb, IntN.ℤ}
-use Rattle.element.specs.{declared.FaultKind.FaultKind, Fault.Text, Fault.withInvokeId, Ask.Body, Ask.ask, Parts.level, Parts.integerItem, Parts.bindBody, Parts.thenBody, Parts.onlyBody, Parts.lastBody, Parts.optBody, Walk.walkItem}
-use Rattle.tcap.specs.{declared.Problem.Problem, Meaning.Code, Meaning.Component, Meaning.last, Meaning.notLast, WellFormed.the93, Productions.idItem, Productions.idOrNullItem, Productions.problemItem, Productions.codeItem, Productions.noted, Productions.levelAt, Productions.codeBody, Productions.bothItem, Productions.invokeBody, Productions.resultBody, Productions.errorBody, Productions.rejectBody, Productions.componentItem}
+use Rattle.element.specs.{declared.FaultKind.FaultKind, Fault.Text, Fault.withInvokeId, Ask.Body, Ask.ask, Parts.level, Parts.integerItem, Parts.bindBody, Parts.thenBody, Parts.onlyBody, Parts.lastBody, Parts.optBody}
+use Rattle.tcap.specs.{declared.Problem.Problem, Meaning.Code, Meaning.Component, Meaning.last, Meaning.notLast, WellFormed.the93, Productions.idItem, Productions.idOrNullItem, Productions.problemItem, Productions.codeItem, Productions.noted, Productions.levelAt, Productions.bothItem, Productions.invokeBody, Productions.resultBody, Productions.errorBody, Productions.rejectBody, Productions.componentItem}
 use Rattle.read_place.specs.Places.{until, finite, part, front, Placed}
 use Rattle.read_place.specs.Leaves.{Left, untold}
-use Rattle.read_place.specs.Laying.{layId, layLinked, layCode, layParameter, layComponent}
+use Rattle.read_place.specs.Laying.{layId, layLinked, layCode, layComponent}
+use Rattle.read_part.specs.Parts.{Held, parameterBody, layHeld}
 
 -- the contents of each kind, not yet under the component's name
 
-abbrev pub bothBody : Body (Code Text × Text)
-bothBody = thenBody (levelAt the93 5) codeItem (onlyBody (levelAt the93 5) (walkItem 12))
+abbrev pub codedBody : (must : Bool) → ℕ → Body (Code Text × Held must)
+codedBody must left = thenBody (level left) codeItem (parameterBody must left)
 
-abbrev pub linkedBody : Body (Option ℤ × (Code Text × Option Text))
-linkedBody = optBody (integerItem 0x80 1) (codeBody the93)
+abbrev pub linkedBody : Body (Option ℤ × (Code Text × Held false))
+linkedBody = optBody (integerItem 0x80 1) (codedBody false 13)
 
-abbrev pub invokedBody : Body (ℤ × (Option ℤ × (Code Text × Option Text)))
+abbrev pub invokedBody : Body (ℤ × (Option ℤ × (Code Text × Held false)))
 invokedBody = bindBody (levelAt the93 4) noted idItem (λ i. linkedBody)
 
-abbrev pub erredBody : Body (ℤ × (Code Text × Option Text))
-erredBody = bindBody (levelAt the93 4) noted idItem (λ i. codeBody the93)
+abbrev pub erredBody : Body (ℤ × (Code Text × Held false))
+erredBody = bindBody (levelAt the93 4) noted idItem (λ i. codedBody false 13)
 
 abbrev pub returnedBody : Body (ℤ × Option (Code Text × Text))
 returnedBody = bindBody (levelAt the93 4) noted idItem (λ i. lastBody (levelAt the93 4) (bothItem the93))
@@ -41,11 +42,11 @@ bodyOf a =
 abbrev pub layBoth : {A B : Type 0} → (A → List ℕ → List ℕ) → (B → List ℕ → List ℕ) → A × B → List ℕ → List ℕ
 layBoth lay put v l = put (v .1) (lay (v .0) l)
 
-abbrev pub layCoded : Code Text × Option Text → List ℕ → List ℕ
-layCoded = layBoth layCode layParameter
+abbrev pub layCoded : (must : Bool) → Code Text × Held must → List ℕ → List ℕ
+layCoded must = layBoth layCode (layHeld must)
 
-abbrev pub layInvoked : ℤ × (Option ℤ × (Code Text × Option Text)) → List ℕ → List ℕ
-layInvoked = layBoth layId (layBoth layLinked layCoded)
+abbrev pub layInvoked : ℤ × (Option ℤ × (Code Text × Held false)) → List ℕ → List ℕ
+layInvoked = layBoth layId (layBoth layLinked (layCoded false))
 
 -- a component that must stand at a place, and what it leaves in its row
 abbrev pub ReadsComponent : List ℕ → ℕ → ℕ → ℕ → Type 0

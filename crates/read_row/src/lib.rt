@@ -1,22 +1,21 @@
 // A component, laid out in its row as it is read: an answer is the place behind what was read, or a fault.
 ghost use mathlib.Core.Path.{_≡_};
-ghost use mathlib.Core.Bool.{true};
-ghost use Prim.Native.Nat.{_<_};
+ghost use mathlib.Core.Bool.{true, false};
+ghost use Prim.Native.Nat.{_<_, _≤_};
 ghost use lib.ListN.{length};
 ghost use Rattle.read_place.specs.Places.{until, Finishes, Ready};
 ghost use Rattle.read_place.specs.Leaves.{LeavesAll, untold};
-ghost use Rattle.read_place.specs.Laying.{layId, layRejectId, layLinked, layCode, layElement, layReturned, layProblem, layComponent};
-ghost use Rattle.read_row.specs.Component.{bothBody, linkedBody, invokedBody, erredBody, returnedBody, rejectedBody, bodyOf, layBoth, layCoded, layInvoked, ReadsComponent, LeavesComponent};
-ghost use Rattle.tcap.specs.Productions.{componentItem, rejectBody, codeBody, bothItem, invokeBody, errorBody, levelAt};
+ghost use Rattle.read_place.specs.Laying.{layId, layRejectId, layLinked, layReturned, layProblem, layComponent};
+ghost use Rattle.read_row.specs.Component.{codedBody, linkedBody, invokedBody, erredBody, returnedBody, rejectedBody, bodyOf, layBoth, layCoded, layInvoked, ReadsComponent, LeavesComponent};
+ghost use Rattle.tcap.specs.Productions.{componentItem, rejectBody, bothItem, invokeBody, errorBody, levelAt};
 ghost use Rattle.element.specs.Parts.{lastBody};
 ghost use Rattle.tcap.specs.WellFormed.{the93};
 use read_field::octet_at;
 use read_part::code_at;
 use read_part::id_at;
-use read_part::last_put;
+use read_part::parameter_at;
 use read_part::problem_at;
 use read_part::reject_id_at;
-use read_part::sole_put;
 use read_place::FAULT;
 use read_place::OPEN;
 use read_place::UNKNOWN_COMPONENT;
@@ -29,37 +28,24 @@ use read_place::stands;
 use read_place::start_of;
 use read_place::wrong_at;
 
-// A code, and a parameter or none.
-fn coded_at(m: &[u8], at: usize, stop: usize, row: &mut [u8]) -> usize
-    requires { ⌜ Ready (now m) at stop × (length (now row) ≡ 24) ⌝ }
-    ensures { λ r. ⌜ Finishes (codeBody the93) (now (m .entry)) at stop r ⌝ }
-    ensures { λ r. ⌜ LeavesAll layCoded untold (codeBody the93) (now (m .entry)) at stop (now (row .entry)) (now (row .exit)) ⌝ }
+// A code and a parameter, which must stand or may be missing.
+fn coded_at(m: &[u8], at: usize, stop: usize, left: usize, must: bool, row: &mut [u8]) -> usize
+    requires { ⌜ Ready (now m) at stop × (1 ≤ left) × (length (now row) ≡ 24) ⌝ }
+    ensures { λ r. ⌜ Finishes (codedBody must left) (now (m .entry)) at stop r ⌝ }
+    ensures { λ r. ⌜ LeavesAll (layCoded must) untold (codedBody must left) (now (m .entry)) at stop (now (row .entry)) (now (row .exit)) ⌝ }
 {
     let r = code_at(m, at, stop, row);
     if r >= FAULT {
         return r;
     }
-    last_put(m, r, stop, 13, row)
-}
-
-// A code and a parameter, the contents of 30.
-fn both_at(m: &[u8], at: usize, stop: usize, row: &mut [u8]) -> usize
-    requires { ⌜ Ready (now m) at stop × (length (now row) ≡ 24) ⌝ }
-    ensures { λ r. ⌜ Finishes bothBody (now (m .entry)) at stop r ⌝ }
-    ensures { λ r. ⌜ LeavesAll (layBoth layCode layElement) untold bothBody (now (m .entry)) at stop (now (row .entry)) (now (row .exit)) ⌝ }
-{
-    let r = code_at(m, at, stop, row);
-    if r >= FAULT {
-        return r;
-    }
-    sole_put(m, r, stop, 12, row)
+    parameter_at(m, r, stop, left, must, row)
 }
 
 // What stands behind the invoke ID of an Invoke: a linked ID or none, code and parameter.
 fn linked_at(m: &[u8], at: usize, stop: usize, row: &mut [u8]) -> usize
     requires { ⌜ Ready (now m) at stop × (length (now row) ≡ 24) ⌝ }
     ensures { λ r. ⌜ Finishes linkedBody (now (m .entry)) at stop r ⌝ }
-    ensures { λ r. ⌜ LeavesAll (layBoth layLinked layCoded) untold linkedBody (now (m .entry)) at stop (now (row .entry)) (now (row .exit)) ⌝ }
+    ensures { λ r. ⌜ LeavesAll (layBoth layLinked (layCoded false)) untold linkedBody (now (m .entry)) at stop (now (row .entry)) (now (row .exit)) ⌝ }
 {
     if stands(m, at, stop, 0x80) {
         let r = octet_at(m, at, stop, 0x80);
@@ -68,9 +54,9 @@ fn linked_at(m: &[u8], at: usize, stop: usize, row: &mut [u8]) -> usize
         }
         row[3] = 1;
         row[4] = m[at + 2];
-        return coded_at(m, r, stop, row);
+        return coded_at(m, r, stop, 13, false, row);
     }
-    coded_at(m, at, stop, row)
+    coded_at(m, at, stop, 13, false, row)
 }
 
 // The contents of an Invoke.
@@ -90,13 +76,13 @@ fn invoke_at(m: &[u8], at: usize, stop: usize, row: &mut [u8]) -> usize
 fn error_at(m: &[u8], at: usize, stop: usize, row: &mut [u8]) -> usize
     requires { ⌜ Ready (now m) at stop × (length (now row) ≡ 24) ⌝ }
     ensures { λ r. ⌜ Finishes (errorBody the93) (now (m .entry)) at stop r ⌝ }
-    ensures { λ r. ⌜ LeavesAll (layBoth layId layCoded) untold erredBody (now (m .entry)) at stop (now (row .entry)) (now (row .exit)) ⌝ }
+    ensures { λ r. ⌜ LeavesAll (layBoth layId (layCoded false)) untold erredBody (now (m .entry)) at stop (now (row .entry)) (now (row .exit)) ⌝ }
 {
     let r = id_at(m, at, stop, row);
     if r >= FAULT {
         return r;
     }
-    coded_at(m, r, stop, row)
+    coded_at(m, r, stop, 13, false, row)
 }
 
 // Code and parameter in 30, or nothing: what stands behind the invoke ID of a result.
@@ -112,7 +98,7 @@ fn result_at(m: &[u8], at: usize, stop: usize, row: &mut [u8]) -> usize
     if inner >= FAULT {
         return inner;
     }
-    let r = both_at(m, start_of(m, at + 1), inner, row);
+    let r = coded_at(m, start_of(m, at + 1), inner, 12, true, row);
     if r >= FAULT {
         return r;
     }

@@ -10,8 +10,8 @@ use Rattle.read_row.proofs.coded_at.Tie as tie
 returns : tie.Need-returns
 returns c = fault-all _ _ _ _ (c .before .before .before .before .before .before .before .args .stop) (c .before .before .before .code-at .result) _ _ (search code-far) (c .if1 .taken)
 
-last-put-requires : tie.Need-last-put-requires
-last-put-requires c κs = search (needs, reads-within)
+parameter-at-requires : tie.Need-parameter-at-requires
+parameter-at-requires c κs = search (needs, reads-within)
 
 returns-2 : tie.Need-returns-2
 returns-2 c = search (code-near, coded-left)
@@ -19,4 +19,4 @@ returns-2 c = search (code-near, coded-left)
 pub coded-at-spec : {M : Type 1} → statement M
 coded-at-spec =
     tie.close
-    (tie.spec (λ c κs. search needs) (λ c. search needs) returns last-put-requires (λ c. search needs) returns-2)
+    (tie.spec (λ c κs. search needs) (λ c. search needs) returns parameter-at-requires (λ c. search needs) returns-2)

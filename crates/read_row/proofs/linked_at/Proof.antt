@@ -19,7 +19,7 @@ shared-slice-read-row : tie.Need-shared-slice-read-row
 shared-slice-read-row c = octet-inside _ _ _ _ (search needs) 128 (omega arith, omega arith, omega arith) (c .before .before .octet-at .ensures) (c .before .if2 .left)
 
 coded-at-requires : tie.Need-coded-at-requires
-coded-at-requires c κs = (search (needs, reads-within), simp length-set (omega arith))
+coded-at-requires c κs = (search (needs, reads-within), omega arith, simp length-set (omega arith))
 
 same-length : tie.Need-same-length
 same-length c = c .before .row .given ∙ stored (set (c .before .before .before .before .before .before .before .before .before .before .before .args .row .now) 3 1) 4 (getD (c .before .before .before .before .before .before .before .before .before .before .before .args .m .now) (c .before .before .before .before .before .before .before .before .before .before .before .args .at + 2) 0) ∙ stored (c .before .before .before .before .before .before .before .before .before .before .before .args .row .now) 3 1

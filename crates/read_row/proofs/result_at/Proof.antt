@@ -16,11 +16,11 @@ returns-2 c = fault-all _ _ _ _ (c .before .before .before .before .before .befo
 start-of-requires : tie.Need-start-of-requires
 start-of-requires c κs = search (needs, entry-inside)
 
-both-at-requires : tie.Need-both-at-requires
-both-at-requires c κs = search (needs, entry-from, entry-to)
+coded-at-requires : tie.Need-coded-at-requires
+coded-at-requires c κs = search (needs, entry-from, entry-to)
 
 returns-3 : tie.Need-returns-3
-returns-3 c = fault-all _ _ _ _ (c .before .before .before .before .before .before .before .before .before .before .before .before .args .stop) (c .before .before .before .both-at .result) _ _ (search result-far) (c .if3 .taken)
+returns-3 c = fault-all _ _ _ _ (c .before .before .before .before .before .before .before .before .before .before .before .before .args .stop) (c .before .before .before .coded-at .result) _ _ (search result-far) (c .if3 .taken)
 
 leave-requires : tie.Need-leave-requires
 leave-requires c κs = search (needs, result-within)
@@ -39,7 +39,7 @@ result-at-spec =
     returns-2
     (λ c. search needs)
     start-of-requires
-    both-at-requires
+    coded-at-requires
     (λ c. search needs)
     returns-3
     leave-requires
