@@ -13,7 +13,7 @@ use borrow.Author.Tests.{leb-true, leb-false}
 use Rattle.tcap.specs.declared.{Record.Record, Outcome.Outcome}
 use Rattle.tcap.specs.Record.{blankRow, meaningOf, Same}
 use Rattle.tcap.specs.Reading.{reading}
-use Rattle.judging.specs.Verdict.{counted, allParts, allRanges, allLie, allShaped}
+use Rattle.write_check_row.specs.Verdict.{counted, allParts, allRanges, allLie, allShaped}
 use Rattle.writer.specs.declared.{WriteFault.WriteFault, Written.Written}
 use Rattle.writer.specs.Writing.{writeNumber, messageOf, writing, RefusedWith, leaves, Writes}
 use Rattle.writer.specs.Octets.{writingOctets, leavesOctets}

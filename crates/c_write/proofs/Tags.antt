@@ -5,7 +5,7 @@ use mathlib.Core.List.{List}
 use lib.ListN.{getD}
 use Rattle.tcap.specs.declared.{InvokeId.InvokeId, ComponentKind.ComponentKind, Problem.Problem}
 use Rattle.tcap.specs.Meaning.{octet, problemForm}
-use Rattle.judging.specs.Forms.{rowTag}
+use Rattle.write_check_row.specs.Forms.{rowTag}
 use Rattle.layout.specs.Layout.{idsOctets, kindOctets, problemTag, problemNumber}
 
 pub component-tag : (m : List ℕ) (i : InvokeId) (k : ComponentKind) → getD (kindOctets i k) 0 0 ≡ rowTag m k

@@ -178,7 +178,7 @@ pub record Checked (m : List ℕ) (r : Refusal) : Type 0 where
   pub owner : Owner
   pub invokeId : Option ℤ
   pub origId : Option Text
-  pub there : Refuses the93 m (fault kind place owner invokeId origId)
+  pub there : Refuses (record { limit = 16 }) m (fault kind place owner invokeId origId)
   pub sameNumber : numberOf (r .kind) ≡ numberOf kind
   pub samePlace : r .place ≡ place
   pub sameOrig : r .orig ≡ Option·getD (Option·map (λ s. origField (orig s)) origId) OptionalOrig.NoOrig

@@ -14,7 +14,7 @@ use Rattle.element.specs.Form.{shortest, lengthOctets}
 use Rattle.primitive.specs.Primitive.{widthFrom, integerOctets}
 use Rattle.primitive.proofs.Integers.{integer-length, integer-some, integer-fits}
 use Rattle.tcap.specs.Meaning.{integer}
-use Rattle.judging.specs.Forms.{octetsOf}
+use Rattle.write_check_row.specs.Forms.{octetsOf}
 use Rattle.write_head.proofs.Lengths.{short-length}
 
 -- below -1 a wider number has further octets in front, and the same last ones

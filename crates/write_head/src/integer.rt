@@ -3,7 +3,7 @@ ghost use Prim.Native.Nat.{_≤_};
 ghost use Rattle.base.specs.Back.{Room, PutBack};
 ghost use Rattle.base.specs.Number.{octetsIn};
 ghost use Rattle.tcap.specs.Meaning.{integer};
-ghost use Rattle.judging.specs.Forms.{octetsOf};
+ghost use Rattle.write_check_row.specs.Forms.{octetsOf};
 use base::back_three;
 use base::back_two;
 use primitive::bits;

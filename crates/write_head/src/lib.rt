@@ -9,13 +9,13 @@ ghost use Prim.Native.Nat.{_<_};
 ghost use lib.ListN.{length};
 ghost use Rattle.base.specs.Back.{Room, PutBack};
 ghost use Rattle.element.specs.Form.{leaf, lengthOctets};
-ghost use Rattle.judging.specs.Verdict.{lies, octetsIn};
-ghost use Rattle.judging.specs.Forms.{octetsOf};
+ghost use Rattle.write_check_row.specs.Verdict.{lies, octetsIn};
+ghost use Rattle.write_check_row.specs.Forms.{octetsOf};
 use base::back_part;
 use base::back_three;
 use base::back_two;
-use judging::octets_of;
 use tcap::Span;
+use write_check_row::octets_of;
 
 // Tag and length: never the indefinite form, and as few octets as there can be.
 pub fn back_head(out: &mut [u8], at: usize, tag: u8, n: usize) -> usize

@@ -10,8 +10,8 @@ use Rattle.base.proofs.Backs.{room-last}
 use Rattle.element.specs.Form.{leaf, around, shortest, lengthOctets}
 use Rattle.tcap.specs.declared.{Span.Span, OptionalSpan.OptionalSpan}
 use Rattle.tcap.specs.Meaning.{octet}
-use Rattle.judging.specs.Verdict.{lies, optionLies}
-use Rattle.judging.specs.Forms.{octetsOf}
+use Rattle.write_check_row.specs.Verdict.{lies, optionLies}
+use Rattle.write_check_row.specs.Forms.{octetsOf}
 use Rattle.write_head.proofs.Lengths.{short-length}
 use Rattle.write_head.proofs.Heads.{room-inside}
 use Rattle.write_portion.specs.Enclosed.{named, opened}

@@ -5,7 +5,7 @@ use mathlib.Core.{List.List}
 use Rattle.base.specs.{Back.Room, Back.PutBack}
 use Rattle.element.specs.{Form.Form, Form.exactly, Form.around}
 use Rattle.tcap.specs.{Meaning.external}
-use Rattle.judging.specs.{Forms.octetsOf}
+use Rattle.write_check_row.specs.{Forms.octetsOf}
 
 -- under a name; and a PDU with these fields, by its tag
 abbrev pub named : List ℕ → List ℕ → Form

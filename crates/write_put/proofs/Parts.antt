@@ -7,8 +7,8 @@ use mathlib.Core.List.{List, []}
 use lib.ListN.{length}
 use Rattle.element.specs.Form.{exactly, around, seriesForm}
 use Rattle.tcap.specs.declared.{Record.Record}
-use Rattle.judging.specs.Verdict.{counted, every, origLies, destLies, dialogueLies, rowLies, allLie}
-use Rattle.judging.specs.Forms.{rowForm, rowsForm, insideForm, recordForm}
+use Rattle.write_check_row.specs.Verdict.{counted, every, origLies, destLies, dialogueLies, rowLies, allLie}
+use Rattle.write_check_row.specs.Forms.{rowForm, rowsForm, insideForm, recordForm}
 use Rattle.layout.specs.Layout.{rowsIn}
 use Rattle.write_put.specs.Parts.{heldForm, partsForm}
 

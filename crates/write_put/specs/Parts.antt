@@ -4,7 +4,7 @@ use Prim.Native.Nat.{ℕ}
 use mathlib.Core.{List.List}
 use Rattle.element.specs.{Form.Form, Form.then, Form.around}
 use Rattle.tcap.specs.{declared.OptionalOrig.OptionalOrig, declared.OptionalDest.OptionalDest, declared.Row.Row, declared.Dialogue.Dialogue, declared.MessageKind.MessageKind, Record.messageTag}
-use Rattle.judging.specs.{Forms.origForm, Forms.destForm, Forms.dialogueForm, Forms.rowsForm}
+use Rattle.write_check_row.specs.{Forms.origForm, Forms.destForm, Forms.dialogueForm, Forms.rowsForm}
 
 module _ (m : List ℕ) where
   unfoldable pub heldForm : OptionalOrig → OptionalDest → Dialogue → List Row → Form

@@ -13,13 +13,13 @@ use Rattle.base.proofs.Backs.{room-last}
 use Rattle.element.specs.Form.{then, shortest}
 use Rattle.tcap.specs.declared.{Span.Span, OptionalSpan.OptionalSpan, InvokeId.InvokeId, LinkedId.LinkedId, Code.Code, Returned.Returned, ComponentKind.ComponentKind, Row.Row}
 use Rattle.tcap.specs.Meaning.{integer, problemForm}
-use Rattle.judging.specs.Verdict.{lies, optionLies, codeLies, returnedLies, octetsIn}
-use Rattle.judging.specs.Forms.{idForm, linkedForm, codeForm, parameterForm, returnedForm, rowTag, contentsForm, rowForm, octetsOf}
+use Rattle.write_check_row.specs.Verdict.{lies, optionLies, codeLies, returnedLies, octetsIn}
+use Rattle.write_check_row.specs.Forms.{idForm, linkedForm, codeForm, parameterForm, returnedForm, rowTag, contentsForm, rowForm, octetsOf}
 use Rattle.layout.specs.Layout.{isProblemTag, problemIn}
 use Rattle.write_head.proofs.Heads.{room-inside}
 use Rattle.write_head.proofs.Lengths.{octet-octets}
 use Rattle.write_head.proofs.Integers.{small-parts}
-use Rattle.judging.specs.Forms.{restForm}
+use Rattle.write_check_row.specs.Forms.{restForm}
 
 -- an octet for a number of eight bits is the number's one octet
 pub signed-parts : (tag n : ℕ) → n < 256 → octetsOf (integer tag (signedAt (topOf 1) n)) ≡ tag ∷ 1 ∷ n ∷ []

@@ -10,8 +10,8 @@ use Rattle.base.specs.Back.{Room, PutBack}
 use Rattle.base.proofs.Backs.{room-next, back-then}
 use Rattle.element.specs.Form.{shortest, seriesForm}
 use Rattle.tcap.specs.declared.Row.{Row}
-use Rattle.judging.specs.Verdict.{every}
-use Rattle.judging.specs.Forms.{rowForm, octetsOf}
+use Rattle.write_check_row.specs.Verdict.{every}
+use Rattle.write_check_row.specs.Forms.{rowForm, octetsOf}
 use Rattle.layout.specs.Layout.{headSize, rowSize, isRow, areRows}
 use Rattle.unpack.proofs.Rows.{rowsFrom}
 

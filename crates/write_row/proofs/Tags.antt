@@ -8,10 +8,10 @@ use lib.ListN.{getD}
 use lib.Dec.{eqb}
 use borrow.Author.Tests.{ne-eqb, eqb-true}
 use Rattle.tcap.specs.declared.ComponentKind.{ComponentKind}
-use Rattle.judging.specs.Verdict.{returnedLies, rowLies}
-use Rattle.judging.specs.Forms.{returnedForm, rowTag}
+use Rattle.write_check_row.specs.Verdict.{returnedLies, rowLies}
+use Rattle.write_check_row.specs.Forms.{returnedForm, rowTag}
 use Rattle.layout.specs.Layout.{linkedIn, codeAt, parameterAt, returnedIn, isProblemTag, problemIn, isFlag, isUnlinked, isKind, kindIn, isRow, rowIn}
-use Rattle.judging.specs.Forms.{restForm}
+use Rattle.write_check_row.specs.Forms.{restForm}
 
 module _ (x : ℕ) (l : List ℕ) where
   pub kind-invoke : x ≡ 0xA1 → kindIn x l ≡ ComponentKind.Invoke (linkedIn (getD l 3 0) (getD l 4 0)) (codeAt l) (parameterAt l)

@@ -12,9 +12,9 @@ use Rattle.base.specs.Back.{Room, PutBack}
 use Rattle.base.proofs.Backs.{back-front}
 use Rattle.tcap.specs.declared.{Record.Record}
 use Rattle.tcap.specs.WellFormed.{mostOctets}
-use Rattle.judging.specs.Verdict.{allParts, allRanges, allLie, allShaped}
-use Rattle.judging.specs.Forms.{recordForm, octetsOf}
-use Rattle.judging.specs.Judged.{sizeCap}
+use Rattle.write_check_row.specs.Verdict.{allParts, allRanges, allLie, allShaped}
+use Rattle.write_check_row.specs.Forms.{recordForm, octetsOf}
+use Rattle.write_check_row.specs.Judged.{sizeCap}
 use Rattle.writer.specs.declared.{WriteFault.WriteFault, Written.Written}
 use Rattle.writer.specs.Writing.{faultAt, messageOf, RecordOk, unless, writing, Writes, RecordTyped}
 use Rattle.writer.proofs.Meant.{checked-means}

@@ -8,9 +8,9 @@ use Rattle.element.specs.Form.{maybe, exactly, around, seriesForm}
 use Rattle.tcap.specs.declared.{OptionalSpan.OptionalSpan, OptionalOrig.OptionalOrig, OptionalDest.OptionalDest, InvokeId.InvokeId, LinkedId.LinkedId, Code.Code, Returned.Returned, ComponentKind.ComponentKind, Row.Row, Dialogue.Dialogue, Record.Record}
 use Rattle.tcap.specs.Meaning.{integer, codeForm, holding, idOrNull, componentForm, componentsForm, infoForm, dialogueForm, endingForm, origForm, destForm, Meaning, written}
 use Rattle.tcap.specs.Record.{idMeans, linkedMeans, meaningOf}
-use Rattle.judging.specs.Verdict.{every, counted, idThere, rowPartsFit}
-use Rattle.judging.specs.Forms
-use Rattle.judging.specs.Forms.{octetsOf}
+use Rattle.write_check_row.specs.Verdict.{every, counted, idThere, rowPartsFit}
+use Rattle.write_check_row.specs.Forms
+use Rattle.write_check_row.specs.Forms.{octetsOf}
 use Rattle.writer.proofs.Parts.{optionIn, codeIn, bothIn, idIn, rowIn, rowsIn, endingIn, origIn, destIn}
 use Rattle.writer.proofs.Making.{made-octets}
 use Rattle.writer.proofs.Testing.{both-true}

@@ -16,7 +16,7 @@ use Rattle.layout.specs.Layout.{mostRows, recordSize, recordOctets}
 use Rattle.layout.specs.Fits.{RecordFits}
 use Rattle.layout.proofs.RoundTrip.{blanked, record-length, record-is, record-back}
 use Rattle.pack.specs.Laid.{laidOut}
-use Rattle.judging.specs.Verdict.{counted, partsFit, allParts, allRanges, allLie, allShaped}
+use Rattle.write_check_row.specs.Verdict.{counted, partsFit, allParts, allRanges, allLie, allShaped}
 use Rattle.writer.specs.declared.{Written.Written}
 use Rattle.writer.specs.Writing.{messageOf, writing, leaves, Writes}
 use Rattle.writer.specs.Octets.{writingOctets, leavesOctets}

@@ -10,7 +10,7 @@ use lib.ListN.{length}
 use lib.Dec.{leb}
 use Rattle.tcap.specs.declared.{Record.Record}
 use Rattle.tcap.specs.WellFormed.{mostOctets}
-use Rattle.judging.specs.Verdict.{allParts, allRanges, allLie, allShaped}
+use Rattle.write_check_row.specs.Verdict.{allParts, allRanges, allLie, allShaped}
 use Rattle.writer.specs.declared.{WriteFault.WriteFault, Written.Written}
 use Rattle.writer.specs.Writing.{writeNumber, messageOf, RecordOk, unless, writing, RefusedWith, ReadsAs, RecordTyped}
 use Rattle.writer.specs.Reasons.{Misfit, RangeOff, EndOff, ShapeOff, SomePart, NoPart}

@@ -16,13 +16,13 @@ use Rattle.element.specs.Form.{seriesForm}
 use Rattle.tcap.specs.declared.{Span.Span, InvokeId.InvokeId, LinkedId.LinkedId, Code.Code, Returned.Returned, Row.Row, Record.Record}
 use Rattle.tcap.specs.WellFormed.{mostOctets}
 use Rattle.tcap.specs.Record.{blankRow}
-use Rattle.judging.specs.declared.Judged.{Judged}
-use Rattle.judging.specs.Verdict.{every, counted, rowLies, allParts, allRanges, allLie, allShaped}
-use Rattle.judging.specs.Forms.{rowForm, recordForm}
-use Rattle.judging.specs.Judged.{rankOf, sizeCap, judged, listed, joined, wholeSize, wrapped, sizeOf, rowsRank, rowsJudged}
-use Rattle.judging.proofs.Rows.{rows-none}
-use Rattle.verdict.specs.Whole.{portionOf, messageJudged}
-use Rattle.verdict.proofs.Messages.{portion-law, record-law, message-bad}
+use Rattle.write_check_row.specs.declared.Judged.{Judged}
+use Rattle.write_check_row.specs.Verdict.{every, counted, rowLies, allParts, allRanges, allLie, allShaped}
+use Rattle.write_check_row.specs.Forms.{rowForm, recordForm}
+use Rattle.write_check_row.specs.Judged.{rankOf, sizeCap, judged, listed, joined, wholeSize, wrapped, sizeOf, rowsRank, rowsJudged}
+use Rattle.write_check_row.proofs.Rows.{rows-none}
+use Rattle.write_check.specs.Whole.{portionOf, messageJudged}
+use Rattle.write_check.proofs.Messages.{portion-law, record-law, message-bad}
 use Rattle.layout.specs.Layout.{headSize, rowSize, mostRows, recordSize, octet, numberAt, spanAt, idIn, linkedIn, codeIn, returnedIn, kindIn, rowIn, rowsIn, rowsHeld, rowsLooked, areRows, isHead, isRecord, recordIn}
 use Rattle.unpack.proofs.Rows.{rows-length}
 use Rattle.writer.specs.declared.{WriteFault.WriteFault, Written.Written}

@@ -9,12 +9,12 @@ use lib.Dec.{eqb}
 use borrow.Author.Tests.{eqb-true, leb-true}
 use Rattle.tcap.specs.declared.{Record.Record}
 use Rattle.tcap.specs.WellFormed.{mostOctets, mostComponents}
-use Rattle.judging.specs.Verdict.{allParts, allRanges, allLie, allShaped}
-use Rattle.judging.specs.Forms.{recordForm, octetsOf}
-use Rattle.judging.proofs.Joining.{passed}
+use Rattle.write_check_row.specs.Verdict.{allParts, allRanges, allLie, allShaped}
+use Rattle.write_check_row.specs.Forms.{recordForm, octetsOf}
+use Rattle.write_check_row.proofs.Joining.{passed}
 use Rattle.writer.proofs.Testing.{both-true}
-use Rattle.judging.specs.declared.{Judged.Judged}
-use Rattle.judging.specs.Judged.{rankOf, sizeCap, judged, listed}
+use Rattle.write_check_row.specs.declared.{Judged.Judged}
+use Rattle.write_check_row.specs.Judged.{rankOf, sizeCap, judged, listed}
 
 pub fine-tells : (k s n : ℕ) → Judged.Fine n ≡ judged k s → (k ≡ 0) × (n ≡ min s sizeCap)
 unfolding judged

@@ -7,7 +7,7 @@ use Rattle.base.specs.{Number.holds, Value.Every}
 use Rattle.primitive.specs.{Primitive.mostIntegerOctets}
 use Rattle.tcap.specs.{declared.Code.Code, declared.Returned.Returned, declared.ComponentKind.ComponentKind, declared.Row.Row, declared.Record.Record, Meaning.Meaning, Meaning.written, WellFormed.mostOctets, WellFormed.mostComponents, WellFormed.Reads, Record.meaningOf}
 use Rattle.layout.specs.{Fits.IdFits, Fits.LinkedFits}
-use Rattle.judging.specs.{Verdict.allParts, Verdict.allRanges, Verdict.allLie, Verdict.allShaped}
+use Rattle.write_check_row.specs.{Verdict.allParts, Verdict.allRanges, Verdict.allLie, Verdict.allShaped}
 use Rattle.writer.specs.{declared.WriteFault.WriteFault, declared.Written.Written}
 
 -- the numbers of document 01

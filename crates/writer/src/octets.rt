@@ -5,9 +5,6 @@ ghost use Rattle.writer.specs.Octets.{writingOctets, leavesOctets};
 use crate::WriteFault;
 use crate::Written;
 use crate::fault_at;
-use judging::Judged;
-use judging::MOST_OCTETS;
-use judging::row::rows_judged;
 use unpack::head::dest_in;
 use unpack::head::dialogue_in;
 use unpack::head::is_head;
@@ -15,6 +12,9 @@ use unpack::head::message_kind_in;
 use unpack::head::orig_in;
 use unpack::number::number_at;
 use unpack::rows_looked;
+use write_check_row::Judged;
+use write_check_row::MOST_OCTETS;
+use write_check_row::row::rows_judged;
 use write_put::put_message;
 
 // What `write` answers and leaves for the record that the octets stand for; octets that are no record are wrong parts.
@@ -35,8 +35,8 @@ pub fn write_octets(octets: &[u8], material: &[u8], out: &mut [u8]) -> Written
     let count = number_at(octets, 4) as usize;
     let looked = rows_looked(octets);
     let components = rows_judged(octets, looked, material);
-    let portion = verdict::portion_judged(count, components);
-    match verdict::message_judged(kind, orig, dest, dialogue, count, portion, material) {
+    let portion = write_check::portion_judged(count, components);
+    match write_check::message_judged(kind, orig, dest, dialogue, count, portion, material) {
         Judged::Bad(rank) => Written::Refused(fault_at(rank)),
         Judged::Fine(size) => {
             if size > MOST_OCTETS {

@@ -1,8 +1,8 @@
 -- The head has the length of what it stands before. Assumes nothing.
 use borrow.Author.Needs.{needs}
 use Rattle.element.specs.Form.{leaf, shortest}
-use Rattle.judging.specs.Verdict.{octetsIn}
-use Rattle.judging.specs.Forms.{octetsOf}
+use Rattle.write_check_row.specs.Verdict.{octetsIn}
+use Rattle.write_check_row.specs.Forms.{octetsOf}
 use Rattle.write_head.proofs.Heads.{room-inside, room-head, back-around}
 use Rattle.write_portion.proofs.back_context.Statement.{statement}
 use Rattle.write_portion.proofs.back_context.Tie as tie

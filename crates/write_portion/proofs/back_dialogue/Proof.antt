@@ -2,8 +2,8 @@
 use borrow.Author.Needs.{needs}
 use Rattle.base.proofs.Backs.{back-none}
 use Rattle.element.specs.Form.{shortest}
-use Rattle.judging.specs.Verdict.{dialogueLies}
-use Rattle.judging.specs.Forms.{dialogueForm}
+use Rattle.write_check_row.specs.Verdict.{dialogueLies}
+use Rattle.write_check_row.specs.Forms.{dialogueForm}
 use Rattle.write_head.proofs.Lengths.{octet-octets}
 use Rattle.write_portion.proofs.Around.{named-lie, outside-lie}
 use Rattle.write_portion.proofs.back_dialogue.Statement.{statement}

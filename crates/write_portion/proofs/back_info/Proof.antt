@@ -2,8 +2,8 @@
 use borrow.Author.Needs.{needs}
 use Rattle.base.proofs.Backs.{back-none}
 use Rattle.element.specs.Form.{shortest}
-use Rattle.judging.specs.Verdict.{optionLies}
-use Rattle.judging.specs.Forms.{infoForm}
+use Rattle.write_check_row.specs.Verdict.{optionLies}
+use Rattle.write_check_row.specs.Forms.{infoForm}
 use Rattle.write_portion.proofs.back_info.Statement.{statement}
 use Rattle.write_portion.proofs.back_info.Tie as tie
 

@@ -4,7 +4,7 @@ use mathlib.Core.List.{[], _∷_}
 use Rattle.base.proofs.Backs.{room-last, room-next, back-then}
 use Rattle.element.specs.Form.{around, shortest}
 use Rattle.tcap.specs.Meaning.{octet, sourceForm}
-use Rattle.judging.specs.Forms.{octetsOf}
+use Rattle.write_check_row.specs.Forms.{octetsOf}
 use Rattle.write_portion.proofs.Around.{result-parts}
 use Rattle.write_portion.proofs.back_result.Statement.{statement}
 use Rattle.write_portion.proofs.back_result.Tie as tie

@@ -3,7 +3,7 @@ use borrow.Author.Needs.{needs}
 use lib.ListN.{drop}
 use Rattle.base.proofs.Backs.{back-none}
 use Rattle.element.specs.Form.{seriesForm, shortest}
-use Rattle.judging.specs.Forms.{rowForm, octetsOf}
+use Rattle.write_check_row.specs.Forms.{rowForm, octetsOf}
 use Rattle.layout.specs.Layout.{rowsIn}
 use Rattle.write_head.proofs.Heads.{room-inside, room-head, back-around}
 use Rattle.write_put.proofs.Parts.{no-rows, some-rows}

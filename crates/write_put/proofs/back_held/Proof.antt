@@ -2,7 +2,7 @@
 use borrow.Author.Needs.{needs}
 use Rattle.base.proofs.Backs.{room-last, room-next, back-then}
 use Rattle.element.specs.Form.{shortest}
-use Rattle.judging.specs.Forms.{origForm, destForm, dialogueForm, octetsOf}
+use Rattle.write_check_row.specs.Forms.{origForm, destForm, dialogueForm, octetsOf}
 use Rattle.write_put.specs.Parts.{heldForm}
 use Rattle.write_put.proofs.back_held.Statement.{statement}
 use Rattle.write_put.proofs.back_held.Tie as tie

@@ -3,7 +3,7 @@ use borrow.Author.Needs.{needs}
 use lib.ListN.{drop}
 use Rattle.element.specs.Form.{shortest}
 use Rattle.tcap.specs.Record.{messageTag}
-use Rattle.judging.specs.Forms.{octetsOf}
+use Rattle.write_check_row.specs.Forms.{octetsOf}
 use Rattle.layout.specs.Layout.{rowsIn}
 use Rattle.write_head.proofs.Heads.{room-inside, room-head, back-around}
 use Rattle.write_put.specs.Parts.{heldForm, partsForm}

@@ -2,7 +2,7 @@
 use borrow.Author.Needs.{needs}
 use Rattle.base.proofs.Backs.{room-last, room-next, back-then}
 use Rattle.element.specs.Form.{shortest}
-use Rattle.judging.specs.Forms.{codeForm, octetsOf}
+use Rattle.write_check_row.specs.Forms.{codeForm, octetsOf}
 use Rattle.layout.specs.Layout.{codeAt}
 use Rattle.write_row.proofs.back_coded.Statement.{statement}
 use Rattle.write_row.proofs.back_coded.Tie as tie

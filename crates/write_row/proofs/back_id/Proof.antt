@@ -2,7 +2,7 @@
 use borrow.Author.Needs.{needs}
 use borrow.Author.Tests.{eq-eqb, ne-eqb}
 use Rattle.element.specs.Form.{shortest}
-use Rattle.judging.specs.Forms.{idForm}
+use Rattle.write_check_row.specs.Forms.{idForm}
 use Rattle.layout.specs.Layout.{idIn}
 use Rattle.write_head.proofs.Lengths.{short-length}
 use Rattle.write_row.proofs.Fields.{signed-parts}

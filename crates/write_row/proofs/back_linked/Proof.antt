@@ -3,7 +3,7 @@ use borrow.Author.Needs.{needs}
 use borrow.Author.Tests.{eq-eqb, ne-eqb}
 use Rattle.base.proofs.Backs.{back-none}
 use Rattle.element.specs.Form.{shortest}
-use Rattle.judging.specs.Forms.{linkedForm}
+use Rattle.write_check_row.specs.Forms.{linkedForm}
 use Rattle.layout.specs.Layout.{linkedIn}
 use Rattle.write_row.proofs.Fields.{signed-parts}
 use Rattle.write_row.proofs.back_linked.Statement.{statement}

@@ -3,8 +3,8 @@ use borrow.Author.Needs.{needs}
 use borrow.Author.Tests.{eq-eqb, ne-eqb}
 use Rattle.base.proofs.Backs.{back-none}
 use Rattle.element.specs.Form.{shortest}
-use Rattle.judging.specs.Verdict.{optionLies}
-use Rattle.judging.specs.Forms.{parameterForm}
+use Rattle.write_check_row.specs.Verdict.{optionLies}
+use Rattle.write_check_row.specs.Forms.{parameterForm}
 use Rattle.layout.specs.Layout.{optionalIn}
 use Rattle.write_row.proofs.back_parameter.Statement.{statement}
 use Rattle.write_row.proofs.back_parameter.Tie as tie

@@ -3,7 +3,7 @@ use borrow.Author.Needs.{needs}
 use borrow.Author.Tests.{eq-eqb, ne-eqb}
 use Rattle.base.proofs.Backs.{room-last, room-next, back-then, back-none}
 use Rattle.element.specs.Form.{shortest}
-use Rattle.judging.specs.Forms.{codeForm, returnedForm, octetsOf}
+use Rattle.write_check_row.specs.Forms.{codeForm, returnedForm, octetsOf}
 use Rattle.layout.specs.Layout.{codeAt, returnedIn}
 use Rattle.write_head.proofs.Heads.{room-head, back-around}
 use Rattle.write_row.proofs.Fields.{both-lie, both-inside}

@@ -2,7 +2,7 @@
 use borrow.Author.Needs.{needs}
 use Rattle.base.proofs.Backs.{room-last, room-next, back-then}
 use Rattle.element.specs.Form.{shortest}
-use Rattle.judging.specs.Forms.{idForm, rowForm, octetsOf}
+use Rattle.write_check_row.specs.Forms.{idForm, rowForm, octetsOf}
 use Rattle.layout.specs.Layout.{rowIn}
 use Rattle.write_head.proofs.Heads.{room-head, back-around}
 use Rattle.write_row.proofs.Fields.{contents-parts, row-inside}

@@ -7,7 +7,7 @@ use Rattle.base.specs.Back.{PutBack}
 use Rattle.base.proofs.Backs.{back-none, back-length}
 use Rattle.element.specs.Form.{shortest, seriesForm}
 use Rattle.tcap.specs.Record.{blankRow}
-use Rattle.judging.specs.Verdict.{rowLies}
+use Rattle.write_check_row.specs.Verdict.{rowLies}
 use Rattle.layout.specs.Layout.{rowIn, rowsIn}
 use Rattle.unpack.proofs.Rows.{row-room, rows-length, row-at}
 use Rattle.write_row.proofs.Rows.{every-at, row-is, rowsOctets, room-row, back-row}

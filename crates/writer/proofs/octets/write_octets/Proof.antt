@@ -11,11 +11,11 @@ use lib.ListN.{length, drop}
 use Rattle.base.proofs.Backs.{back-length}
 use Rattle.tcap.specs.declared.{Record.Record}
 use Rattle.tcap.specs.WellFormed.{mostOctets}
-use Rattle.judging.specs.Verdict.{counted, allLie}
-use Rattle.judging.specs.Forms.{recordForm, octetsOf}
-use Rattle.judging.specs.declared.{Judged.Judged}
-use Rattle.judging.specs.Judged.{rankOf, listed, rowsJudged}
-use Rattle.verdict.specs.Whole.{portionOf, messageJudged}
+use Rattle.write_check_row.specs.Verdict.{counted, allLie}
+use Rattle.write_check_row.specs.Forms.{recordForm, octetsOf}
+use Rattle.write_check_row.specs.declared.{Judged.Judged}
+use Rattle.write_check_row.specs.Judged.{rankOf, listed, rowsJudged}
+use Rattle.write_check.specs.Whole.{portionOf, messageJudged}
 use Rattle.write_put.proofs.Parts.{record-parts, orig-lies, dest-lies, dialogue-lies, rows-lie}
 use Rattle.layout.specs.Layout.{recordSize, areRows, isRecord, recordIn, rowsIn, rowsLooked}
 use Rattle.writer.proofs.Answers.{full-writes, put-room, put-writes}

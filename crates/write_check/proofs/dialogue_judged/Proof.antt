@@ -1,0 +1,69 @@
+-- `dialogue_judged` meets its contract. Assumes nothing.
+use borrow.Author.Needs.{needs}
+use mathlib.Core.Path.{ap, _∙_}
+use Rattle.element.specs.Form.{shortest}
+use Rattle.write_check_row.specs.Judged.{rankOf, judged}
+use Rattle.write_check_row.specs.Verdict.{dialogueRanges, dialogueLies, dialogueShaped}
+use Rattle.write_check_row.specs.Forms.{dialogueForm}
+use Rattle.write_check_row.proofs.Leaves.{octet-size}
+use Rattle.write_check.proofs.Dialogues.{named-alike}
+use Rattle.write_check.proofs.dialogue_judged.Statement.{statement}
+use Rattle.write_check.proofs.dialogue_judged.Tie as tie
+
+enum-told : tie.Need-enum-told
+enum-told c = search needs
+
+returns : tie.Need-returns
+unfolding rankOf judged dialogueRanges dialogueLies dialogueShaped dialogueForm shortest
+returns c = rw (c .enum-told .given .1)
+
+returns-2 : tie.Need-returns-2
+unfolding dialogueRanges dialogueLies dialogueShaped dialogueForm
+returns-2 c = rw (c .before .before .dialogue .given .1, octet-size) (c .octet-judged .ensures)
+
+returns-3 : tie.Need-returns-3
+returns-3 c = rw (c .before .before .dialogue2 .given .1) (c .request-judged .ensures)
+
+returns-4 : tie.Need-returns-4
+returns-4 c = rw (c .before .before .dialogue3 .given .1) (c .response-judged .ensures)
+
+returns-5 : tie.Need-returns-5
+returns-5 c = rw (c .before .before .dialogue4 .given .1) (c .abort-judged .ensures)
+
+returns-6 : tie.Need-returns-6
+unfolding dialogueRanges dialogueLies dialogueShaped dialogueForm
+returns-6 c = rw (c .before .before .dialogue5 .given .1) (c .request-judged2 .ensures ∙ ap (judged _) (named-alike _))
+
+returns-7 : tie.Need-returns-7
+returns-7 c = rw (c .before .before .dialogue6 .given .1) (c .outside-element-judged .ensures)
+
+returns-8 : tie.Need-returns-8
+returns-8 c = rw (c .before .before .dialogue7 .given .1) (c .outside-octets-judged .ensures)
+
+pub dialogue-judged-spec : {M : Type 1} → statement M
+dialogue-judged-spec =
+    tie.close
+    (tie.spec
+    enum-told
+    (λ c. search needs)
+    (λ c κs. search needs)
+    (λ c. search needs)
+    (λ c κs. search needs)
+    (λ c. search needs)
+    (λ c κs. search needs)
+    (λ c. search needs)
+    (λ c κs. search needs)
+    (λ c. search needs)
+    (λ c κs. search needs)
+    (λ c. search needs)
+    (λ c κs. search needs)
+    (λ c. search needs)
+    (λ c κs. search needs)
+    returns
+    returns-2
+    returns-3
+    returns-4
+    returns-5
+    returns-6
+    returns-7
+    returns-8)

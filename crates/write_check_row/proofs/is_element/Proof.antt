@@ -1,0 +1,14 @@
+-- `is_element` meets its contract. Assumes nothing.
+use Rattle.write_check_row.proofs.Shapes.{element-none, element-some}
+use borrow.Author.Needs.{needs}
+use Rattle.write_check_row.proofs.is_element.Statement.{statement}
+use Rattle.write_check_row.proofs.is_element.Tie as tie
+
+returns : tie.Need-returns
+returns c = search element-none
+
+returns-2 : tie.Need-returns-2
+returns-2 c = search element-some
+
+pub is-element-spec : {M : Type 1} → statement M
+is-element-spec = tie.close (tie.spec (λ c κs. search needs) returns returns-2)
