@@ -6,10 +6,10 @@ use Rattle.element.specs.declared.FaultKind.{FaultKind}
 use Rattle.element.specs.Fault.{Fault, fault}
 use Rattle.tcap.proofs.Places.{kindOf, placeOf}
 use Rattle.read_place.specs.Places.{opening, base, faultPlace}
-use Rattle.read_fault.specs.Faults.{earlyKind, lateKind, kindFrom}
+use Rattle.read_fault.specs.Faults.{kindAt, kindFrom}
 
 kind-back : (k : FaultKind) (q : ℕ) → q ≤ 65535 → kindFrom (base k + q) ≡ k
-unfolding base kindFrom earlyKind lateKind
+unfolding base kindAt
 kind-back FaultKind.CutOff q h = let z : (131072 + q) / opening ≡ 2 = omega (arith, h) in rw z
 kind-back FaultKind.BadTag q h = let z : (196608 + q) / opening ≡ 3 = omega (arith, h) in rw z
 kind-back FaultKind.BadLength q h = let z : (262144 + q) / opening ≡ 4 = omega (arith, h) in rw z

@@ -1,12 +1,14 @@
 // The number of a fault, taken apart.
 ghost use mathlib.Core.Path.{_≡_};
-ghost use Rattle.read_fault.specs.Faults.{earlyKind, lateKind, kindFrom};
+ghost use Rattle.read_fault.specs.Faults.{kindFrom};
 use element::FaultKind;
 use read_place::OPEN;
 
-fn early_kind(block: usize) -> FaultKind
-    ensures { λ r. ⌜ r ≡ earlyKind block ⌝ }
+// The kind of a fault; its place is the number's rest by OPEN.
+pub fn kind_from(fault: usize) -> FaultKind
+    ensures { λ r. ⌜ r ≡ kindFrom fault ⌝ }
 {
+    let block = fault / OPEN;
     if block == 2 {
         return FaultKind::CutOff;
     }
@@ -25,12 +27,9 @@ fn early_kind(block: usize) -> FaultKind
     if block == 7 {
         return FaultKind::CodeZero;
     }
-    FaultKind::Overlong
-}
-
-fn late_kind(block: usize) -> FaultKind
-    ensures { λ r. ⌜ r ≡ lateKind block ⌝ }
-{
+    if block == 8 {
+        return FaultKind::Overlong;
+    }
     if block == 9 {
         return FaultKind::NoMessage;
     }
@@ -53,15 +52,4 @@ fn late_kind(block: usize) -> FaultKind
         return FaultKind::Seventeenth;
     }
     FaultKind::UnknownComponent
-}
-
-// The kind of a fault; its place is the number's rest by OPEN.
-pub fn kind_from(fault: usize) -> FaultKind
-    ensures { λ r. ⌜ r ≡ kindFrom fault ⌝ }
-{
-    let block = fault / OPEN;
-    if block <= 8 {
-        return early_kind(block);
-    }
-    late_kind(block)
 }

@@ -12,25 +12,24 @@ use Rattle.element.specs.declared.FaultKind.{FaultKind}
 use Rattle.element.specs.Fault.{Fault, Text, portion}
 use Rattle.element.specs.Ask.{Got, got, bad, next, blamed, Head, Body, ask}
 use Rattle.element.specs.Parts.{Item, level, leafItem, mapItem, place}
-use Rattle.element.proofs.Asking.{Then, fact, then-next, then-blamed, ask-sound}
-use Rattle.tcap.specs.Meaning.{orig, dest, cause, says}
+use Rattle.element.proofs.Asking.{Then, fact, then-next}
+use Rattle.tcap.specs.Meaning.{cause, says}
 use Rattle.tcap.specs.WellFormed.{the93, idOk}
-use Rattle.tcap.specs.Productions.{single?, octetItem, origItem, destItem, dialogueItem}
-use Rattle.element.proofs.Views.{span-length, span-get}
+use Rattle.tcap.specs.Productions.{single?, octetItem, dialogueItem}
 use Rattle.read_place.specs.Places.{Far, Near, until, finite, part, front, Reads, Finishes, Leads, standsOf}
 use Rattle.read_place.specs.Leaves.{Left, Leaves}
-use Rattle.read_place.specs.Laying.{layText, layOrig, layDest, layDialogue, layEnding}
+use Rattle.read_place.specs.Laying.{layText, layDialogue, layEnding}
 use Rattle.read_place.specs.Blames.{Blames}
 use Rattle.read_place.proofs.Answers.{placed-near}
 use Rattle.read_place.proofs.Onto.{ask-onto, missing-both}
 use Rattle.read_place.proofs.Items.{stands-only, stands-other, or-left, or-right}
 use Rattle.read_place.proofs.Leaves.{left-next}
-use Rattle.read_place.proofs.Values.{leaf-stood, placed-got}
+use Rattle.read_place.proofs.Values.{value-leaf, placed-got}
 use Rattle.read_field.proofs.Fields.{single-sized}
-use Rattle.read_field.proofs.Choices.{reads-map, transaction-sized}
-use Rattle.read_dialogue.proofs.Told.{says-portion, told-far}
-use Rattle.read_message.specs.Messages.{endingItem}
-use Rattle.read_message.proofs.Told.{plain-leaf}
+use Rattle.read_field.proofs.Choices.{transaction-sized}
+use Rattle.read_dialogue.proofs.Told.{Belongs, says-portion, told-far}
+use Rattle.read_message.specs.Messages.{idItem, layIdAt, endingItem}
+use Rattle.read_message.proofs.Told.{plain-leaf, plain-map}
 
 -- Under another name
 
@@ -49,44 +48,40 @@ module _ {A B : Type 0} (f : A → B) (x : Item A) (d : Bool) (p : ℕ) (part : 
 pub leaves-map : {A B : Type 0} (f : A → B) (x : Item A) (lay : A → List ℕ → List ℕ) (out : B → List ℕ → List ℕ) (m : List ℕ) (at stop : ℕ) (old new : List ℕ) → ((a : A) → lay a old ≡ out (f a) old) → Leaves lay Blames x m at stop old new → Leaves out Blames (mapItem f x) m at stop old new
 leaves-map f x lay out m at stop old new same e = rw (item-map f x (finite stop) at (part m at stop)) (left-next Blames lay out f (λ n. n) _ old old new same e)
 
--- A primitive of few octets
+-- A primitive of few octets: what was got, `f` of its octets
 
-module _ {A : Type 0} (f : Text → A) (tag most : ℕ) (fits : List ℕ → Bool) (leads : Leads tag) (few : most ≤ 127) (sized : (c : List ℕ) → fits c ≡ true → (1 ≤ length c) × (length c ≤ most)) (m : List ℕ) (at stop r : ℕ) (e : Reads (mapItem f (leafItem tag fits)) m at stop r) where
+module _ {A : Type 0} (x : Item A) (f : Text → A) (most : ℕ) (m : List ℕ) (at stop r : ℕ) where
   abbrev leaf : Got A
-  leaf = ask (front (level 1) FaultKind.Another (mapItem f (leafItem tag fits))) (finite stop) at (part m at stop)
+  leaf = ask (front (level 1) FaultKind.Another x) (finite stop) at (part m at stop)
 
   abbrev Its : A → ℕ → Type 0
-  Its v n = (3 ≤ n) × (v ≡ f (at + 2, take (n - 2) (drop 2 (part m at stop))))
+  Its v n = (3 ≤ n) × (v ≡ f (at + 2, take (n - 2) (drop 2 (part m at stop)))) × (n ≤ most + 2)
 
-  leaf-value : Then Its leaf
-  leaf-value =
-      ask-sound Its (front (level 1) FaultKind.Another (mapItem f (leafItem tag fits))) (finite stop) at (part m at stop) (λ v e f. let z : _≡_ {A = ℕ} 0 1 = cc in absurd (omega arith))
-      (λ h i mine. then-blamed (λ f. f) (then-next (leaf-stood tag most fits leads few sized at (part m at stop) h i mine) (λ v n q. fact (q .0, ap f (q .1)))))
+  module _ (e : Reads x m at stop r) where
+    leaf-told : Belongs portion leaf → Far r → (lay : A → List ℕ → List ℕ) (old new : List ℕ) → length old ≡ 428 → new ≡ set old 0 0 → Left lay Blames leaf old new
+    leaf-told plain far lay old new long z = rw z (told-far lay portion leaf old (set old 0 0) plain (says-portion old long) at (until stop) r e (omega arith) far)
 
-  leaf-told : Far r → (lay : A → List ℕ → List ℕ) (old new : List ℕ) → length old ≡ 428 → new ≡ set old 0 0 → Left lay Blames leaf old new
-  leaf-told far lay old new long z = rw z (told-far lay portion leaf old (set old 0 0) (plain-leaf f tag fits (finite stop) at (part m at stop)) (says-portion old long) at (until stop) r e (omega arith) far)
+    module _ (known : Then Its leaf) (near : Near r) where
+      leaf-got : (a : A) × (leaf ≡ got a (r - at)) × Its a (r - at)
+      leaf-got = placed-got leaf at (until stop) r Its e near known
 
-  module _ (near : Near r) where
-    leaf-got : (a : A) × (leaf ≡ got a (r - at)) × Its a (r - at)
-    leaf-got = placed-got leaf at (until stop) r Its e near leaf-value
+      leaf-room : at + 3 ≤ r
+      leaf-room = let z = leaf-got in omega (arith, z .2 .0)
 
-    leaf-room : at + 3 ≤ r
-    leaf-room = let z = leaf-got in omega (arith, z .2 .0)
+      leaf-left : (lay : A → List ℕ → List ℕ) (old new : List ℕ) → new ≡ lay (f (at + 2, take (r - at - 2) (drop 2 (part m at stop)))) old → Left lay Blames leaf old new
+      unfolding Left
+      leaf-left lay old new is = let z = leaf-got in rw (z .1) (is ∙ rw (← (z .2 .1)))
 
-    leaf-left : (lay : A → List ℕ → List ℕ) (old new : List ℕ) → new ≡ lay (f (at + 2, take (r - at - 2) (drop 2 (part m at stop)))) old → Left lay Blames leaf old new
-    unfolding Left
-    leaf-left lay old new is = let z = leaf-got in rw (z .1) (is ∙ rw (← (z .2 .1)))
+      module _ (h : until stop ≤ length m) where
+        leaf-length : length (take (r - at - 2) (drop 2 (part m at stop))) ≡ r - at - 2
+        leaf-length =
+            let i = placed-near leaf at (until stop) r e near in
+            length-take-le (r - at - 2) (drop 2 (part m at stop)) (omega (arith, length-drop 2 (part m at stop), span-length m at (until stop) h, i))
 
-    module _ (h : until stop ≤ length m) where
-      leaf-length : length (take (r - at - 2) (drop 2 (part m at stop))) ≡ r - at - 2
-      leaf-length =
-          let i = placed-near leaf at (until stop) r e near in
-          length-take-le (r - at - 2) (drop 2 (part m at stop)) (omega (arith, length-drop 2 (part m at stop), span-length m at (until stop) h, i))
-
-      leaf-octet : getD (take (r - at - 2) (drop 2 (part m at stop))) 0 0 ≡ getD m (at + 2) 0
-      leaf-octet =
-          let i = placed-near leaf at (until stop) r e near in
-          getD-take (r - at - 2) (drop 2 (part m at stop)) 0 0 (omega (arith, leaf-room)) ∙ getD-drop 2 (part m at stop) 0 0 ∙ span-get m at (until stop) 2 (omega (arith, leaf-room, i))
+        leaf-octet : getD (take (r - at - 2) (drop 2 (part m at stop))) 0 0 ≡ getD m (at + 2) 0
+        leaf-octet =
+            let i = placed-near leaf at (until stop) r e near in
+            getD-take (r - at - 2) (drop 2 (part m at stop)) 0 0 (omega (arith, leaf-room)) ∙ getD-drop 2 (part m at stop) 0 0 ∙ span-get m at (until stop) 2 (omega (arith, leaf-room, i))
 
 -- an answer that was handed on
 pub reads-as : {A : Type 0} (x : Item A) (m : List ℕ) (at stop r s : ℕ) → Reads x m at stop r → s ≡ r → Reads x m at stop s
@@ -97,42 +92,39 @@ finishes-as b m at stop r s e z = rw z e
 
 -- The IDs
 
-module _ (m : List ℕ) (at stop r : ℕ) (e : Reads (leafItem 72 idOk) m at stop r) where
-  orig-read : Reads origItem m at stop r
-  orig-read = reads-map orig (leafItem 72 idOk) m at stop r e
+module _ (tag : ℕ) (m : List ℕ) (at stop r : ℕ) (e : Reads (idItem tag) m at stop r) where
+  module _ (flag o : ℕ) (old new : List ℕ) where
+    pub id-told : Far r → length old ≡ 428 → new ≡ set old 0 0 → Leaves (layIdAt flag o) Blames (idItem tag) m at stop old new
+    id-told far long z = leaf-told (idItem tag) (λ v. v) 4 m at stop r e (plain-leaf tag idOk (finite stop) at (part m at stop)) far (layIdAt flag o) old new long z
 
-  pub orig-told : Far r → (old new : List ℕ) → length old ≡ 428 → new ≡ set old 0 0 → Leaves layOrig Blames origItem m at stop old new
-  orig-told far old new long z = leaf-told orig 72 4 idOk (omega arith, omega arith, omega arith) (omega arith) transaction-sized m at stop r orig-read far layOrig old new long z
+    pub id-laid : Leads tag → Near r → until stop ≤ length m → new ≡ layText o (at + 2) (r - at - 2) (set old flag 1) → Leaves (layIdAt flag o) Blames (idItem tag) m at stop old new
+    id-laid leads near h z =
+        let known = value-leaf tag 4 idOk leads (omega arith) transaction-sized at (part m at stop) (level 1) (finite stop) in
+        leaf-left (idItem tag) (λ v. v) 4 m at stop r e known near (layIdAt flag o) old new
+        (z ∙ ap (λ (n : ℕ). layText o (at + 2) n (set old flag 1)) (sym (leaf-length (idItem tag) (λ v. v) 4 m at stop r e known near h)))
 
-  pub orig-laid : Near r → until stop ≤ length m → (old new : List ℕ) → new ≡ layText 8 (at + 2) (r - at - 2) (set old 1 1) → Leaves layOrig Blames origItem m at stop old new
-  unfolding layOrig
-  orig-laid near h old new z =
-      leaf-left orig 72 4 idOk (omega arith, omega arith, omega arith) (omega arith) transaction-sized m at stop r orig-read near layOrig old new
-      (z ∙ ap (λ (n : ℕ). layText 8 (at + 2) n (set old 1 1)) (sym (leaf-length orig 72 4 idOk (omega arith, omega arith, omega arith) (omega arith) transaction-sized m at stop r orig-read near h)))
-
-module _ (m : List ℕ) (at stop r : ℕ) (e : Reads (leafItem 73 idOk) m at stop r) where
-  dest-read : Reads destItem m at stop r
-  dest-read = reads-map dest (leafItem 73 idOk) m at stop r e
-
-  pub dest-told : Far r → (old new : List ℕ) → length old ≡ 428 → new ≡ set old 0 0 → Leaves layDest Blames destItem m at stop old new
-  dest-told far old new long z = leaf-told dest 73 4 idOk (omega arith, omega arith, omega arith) (omega arith) transaction-sized m at stop r dest-read far layDest old new long z
-
-  pub dest-laid : Near r → until stop ≤ length m → (old new : List ℕ) → new ≡ layText 16 (at + 2) (r - at - 2) (set old 2 1) → Leaves layDest Blames destItem m at stop old new
-  unfolding layDest
-  dest-laid near h old new z =
-      leaf-left dest 73 4 idOk (omega arith, omega arith, omega arith) (omega arith) transaction-sized m at stop r dest-read near layDest old new
-      (z ∙ ap (λ (n : ℕ). layText 16 (at + 2) n (set old 2 1)) (sym (leaf-length dest 73 4 idOk (omega arith, omega arith, omega arith) (omega arith) transaction-sized m at stop r dest-read near h)))
-
--- how many octets they have
-pub id-room : (tag : ℕ) (m : List ℕ) (at stop r : ℕ) → Leads tag → Reads (leafItem tag idOk) m at stop r → Near r → at + 3 ≤ r
-id-room tag m at stop r leads e near = leaf-room orig tag 4 idOk leads (omega arith) transaction-sized m at stop r (reads-map orig (leafItem tag idOk) m at stop r e) near
+  -- how many octets they have
+  pub id-room : Leads tag → Near r → at + 3 ≤ r
+  id-room leads near = leaf-room (idItem tag) (λ v. v) 4 m at stop r e (value-leaf tag 4 idOk leads (omega arith) transaction-sized at (part m at stop) (level 1) (finite stop)) near
 
 -- A cause, or 6B
 
-module _ (m : List ℕ) (at stop r : ℕ) (h : until stop ≤ length m) (b : Bool) (is : b ≡ standsOf m at stop 107) where
-  abbrev octet : Text → ℕ
-  octet v = getD (v .1) 0 0
+abbrev octetIn : Text → ℕ
+octetIn v = getD (v .1) 0 0
 
+module _ (m : List ℕ) (at stop r : ℕ) (e : Reads (octetItem 74 4) m at stop r) where
+  cause-known : Then (Its (octetItem 74 4) octetIn 1 m at stop r) (leaf (octetItem 74 4) octetIn 1 m at stop r)
+  cause-known =
+      rw (item-map octetIn (leafItem 74 (single? 4)) (finite stop) at (part m at stop))
+      (then-next (value-leaf 74 1 (single? 4) (omega arith, omega arith, omega arith) (omega arith) (single-sized 4) at (part m at stop) (level 1) (finite stop)) (λ v n q. fact (q .0, ap octetIn (q .1), q .2)))
+
+  cause-plain : Belongs portion (leaf (octetItem 74 4) octetIn 1 m at stop r)
+  cause-plain = rw (item-map octetIn (leafItem 74 (single? 4)) (finite stop) at (part m at stop)) (plain-map octetIn _ (plain-leaf 74 (single? 4) (finite stop) at (part m at stop)))
+
+  pub cause-room : Near r → until stop ≤ length m → at + 2 < length m
+  cause-room near h = let i = placed-near _ at (until stop) r e near in omega (arith, h, i, leaf-room (octetItem 74 4) octetIn 1 m at stop r e cause-known near)
+
+module _ (m : List ℕ) (at stop r : ℕ) (h : until stop ≤ length m) (b : Bool) (is : b ≡ standsOf m at stop 107) where
   abbrev layCause : ℕ → List ℕ → List ℕ
   layCause n l = set (set l 3 1) 41 n
 
@@ -144,12 +136,12 @@ module _ (m : List ℕ) (at stop r : ℕ) (h : until stop ≤ length m) (b : Boo
         (leaves-map cause (octetItem 74 4) layCause layEnding m at stop old new (λ n. refl) q)
 
     pub cause-told : Far r → length old ≡ 428 → new ≡ set old 0 0 → Leaves layEnding Blames endingItem m at stop old new
-    cause-told far long z = by-cause (leaf-told octet 74 1 (single? 4) (omega arith, omega arith, omega arith) (omega arith) (single-sized 4) m at stop r e far layCause old new long z)
+    cause-told far long z = by-cause (leaf-told (octetItem 74 4) octetIn 1 m at stop r e (cause-plain m at stop r e) far layCause old new long z)
 
     pub cause-laid : Near r → new ≡ set (set old 3 1) 41 (getD m (at + 2) 0) → Leaves layEnding Blames endingItem m at stop old new
     cause-laid near z =
-        by-cause (leaf-left octet 74 1 (single? 4) (omega arith, omega arith, omega arith) (omega arith) (single-sized 4) m at stop r e near layCause old new
-        (z ∙ ap (layCause′ old) (sym (leaf-octet octet 74 1 (single? 4) (omega arith, omega arith, omega arith) (omega arith) (single-sized 4) m at stop r e near h))))
+        by-cause (leaf-left (octetItem 74 4) octetIn 1 m at stop r e (cause-known m at stop r e) near layCause old new
+        (z ∙ ap (layCause′ old) (sym (leaf-octet (octetItem 74 4) octetIn 1 m at stop r e (cause-known m at stop r e) near h))))
       where
         layCause′ : List ℕ → ℕ → List ℕ
         layCause′ l n = layCause n l
@@ -159,8 +151,3 @@ module _ (m : List ℕ) (at stop r : ℕ) (h : until stop ≤ length m) (b : Boo
   says-laid t old new q =
       rw (or-right (level 1) FaultKind.Another (mapItem cause (octetItem 74 4)) (mapItem says (dialogueItem the93)) (finite stop) at (part m at stop) refl (λ a s z. ap (λ (q : ℕ). eqb q 74) (stands-only m at stop 107 h (sym is ∙ t) a s z)))
       (leaves-map says (dialogueItem the93) layDialogue layEnding m at stop old new (λ d. refl) q)
-
-pub cause-room : (m : List ℕ) (at stop r : ℕ) → Reads (octetItem 74 4) m at stop r → Near r → until stop ≤ length m → at + 2 < length m
-cause-room m at stop r e near h =
-    let i = placed-near _ at (until stop) r e near in
-    omega (arith, h, i, leaf-room (λ v. getD (v .1) 0 0) 74 1 (single? 4) (omega arith, omega arith, omega arith) (omega arith) (single-sized 4) m at stop r e near)

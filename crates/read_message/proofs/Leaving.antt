@@ -14,7 +14,7 @@ use Rattle.element.specs.Head.{endOf}
 use Rattle.element.specs.Ask.{Got, got, bad, Body, ask}
 use Rattle.element.specs.Parts.{Item, level, bindBody, thenBody, onlyBody, lastBody, optBody, mapBody}
 use Rattle.element.specs.Answers.{lengthSize}
-use Rattle.tcap.specs.Meaning.{Originating, Destination, Component, Dialogue, Ending, Message, silent, unidirectional, begin, finish, continue, abort}
+use Rattle.tcap.specs.Meaning.{Originating, orig, Destination, dest, Component, Dialogue, Ending, Message, silent, unidirectional, begin, finish, continue, abort}
 use Rattle.tcap.specs.WellFormed.{the93}
 use Rattle.tcap.specs.Productions.{origItem, destItem, carried, componentsItem, dialogueItem, tailBody, uniBody, beginBody, endBody, continueBody, abortBody}
 use Rattle.read_place.specs.Places.{Far, Near, until, finite, part, front, Placed, Closing, nothing, Reads, Finishes, endedOf, standsOf, entryPlace}
@@ -28,9 +28,10 @@ use Rattle.read_place.proofs.Leaves.{Stays, left-where, bind-left-far, bind-lef
 use Rattle.read_component.specs.Components.{endsAt, rowsBody}
 use Rattle.read_dialogue.specs.Dialogues.{Passed, Passes}
 use Rattle.read_dialogue.proofs.Owners.{entry-belongs}
-use Rattle.read_message.specs.Messages.{componentsBody, endingItem, layListed, layTail, layLast, Lays, LaysPast}
+use Rattle.read_message.specs.Messages.{idItem, layIdAt, componentsBody, endingItem, layListed, layTail, layLast, Lays, LaysPast}
 use Rattle.read_dialogue.proofs.Told.{says-portion, told-far}
 use Rattle.read_message.proofs.Told.{Fixed, fixed-here, fixed-told, fixed-closed, plain-nothing, carried-stays}
+use Rattle.read_message.proofs.Fields.{leaves-map}
 use Rattle.read_message.proofs.Portions.{end-near, components-entry, orig-lifted, dest-lifted}
 
 -- contents that end leave the octets as they are
@@ -204,12 +205,13 @@ module _ (m : List ℕ) (at stop r : ℕ) (g : at ≤ until stop) (h : until sto
 -- The IDs, and then the rest
 
 module _ {B : Type 0} (y : Body B) (put : B → List ℕ → List ℕ) (m : List ℕ) (at stop r : ℕ) (old mid : List ℕ) where
-  module _ (e : Reads origItem m at stop r) (q : Leaves layOrig Blames origItem m at stop old mid) where
+  module _ (e : Reads (idItem 72) m at stop r) (q : Leaves (layIdAt 1 8) Blames (idItem 72) m at stop old mid) where
     abbrev layFrom : Originating Text × B → List ℕ → List ℕ
     layFrom v l = put (v .1) (layOrig (v .0) l)
 
     its-orig : Left layOrig Blames (ask (front (level 15) FaultKind.Another origItem) (finite stop) at (part m at stop)) old mid
-    its-orig = left-where Blames layOrig origItem FaultKind.Another (level 15) (λ f l t. t) (finite stop) at (part m at stop) old mid refl q
+    unfolding layOrig
+    its-orig = left-where Blames layOrig origItem FaultKind.Another (level 15) (λ f l t. t) (finite stop) at (part m at stop) old mid refl (leaves-map orig (idItem 72) (layIdAt 1 8) layOrig m at stop old mid (λ t. refl) q)
 
     orig-left-far : Far r → LeavesAll layFrom Blames (bindBody (level 15) carried origItem (λ o. y)) m at stop old mid
     orig-left-far f = bind-left-far Blames (level 15) origItem m at stop r (orig-lifted y m at stop r e) layOrig old carried carried-stays (λ o. y) (λ o. put) mid f its-orig
@@ -217,12 +219,13 @@ module _ {B : Type 0} (y : Body B) (put : B → List ℕ → List ℕ) (m : List
     orig-left : Near r → (new : List ℕ) → LeavesAll put Blames y m r stop mid new → LeavesAll layFrom Blames (bindBody (level 15) carried origItem (λ o. y)) m at stop old new
     orig-left f new w = bind-left Blames (level 15) origItem m at stop r (orig-lifted y m at stop r e) layOrig old carried carried-stays (λ o. y) (λ o. put) mid new f its-orig (λ o. w)
 
-  module _ (e : Reads destItem m at stop r) (q : Leaves layDest Blames destItem m at stop old mid) where
+  module _ (e : Reads (idItem 73) m at stop r) (q : Leaves (layIdAt 2 16) Blames (idItem 73) m at stop old mid) where
     abbrev layTo : Destination Text × B → List ℕ → List ℕ
     layTo v l = put (v .1) (layDest (v .0) l)
 
     its-dest : Left layDest Blames (ask (front (level 15) FaultKind.Another destItem) (finite stop) at (part m at stop)) old mid
-    its-dest = left-where Blames layDest destItem FaultKind.Another (level 15) (λ f l t. t) (finite stop) at (part m at stop) old mid refl q
+    unfolding layDest
+    its-dest = left-where Blames layDest destItem FaultKind.Another (level 15) (λ f l t. t) (finite stop) at (part m at stop) old mid refl (leaves-map dest (idItem 73) (layIdAt 2 16) layDest m at stop old mid (λ t. refl) q)
 
     dest-left-far : Far r → LeavesAll layTo Blames (thenBody (level 15) destItem y) m at stop old mid
     dest-left-far f = then-left-far Blames (level 15) destItem m at stop r (dest-lifted y m at stop r e) layDest old y put mid f its-dest
@@ -241,7 +244,7 @@ to-begin v = begin (v .0) (v .1 .0) (v .1 .1)
 abbrev to-continue : Originating Text × (Destination Text × Tail) → Message Text
 to-continue v = continue (v .0) (v .1 .0) (v .1 .1 .0) (v .1 .1 .1)
 
-module _ (m : List ℕ) (at stop r : ℕ) (e : Reads origItem m at stop r) (old mid : List ℕ) (q : Leaves layOrig Blames origItem m at stop old mid) where
+module _ (m : List ℕ) (at stop r : ℕ) (e : Reads (idItem 72) m at stop r) (old mid : List ℕ) (q : Leaves (layIdAt 1 8) Blames (idItem 72) m at stop old mid) where
   begin-named : (new : List ℕ) → LeavesAll (λ v l. layTail (v .1) (layOrig (v .0) l)) Blames (bindBody (level 15) carried origItem (λ o. tailBody the93)) m at stop old new → LeavesAll layMessage Blames (beginBody the93) m at stop old new
   unfolding layMessage
   begin-named new w = map-left Blames to-begin (bindBody (level 15) carried origItem (λ o. tailBody the93)) (λ v l. layTail (v .1) (layOrig (v .0) l)) layMessage m at stop old new (λ v l. refl) w
@@ -265,7 +268,7 @@ module _ (m : List ℕ) (at stop r : ℕ) (e : Reads origItem m at stop r) (old 
   pub continue-left-orig : Far r → LeavesAll layMessage Blames (continueBody the93) m at stop old mid
   continue-left-orig f = continue-named mid (orig-left-far from-dest layRest m at stop r old mid e q f)
 
-  module _ (near : Near r) (s : ℕ) (d : Reads destItem m r stop s) (laid : List ℕ) (u : Leaves layDest Blames destItem m r stop mid laid) where
+  module _ (near : Near r) (s : ℕ) (d : Reads (idItem 73) m r stop s) (laid : List ℕ) (u : Leaves (layIdAt 2 16) Blames (idItem 73) m r stop mid laid) where
     pub continue-left-dest : Far s → LeavesAll layMessage Blames (continueBody the93) m at stop old laid
     continue-left-dest f = continue-named laid (orig-left from-dest layRest m at stop r old mid e q near laid (dest-left-far (tailBody the93) layTail m r stop s mid laid d u f))
 
@@ -274,7 +277,7 @@ module _ (m : List ℕ) (at stop r : ℕ) (e : Reads origItem m at stop r) (old 
 
 -- End and Abort
 
-module _ (m : List ℕ) (at stop r : ℕ) (e : Reads destItem m at stop r) (old mid : List ℕ) (q : Leaves layDest Blames destItem m at stop old mid) where
+module _ (m : List ℕ) (at stop r : ℕ) (e : Reads (idItem 73) m at stop r) (old mid : List ℕ) (q : Leaves (layIdAt 2 16) Blames (idItem 73) m at stop old mid) where
   finish-named : (new : List ℕ) → LeavesAll (λ v l. layTail (v .1) (layDest (v .0) l)) Blames (thenBody (level 15) destItem (tailBody the93)) m at stop old new → LeavesAll layMessage Blames (endBody the93) m at stop old new
   unfolding layMessage
   finish-named new w = map-left Blames (λ v. finish (v .0) (v .1 .0) (v .1 .1)) (thenBody (level 15) destItem (tailBody the93)) (λ v l. layTail (v .1) (layDest (v .0) l)) layMessage m at stop old new (λ v l. refl) w

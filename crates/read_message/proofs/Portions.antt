@@ -14,7 +14,7 @@ use Rattle.element.specs.Head.{endOf}
 use Rattle.element.specs.Ask.{Body, ask}
 use Rattle.element.specs.Parts.{Item, level, mapItem, bindBody, thenBody, onlyBody, lastBody, optBody, mapBody}
 use Rattle.element.specs.Answers.{lengthSize}
-use Rattle.tcap.specs.Meaning.{Originating, orig, Destination, Component, Dialogue, Message, cause, says, silent, unidirectional, begin, finish, continue, abort}
+use Rattle.tcap.specs.Meaning.{Originating, orig, Destination, dest, Component, Dialogue, Message, cause, says, silent, unidirectional, begin, finish, continue, abort}
 use Rattle.tcap.specs.WellFormed.{the93}
 use Rattle.tcap.specs.Productions.{octetItem, origItem, destItem, carried, componentsItem, dialogueItem, tailBody, uniBody, beginBody, endBody, continueBody, abortBody}
 use Rattle.read_place.specs.Places.{Far, Near, until, finite, part, faultPlace, front, Placed, nothing, Reads, Finishes, endedOf, behindOf, standsOf, entryPlace}
@@ -27,7 +27,7 @@ use Rattle.read_field.proofs.Choices.{first-of, second-of, reads-map}
 use Rattle.read_component.specs.Components.{endsAt, rowsBody}
 use Rattle.read_dialogue.specs.Dialogues.{Passes}
 use Rattle.read_dialogue.proofs.Pdus.{pass-far, pass-near}
-use Rattle.read_message.specs.Messages.{componentsBody, endingItem}
+use Rattle.read_message.specs.Messages.{idItem, componentsBody, endingItem}
 
 -- One last element that may be left out, at level 2
 
@@ -96,9 +96,9 @@ pub carried-keeps : (o : Originating Text) → Keeps (carried o)
 unfolding withOrigId faultPlace
 carried-keeps (orig i) (fault k q o j t) = refl
 
-module _ {B : Type 0} (y : Body B) (m : List ℕ) (at stop r : ℕ) (e : Reads origItem m at stop r) where
+module _ {B : Type 0} (y : Body B) (m : List ℕ) (at stop r : ℕ) (e : Reads (idItem 72) m at stop r) where
   pub orig-lifted : Placed at (until stop) (ask (front (level 15) FaultKind.Another origItem) (finite stop) at (part m at stop)) r
-  orig-lifted = placed-where origItem FaultKind.Another (level 15) (λ f. refl) (finite stop) at (part m at stop) (until stop) r refl e
+  orig-lifted = placed-where origItem FaultKind.Another (level 15) (λ f. refl) (finite stop) at (part m at stop) (until stop) r refl (reads-map orig (idItem 72) m at stop r e)
 
   orig-far : Far r → Finishes (bindBody (level 15) carried origItem (λ o. y)) m at stop r
   orig-far f = bind-far (level 15) origItem m at stop r orig-lifted carried carried-keeps (λ o. y) f
@@ -106,9 +106,9 @@ module _ {B : Type 0} (y : Body B) (m : List ℕ) (at stop r : ℕ) (e : Reads o
   orig-near : Near r → (s : ℕ) → Finishes y m r stop s → Finishes (bindBody (level 15) carried origItem (λ o. y)) m at stop s
   orig-near f s q = bind-near (level 15) origItem m at stop r orig-lifted carried carried-keeps (λ o. y) s f (λ o. q)
 
-module _ {B : Type 0} (y : Body B) (m : List ℕ) (at stop r : ℕ) (e : Reads destItem m at stop r) where
+module _ {B : Type 0} (y : Body B) (m : List ℕ) (at stop r : ℕ) (e : Reads (idItem 73) m at stop r) where
   pub dest-lifted : Placed at (until stop) (ask (front (level 15) FaultKind.Another destItem) (finite stop) at (part m at stop)) r
-  dest-lifted = placed-where destItem FaultKind.Another (level 15) (λ f. refl) (finite stop) at (part m at stop) (until stop) r refl e
+  dest-lifted = placed-where destItem FaultKind.Another (level 15) (λ f. refl) (finite stop) at (part m at stop) (until stop) r refl (reads-map dest (idItem 73) m at stop r e)
 
   dest-far : Far r → Finishes (thenBody (level 15) destItem y) m at stop r
   dest-far f = then-far (level 15) destItem m at stop r dest-lifted y f
@@ -118,7 +118,7 @@ module _ {B : Type 0} (y : Body B) (m : List ℕ) (at stop r : ℕ) (e : Reads d
 
 -- Begin and Continue
 
-module _ (m : List ℕ) (at stop r : ℕ) (e : Reads origItem m at stop r) where
+module _ (m : List ℕ) (at stop r : ℕ) (e : Reads (idItem 72) m at stop r) where
   pub begin-far : Far r → Finishes (beginBody the93) m at stop r
   begin-far f = map-closed (λ v. begin (v .0) (v .1 .0) (v .1 .1)) (bindBody (level 15) carried origItem (λ o. tailBody the93)) m at stop r (orig-far (tailBody the93) m at stop r e f)
 
@@ -131,7 +131,7 @@ module _ (m : List ℕ) (at stop r : ℕ) (e : Reads origItem m at stop r) where
   pub continue-orig : Far r → Finishes (continueBody the93) m at stop r
   continue-orig f = map-closed (λ v. continue (v .0) (v .1 .0) (v .1 .1 .0) (v .1 .1 .1)) both-ids m at stop r (orig-far (thenBody (level 15) destItem (tailBody the93)) m at stop r e f)
 
-  module _ (near : Near r) (s : ℕ) (d : Reads destItem m r stop s) where
+  module _ (near : Near r) (s : ℕ) (d : Reads (idItem 73) m r stop s) where
     pub continue-dest : Far s → Finishes (continueBody the93) m at stop s
     continue-dest f = map-closed (λ v. continue (v .0) (v .1 .0) (v .1 .1 .0) (v .1 .1 .1)) both-ids m at stop s (orig-near (thenBody (level 15) destItem (tailBody the93)) m at stop r e near s (dest-far (tailBody the93) m r stop s d f))
 
@@ -140,7 +140,7 @@ module _ (m : List ℕ) (at stop r : ℕ) (e : Reads origItem m at stop r) where
 
 -- End and Abort
 
-module _ (m : List ℕ) (at stop r : ℕ) (e : Reads destItem m at stop r) where
+module _ (m : List ℕ) (at stop r : ℕ) (e : Reads (idItem 73) m at stop r) where
   pub finish-far : Far r → Finishes (endBody the93) m at stop r
   finish-far f = map-closed (λ v. finish (v .0) (v .1 .0) (v .1 .1)) (thenBody (level 15) destItem (tailBody the93)) m at stop r (dest-far (tailBody the93) m at stop r e f)
 

@@ -59,14 +59,14 @@ module _ {A : Type 0} (x : Got A) (new : List ℕ) where
 
 -- What belongs to the transaction portion: a primitive, whatever it is called, and what must not come any more
 
-leaf-plain : {A : Type 0} (f : Text → A) (fits : List ℕ → Bool) (h : Head) (p : ℕ) (part : List ℕ) → Belongs portion (next (leafContents fits h p part) (λ v n. got (f v) n))
-unfolding leafContents Belongs check next
-leaf-plain f fits (head a u (definite n)) p part = go (fits (take n (drop u part)))
+leaf-plain : (fits : List ℕ → Bool) (h : Head) (p : ℕ) (part : List ℕ) → Belongs portion (leafContents fits h p part)
+unfolding leafContents Belongs check
+leaf-plain fits (head a u (definite n)) p part = go (fits (take n (drop u part)))
   where
-    go : (b : Bool) → Belongs portion (next (check b (at FaultKind.BadContents p) (got (p + u, take n (drop u part)) (u + n))) (λ v n. got (f v) n))
+    go : (b : Bool) → Belongs {A = Text} portion (check b (at FaultKind.BadContents p) (got (p + u, take n (drop u part)) (u + n)))
     go true = tt
     go false = refl
-leaf-plain f fits (head a u indefinite) p part = refl
+leaf-plain fits (head a u indefinite) p part = refl
 
 module _ {A : Type 0} (x : Item A) (d : Bool) (p : ℕ) (part : List ℕ) (plain : (h : Head) → Belongs portion (x .contents h p part)) where
   plain-same : (z : Got A) → Belongs portion z → Belongs portion (blamed (λ f. f) z)
@@ -93,8 +93,13 @@ module _ {A : Type 0} (x : Item A) (d : Bool) (p : ℕ) (part : List ℕ) (plain
   plain-item : Belongs portion (ask (front (level 1) FaultKind.Another x) d p part)
   plain-item = rw (ask-front (front (level 1) FaultKind.Another x) d p part refl refl) (plain-front (endOf d part) (frontOf 1 part))
 
-pub plain-leaf : {A : Type 0} (f : Text → A) (tag : ℕ) (fits : List ℕ → Bool) (d : Bool) (p : ℕ) (part : List ℕ) → Belongs portion (ask (front (level 1) FaultKind.Another (mapItem f (leafItem tag fits))) d p part)
-plain-leaf f tag fits d p part = plain-item (mapItem f (leafItem tag fits)) d p part (λ h. leaf-plain f fits h p part)
+pub plain-leaf : (tag : ℕ) (fits : List ℕ → Bool) (d : Bool) (p : ℕ) (part : List ℕ) → Belongs portion (ask (front (level 1) FaultKind.Another (leafItem tag fits)) d p part)
+plain-leaf tag fits d p part = plain-item (leafItem tag fits) d p part (λ h. leaf-plain fits h p part)
+
+pub plain-map : {A B : Type 0} (f : A → B) (x : Got A) → Belongs portion x → Belongs portion (next x (λ a n. got (f a) n))
+unfolding Belongs next
+plain-map f (got a n) e = e
+plain-map f (bad (fault k q o i t)) e = e
 
 module _ (d : Bool) (p : ℕ) (part : List ℕ) where
   plain-end : (e : EndRead) (t : TagRead) → Belongs portion (byFront nothing d p part e t)

@@ -2,10 +2,17 @@
 -- Assumes nothing: these are definitions.
 use Prim.Native.Nat.{ℕ}
 use mathlib.Core.{Path._≡_, Bool.Bool, Bool.true, Bool.false, Bool.cond, List.List, Option.Option, Option.none, Option.some}
-use lib.{ListN.length, Dec.eqb}
-use Rattle.element.specs.{Fault.Text, Ask.Got, Ask.Body, Parts.Item, Parts.lastBody, Parts.mapItem, Parts.orItem}
-use Rattle.tcap.specs.{Meaning.Ending, Meaning.cause, Meaning.says, Meaning.Component, Meaning.Dialogue, Meaning.Message, WellFormed.the93, Productions.octetItem, Productions.levelAt, Productions.componentsItem, Productions.dialogueItem, Productions.uniBody, Productions.beginBody, Productions.endBody, Productions.continueBody, Productions.abortBody}
-use Rattle.read_place.specs.{Places.Placed, Places.standsOf, Leaves.Leaves, Laying.layComponents, Laying.layDialogue, Laying.layPortion, Laying.layEnding, Blames.Blames}
+use lib.{ListN.length, ListN.set, Dec.eqb}
+use Rattle.element.specs.{Fault.Text, Ask.Got, Ask.Body, Parts.Item, Parts.lastBody, Parts.leafItem, Parts.mapItem, Parts.orItem}
+use Rattle.tcap.specs.{Meaning.Ending, Meaning.cause, Meaning.says, Meaning.Component, Meaning.Dialogue, Meaning.Message, WellFormed.the93, WellFormed.idOk, Productions.octetItem, Productions.levelAt, Productions.componentsItem, Productions.dialogueItem, Productions.uniBody, Productions.beginBody, Productions.endBody, Productions.continueBody, Productions.abortBody}
+use Rattle.read_place.specs.{Places.Placed, Places.standsOf, Leaves.Leaves, Laying.laySpan, Laying.layComponents, Laying.layDialogue, Laying.layPortion, Laying.layEnding, Blames.Blames}
+
+-- an ID by its tag, and what it is laid out as: the octet that says that it stands, its place and its length
+abbrev pub idItem : ℕ → Item Text
+idItem tag = leafItem tag idOk
+
+abbrev pub layIdAt : ℕ → ℕ → Text → List ℕ → List ℕ
+layIdAt flag o t l = laySpan o t (set l flag 1)
 
 -- 6C or nothing, to the end of the contents
 abbrev pub componentsBody : Body (Option (List (Component Text)))

@@ -1,17 +1,17 @@
 // Messages: an answer is the place behind what was read, or the first fault. What is read is laid out in the octets lent, or whom the fault belongs to is told there.
 ghost use mathlib.Core.Path.{_≡_};
-ghost use Prim.Native.Nat.{_≤_};
+ghost use Prim.Native.Nat.{_+_, _/_, _%_, _<_, _≤_};
 ghost use lib.ListN.{length, set};
 ghost use Rattle.element.specs.Parts.{lastBody};
-ghost use Rattle.read_place.specs.Places.{Reads, Finishes, Ready};
+ghost use Rattle.read_place.specs.Places.{Leads, Reads, Finishes, Ready};
 ghost use Rattle.read_place.specs.Leaves.{Left, Leaves, LeavesAll};
-ghost use Rattle.read_place.specs.Laying.{layOrig, layDest, layComponents, layEnding, layMessage, layAccepted};
+ghost use Rattle.read_place.specs.Laying.{layComponents, layEnding, layMessage, layAccepted};
 ghost use Rattle.read_place.specs.Blames.{Blames};
 ghost use Rattle.read_dialogue.specs.Dialogues.{Passes};
 ghost use Rattle.tcap.specs.WellFormed.{the93};
 ghost use Rattle.tcap.specs.Reading.{readFirst, locatedUpTo};
-ghost use Rattle.tcap.specs.Productions.{levelAt, origItem, destItem, componentsItem, dialogueItem, tailBody, uniBody, beginBody, endBody, continueBody, abortBody, messageItem};
-ghost use Rattle.read_message.specs.Messages.{componentsBody, endingItem, bodyOf, Answers, layListed, layTail, layLast, LaysPast};
+ghost use Rattle.tcap.specs.Productions.{levelAt, componentsItem, dialogueItem, tailBody, uniBody, beginBody, endBody, continueBody, abortBody, messageItem};
+ghost use Rattle.read_message.specs.Messages.{idItem, layIdAt, componentsBody, endingItem, bodyOf, Answers, layListed, layTail, layLast, LaysPast};
 use read_component::rows_at;
 use read_dialogue::dialogue_at;
 use read_field::small_at;
@@ -41,33 +41,18 @@ fn portion_fault(out: &mut [u8], r: usize) -> usize
     r
 }
 
-// The originating ID.
-fn orig_at(m: &[u8], at: usize, stop: usize, out: &mut [u8]) -> usize
-    requires { ⌜ Ready (now m) at stop × (length (now out) ≡ 428) ⌝ }
-    ensures { λ r. ⌜ Reads origItem (now (m .entry)) at stop r ⌝ }
-    ensures { λ _. ⌜ Leaves layOrig Blames origItem (now (m .entry)) at stop (now (out .entry)) (now (out .exit)) ⌝ }
+// A transaction ID by its tag; `flag` is the octet that says that it stands, `o` where its place and length are laid out.
+fn id_at(m: &[u8], at: usize, stop: usize, tag: u8, flag: usize, o: usize, out: &mut [u8]) -> usize
+    requires { ⌜ Ready (now m) at stop × Leads tag × (tag / 32 % 2 ≡ 0) × (flag < 428) × (o + 8 ≤ 428) × (length (now out) ≡ 428) ⌝ }
+    ensures { λ r. ⌜ Reads (idItem tag) (now (m .entry)) at stop r ⌝ }
+    ensures { λ _. ⌜ Leaves (layIdAt flag o) Blames (idItem tag) (now (m .entry)) at stop (now (out .entry)) (now (out .exit)) ⌝ }
 {
-    let r = transaction_id_at(m, at, stop, 0x48);
+    let r = transaction_id_at(m, at, stop, tag);
     if r >= FAULT {
         return portion_fault(out, r);
     }
-    out[1] = 1;
-    put_text(out, 8, at + 2, r - at - 2);
-    r
-}
-
-// The destination ID.
-fn dest_at(m: &[u8], at: usize, stop: usize, out: &mut [u8]) -> usize
-    requires { ⌜ Ready (now m) at stop × (length (now out) ≡ 428) ⌝ }
-    ensures { λ r. ⌜ Reads destItem (now (m .entry)) at stop r ⌝ }
-    ensures { λ _. ⌜ Leaves layDest Blames destItem (now (m .entry)) at stop (now (out .entry)) (now (out .exit)) ⌝ }
-{
-    let r = transaction_id_at(m, at, stop, 0x49);
-    if r >= FAULT {
-        return portion_fault(out, r);
-    }
-    out[2] = 1;
-    put_text(out, 16, at + 2, r - at - 2);
+    out[flag] = 1;
+    put_text(out, o, at + 2, r - at - 2);
     r
 }
 
@@ -156,7 +141,7 @@ fn begin_at(m: &[u8], at: usize, stop: usize, out: &mut [u8]) -> usize
     ensures { λ r. ⌜ Finishes (beginBody the93) (now (m .entry)) at stop r ⌝ }
     ensures { λ _. ⌜ LeavesAll layMessage Blames (beginBody the93) (now (m .entry)) at stop (now (out .entry)) (now (out .exit)) ⌝ }
 {
-    let r = orig_at(m, at, stop, out);
+    let r = id_at(m, at, stop, 0x48, 1, 8, out);
     if r >= FAULT {
         return r;
     }
@@ -169,7 +154,7 @@ fn end_at(m: &[u8], at: usize, stop: usize, out: &mut [u8]) -> usize
     ensures { λ r. ⌜ Finishes (endBody the93) (now (m .entry)) at stop r ⌝ }
     ensures { λ _. ⌜ LeavesAll layMessage Blames (endBody the93) (now (m .entry)) at stop (now (out .entry)) (now (out .exit)) ⌝ }
 {
-    let r = dest_at(m, at, stop, out);
+    let r = id_at(m, at, stop, 0x49, 2, 16, out);
     if r >= FAULT {
         return r;
     }
@@ -182,11 +167,11 @@ fn continue_at(m: &[u8], at: usize, stop: usize, out: &mut [u8]) -> usize
     ensures { λ r. ⌜ Finishes (continueBody the93) (now (m .entry)) at stop r ⌝ }
     ensures { λ _. ⌜ LeavesAll layMessage Blames (continueBody the93) (now (m .entry)) at stop (now (out .entry)) (now (out .exit)) ⌝ }
 {
-    let r = orig_at(m, at, stop, out);
+    let r = id_at(m, at, stop, 0x48, 1, 8, out);
     if r >= FAULT {
         return r;
     }
-    let s = dest_at(m, r, stop, out);
+    let s = id_at(m, r, stop, 0x49, 2, 16, out);
     if s >= FAULT {
         return s;
     }
@@ -237,7 +222,7 @@ fn abort_at(m: &[u8], at: usize, stop: usize, out: &mut [u8]) -> usize
     ensures { λ r. ⌜ Finishes (abortBody the93) (now (m .entry)) at stop r ⌝ }
     ensures { λ _. ⌜ LeavesAll layMessage Blames (abortBody the93) (now (m .entry)) at stop (now (out .entry)) (now (out .exit)) ⌝ }
 {
-    let r = dest_at(m, at, stop, out);
+    let r = id_at(m, at, stop, 0x49, 2, 16, out);
     if r >= FAULT {
         return r;
     }

@@ -9,19 +9,19 @@ use Rattle.read_message.proofs.continue_at.Statement.{statement}
 use Rattle.read_message.proofs.continue_at.Tie as tie
 
 returns : tie.Need-returns
-returns c = (continue-orig _ _ _ _ (c .before .before .before .orig-at .ensures .0) (c .if1 .taken), continue-left-orig _ _ _ _ (c .before .before .before .orig-at .ensures .0) _ _ (c .before .before .before .orig-at .ensures .1) (c .if1 .taken))
+returns c = (continue-orig _ _ _ _ (c .before .before .before .id-at .ensures .0) (c .if1 .taken), continue-left-orig _ _ _ _ (c .before .before .before .id-at .ensures .0) _ _ (c .before .before .before .id-at .ensures .1) (c .if1 .taken))
 
-dest-at-requires : tie.Need-dest-at-requires
-dest-at-requires c κs = omega (arith, reads-within _ (now (c .before .before .before .before .before .before .before .before .args .m)) _ _ _ (c .before .before .before .before .orig-at .ensures .0) (c .before .if1 .left))
+id-at-requires-2 : tie.Need-id-at-requires-2
+id-at-requires-2 c κs = omega (arith, reads-within _ (now (c .before .before .before .before .before .before .before .before .args .m)) _ _ _ (c .before .before .before .before .id-at .ensures .0) (c .before .if1 .left))
 
 returns-2 : tie.Need-returns-2
-returns-2 c = (continue-dest _ _ _ _ (c .before .before .before .before .before .before .before .before .orig-at .ensures .0) (c .before .before .before .before .before .if1 .left) _ (c .before .before .before .dest-at .ensures .0) (c .if2 .taken), continue-left-dest _ _ _ _ (c .before .before .before .before .before .before .before .before .orig-at .ensures .0) _ _ (c .before .before .before .before .before .before .before .before .orig-at .ensures .1) (c .before .before .before .before .before .if1 .left) _ (c .before .before .before .dest-at .ensures .0) _ (c .before .before .before .dest-at .ensures .1) (c .if2 .taken))
+returns-2 c = (continue-dest _ _ _ _ (c .before .before .before .before .before .before .before .before .id-at .ensures .0) (c .before .before .before .before .before .if1 .left) _ (c .before .before .before .id-at2 .ensures .0) (c .if2 .taken), continue-left-dest _ _ _ _ (c .before .before .before .before .before .before .before .before .id-at .ensures .0) _ _ (c .before .before .before .before .before .before .before .before .id-at .ensures .1) (c .before .before .before .before .before .if1 .left) _ (c .before .before .before .id-at2 .ensures .0) _ (c .before .before .before .id-at2 .ensures .1) (c .if2 .taken))
 
 tail-at-requires : tie.Need-tail-at-requires
-tail-at-requires c κs = omega (arith, reads-within _ (now (c .before .before .before .before .before .before .before .before .before .before .before .before .before .args .m)) _ _ _ (c .before .before .before .before .dest-at .ensures .0) (c .before .if2 .left))
+tail-at-requires c κs = omega (arith, reads-within _ (now (c .before .before .before .before .before .before .before .before .before .before .before .before .before .args .m)) _ _ _ (c .before .before .before .before .id-at2 .ensures .0) (c .before .if2 .left))
 
 returns-3 : tie.Need-returns-3
-returns-3 c = (continue-near _ _ _ _ (c .before .before .before .before .before .before .before .before .before .before .before .before .orig-at .ensures .0) (c .before .before .before .before .before .before .before .before .before .if1 .left) _ (c .before .before .before .before .before .before .before .dest-at .ensures .0) (c .before .before .before .before .if2 .left) _ (c .before .before .tail-at .ensures .0), continue-left _ _ _ _ (c .before .before .before .before .before .before .before .before .before .before .before .before .orig-at .ensures .0) _ _ (c .before .before .before .before .before .before .before .before .before .before .before .before .orig-at .ensures .1) (c .before .before .before .before .before .before .before .before .before .if1 .left) _ (c .before .before .before .before .before .before .before .dest-at .ensures .0) _ (c .before .before .before .before .before .before .before .dest-at .ensures .1) (c .before .before .before .before .if2 .left) _ (c .before .before .tail-at .ensures .1))
+returns-3 c = (continue-near _ _ _ _ (c .before .before .before .before .before .before .before .before .before .before .before .before .id-at .ensures .0) (c .before .before .before .before .before .before .before .before .before .if1 .left) _ (c .before .before .before .before .before .before .before .id-at2 .ensures .0) (c .before .before .before .before .if2 .left) _ (c .before .before .tail-at .ensures .0), continue-left _ _ _ _ (c .before .before .before .before .before .before .before .before .before .before .before .before .id-at .ensures .0) _ _ (c .before .before .before .before .before .before .before .before .before .before .before .before .id-at .ensures .1) (c .before .before .before .before .before .before .before .before .before .if1 .left) _ (c .before .before .before .before .before .before .before .id-at2 .ensures .0) _ (c .before .before .before .before .before .before .before .id-at2 .ensures .1) (c .before .before .before .before .if2 .left) _ (c .before .before .tail-at .ensures .1))
 
 pub continue-at-spec : {M : Type 1} → statement M
 continue-at-spec =
@@ -30,7 +30,7 @@ continue-at-spec =
     (λ c κs. search needs)
     (λ c. search needs)
     returns
-    dest-at-requires
+    id-at-requires-2
     (λ c. search needs)
     returns-2
     tail-at-requires
