@@ -4,10 +4,10 @@ use Rattle.readings.proofs.list_all.Statement.{statement}
 use Rattle.readings.proofs.list_all.Tie as tie
 
 abbrev Inv-loop : tie.InvT-loop
-Inv-loop fd more left₀ left = Unit {0}
+Inv-loop fd reads writes left₀ left = Unit {0}
 
 abbrev μ-loop : tie.MeasureT-loop
-μ-loop fd more left₀ left = left
+μ-loop fd reads writes left₀ left = left
 
 pub list-all-spec : {M : Type 1} → statement M
 list-all-spec =
