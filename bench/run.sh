@@ -2,9 +2,9 @@
 # What calls of the library cost: run.sh ARCHIVE READINGS
 #
 # Instructions of a call beside plain C, by the size of the message (count_calls.sh);
-# those of read::read (count_read.sh, with the program READINGS); the costliest
-# messages to read that a search finds (worst.py); the deepest stack of each call
-# (tests/c/stack.c). SEED (1) and GENERATIONS (60) of the search may be set, and
+# those of read::read and writer::write (count_records.sh, with the program READINGS);
+# the costliest messages to read that a search finds (worst.py); the deepest stack of
+# each call (tests/c/stack.c). SEED (1) and GENERATIONS (60) of the search may be set, and
 # what count_calls.sh takes.
 set -eu
 if [ $# -ne 2 ]; then
@@ -30,8 +30,8 @@ echo "Instructions of a call, on the readable messages of the vectors:"
 sh "$here/count_calls.sh" "$archive" "$tmp/vectors"
 
 echo
-echo "Instructions of read::read, as one record, on the same messages:"
-sh "$here/count_read.sh" "$readings" "$root/tests/vectors/read.txt"
+echo "Instructions of read::read and writer::write, with one record, on the readable messages of the vectors:"
+sh "$here/count_records.sh" "$readings" "$root/tests/vectors/read.txt"
 
 echo
 echo "Instructions of an event on a table of open transactions:"

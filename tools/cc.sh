@@ -66,12 +66,16 @@ cxx_command() {
     fi
 }
 
+# for a program that is not static
+libraries() {
+    [ $native = yes ] || echo -L /usr/x86_64-linux-gnu
+}
+
 run_command() {
     if [ -n "${RUN64:-}" ]; then
         echo "$RUN64"
     elif [ $native = no ]; then
-        # -L: for a program that is not static
-        echo qemu-x86_64 -L /usr/x86_64-linux-gnu
+        echo qemu-x86_64 $(libraries)
     fi
 }
 
@@ -126,7 +130,7 @@ run)
 count)
     plugin=$1
     shift
-    exec qemu-x86_64 -plugin "$plugin" "$@"
+    exec qemu-x86_64 $(libraries) -plugin "$plugin" "$@"
     ;;
 missing)
     if [ $native = yes ]; then

@@ -16,6 +16,7 @@ use Rattle.element.proofs.Asking.{Then, fact, then-next}
 use Rattle.tcap.specs.Meaning.{cause, says}
 use Rattle.tcap.specs.WellFormed.{the93, idOk}
 use Rattle.tcap.specs.Productions.{single?, octetItem, dialogueItem}
+use Rattle.element.proofs.Views.{span-length, span-get}
 use Rattle.read_place.specs.Places.{Far, Near, until, finite, part, front, Reads, Finishes, Leads, standsOf}
 use Rattle.read_place.specs.Leaves.{Left, Leaves}
 use Rattle.read_place.specs.Laying.{layText, layDialogue, layEnding}
