@@ -11,7 +11,7 @@ use base::wide;
 
 // The place behind the tag of more than one octet that begins here.
 fn long_tag(m: &[u8], at: usize, end: usize) -> usize
-    requires { ⌜ Within (now m) at end × (at < end) ⌝ }
+    requires { ⌜ Within (now m) at end ⌝ }
     ensures { λ r. ⌜ r ≡ longEnd at (end - at) (getD (now (m .entry)) (at + 1) 0) (getD (now (m .entry)) (at + 2) 0) (getD (now (m .entry)) (at + 3) 0) ⌝ }
 {
     let left = end - at;
