@@ -23,7 +23,7 @@ use Rattle.primitive.specs.Primitive.{identifierOk}
 use Rattle.tcap.specs.Meaning.{Dialogue, single, octets}
 use Rattle.tcap.specs.WellFormed.{the93}
 use Rattle.tcap.specs.Productions.{nameItem, heldItem, externalBody, inside6B, dialogueItem}
-use Rattle.element.proofs.Views.{span-length, span-drop, span-cut}
+use Rattle.element.proofs.Views.{span-length, span-drop, span-cut, SizeIs}
 use Rattle.read_place.specs.Places.{Far, Near, until, finite, part, front, nothing, Reads, Finishes, endedOf, unfinishedOf, standsOf, entryPlace, lengthPlace, Ready, Walked, cutOff, missing, badContents}
 use Rattle.read_place.specs.Laying.{layText, laySpan, layName, layDialogue}
 use Rattle.read_place.specs.Leaves.{Left, Leaves, LeavesAll, untold}
@@ -31,7 +31,7 @@ use Rattle.read_place.proofs.Answers.{far}
 use Rattle.read_place.proofs.Onto.{ask-bind, ask-only}
 use Rattle.read_place.proofs.Bodies.{placed-where}
 use Rattle.read_place.proofs.Walks.{walked-near}
-use Rattle.read_place.proofs.Items.{SizeIs, Entered, entered, stands-here, stands-only}
+use Rattle.read_place.proofs.Items.{Entered, entered, stands-here, stands-only}
 use Rattle.read_place.proofs.Optional.{here-placed, sole-missing, sole-cut, sole-walk-far, sole-walk, entry-inside, entry-from, entry-to, reads-within}
 use Rattle.read_place.proofs.Leaves.{leaves-far, leaves-all-far, left-blamed, left-next, left-where, only-left, map-left, around-left}
 use Rattle.read_place.proofs.Values.{value-walk}

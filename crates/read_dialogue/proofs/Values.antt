@@ -25,11 +25,11 @@ use Rattle.tcap.specs.Meaning.{single, octets}
 use Rattle.tcap.specs.WellFormed.{the93}
 use Rattle.tcap.specs.Productions.{single?, octetItem, nameItem, contextItem, infoBody, heldItem}
 use Rattle.element.specs.Answers.{lengthSize}
-use Rattle.element.proofs.Views.{span-length, span-drop, span-get, span-take, span-cut}
+use Rattle.element.proofs.Views.{span-length, span-drop, span-get, span-take, span-cut, SizeIs}
 use Rattle.read_place.specs.Places.{Near, until, finite, part, Placed, Closing, Shut, Reads, Finishes, Leads, endedOf, entryPlace, lengthPlace, opening}
 use Rattle.read_place.proofs.Answers.{Keeps, far, placed-near}
 use Rattle.read_place.proofs.Fronts.{ended-is, not-ended}
-use Rattle.read_place.proofs.Items.{SizeIs, Entered, entered, ask-entered, front-octet}
+use Rattle.read_place.proofs.Items.{Entered, entered, ask-entered, front-octet}
 use Rattle.read_place.proofs.Values.{placed-got, value-leaf}
 use Rattle.read_field.proofs.Fields.{name-sized, single-sized}
 use Rattle.read_dialogue.specs.Dialogues.{externalsBody, textAt, contentsEnd}

@@ -4,13 +4,14 @@ ghost use Prim.Native.Nat.{_≤_};
 ghost use lib.ListN.{length};
 ghost use Rattle.base.specs.Number.{numberFrom};
 ghost use Rattle.primitive.specs.Primitive.{signedOf};
-ghost use Rattle.steering.specs.Steering.{firstFit};
+ghost use Rattle.steering.specs.Steering.{ruleFits, firstFit};
 ghost use Rattle.steering.specs.Layout.{ruleSize, kindIn, codeIn, ruleOf, rulesIn};
 use crate::Choice;
 use crate::FirstCode;
 use crate::Rule;
 use crate::RuleCode;
-use crate::rule_fits;
+use crate::code_fits;
+use crate::kind_fits;
 use base::after;
 use base::piece;
 use base::wide;
@@ -80,6 +81,18 @@ pub fn rule_of(octets: &[u8]) -> Rule
     }
 }
 
+// Whether the rule that octets begin with fits: its code is looked at only where its kind fits.
+fn fits_in(octets: &[u8], tag: u8, first: FirstCode) -> bool
+    requires { ⌜ ruleSize ≤ length (now octets) ⌝ }
+    ensures { λ r. ⌜ r ≡ ruleFits (ruleOf (now (octets .entry))) tag first ⌝ }
+{
+    let flag = octets[1];
+    if kind_fits(kind_in(octets[0], flag), tag) {
+        return code_fits(code_in(flag, piece(octets, 4, 4)), first);
+    }
+    false
+}
+
 // What `first_fit` answers, over rules as octets.
 pub fn first_in(octets: &[u8], tag: u8, first: FirstCode) -> Choice
     ensures { λ r. ⌜ r ≡ firstFit (rulesIn (now (octets .entry))) tag first ⌝ }
@@ -87,9 +100,9 @@ pub fn first_in(octets: &[u8], tag: u8, first: FirstCode) -> Choice
     let mut left = octets.len() / RULE_SIZE;
     let mut at = 0;
     while left > 0 {
-        let rule = rule_of(after(octets, at));
-        if rule_fits(rule, tag, first) {
-            return Choice::Link(rule.link);
+        let rule = after(octets, at);
+        if fits_in(rule, tag, first) {
+            return Choice::Link(number_in(piece(rule, 8, 4)));
         }
         left -= 1;
         at += RULE_SIZE;
