@@ -31,7 +31,7 @@ pub record BodyLocal {A : Type 0} (b : Body A) : Type 0 where
   pub goes : (d : Bool) (h : Head) (p : ℕ) (part : List ℕ) → HeadOf part h → b .full ≡ false → ltb 0 (b .left) ≡ true → b .mine (firstOf h) ≡ true → Local (Level part) (pair d) (sizeOf h) (b .goes d h p) p part (b .goes d h p part)
 
 asked-local : {A : Type 0} {b : Body A} → BodyLocal b → (d : Bool) (p : ℕ) (part : List ℕ) → Local (Level part) (pair d) 0 (ask b d p) p part (ask b d p part)
-asked-local {b = b} s d p part = ask-local b d p part (s .spares) (λ a n h o. s .other) (λ h i f v o. s .goes d h p part i f v o)
+asked-local {b = b} s d p part = ask-local b d p part (pair d) (λ v e. refl) (s .spares) (λ a n h o. s .other) (λ h i f v o. s .goes d h p part i f v o)
 
 -- Primitives and constructors
 
@@ -50,7 +50,7 @@ leaf-contents-local fits (head a u indefinite) p part i c = absurd (false≢true
 pub leaf-local : (l t : ℕ) (fits : List ℕ → Bool) → constructorOf t ≡ false → ItemLocal l (leafItem t fits)
 leaf-local l t fits c = record { contents = λ h p part i v o. leaf-contents-local fits h p part i (rw (eqb-true (firstOf h) t o) c) }
 
-take-inner : (j q n : ℕ) (s : List ℕ) → j + q ≤ n → take q (drop j (take n s)) ≡ take q (drop j s)
+pub take-inner : (j q n : ℕ) (s : List ℕ) → j + q ≤ n → take q (drop j (take n s)) ≡ take q (drop j s)
 take-inner j q n s h = take-behind j q (take n s) ∙ ap (drop j) (take-take (j + q) n s h) ∙ sym (take-behind j q s)
 
 module _ {A : Type 0} (b : ℕ → Body A) (s : (n : ℕ) → BodyLocal (b n)) (p : ℕ) (part : List ℕ) where

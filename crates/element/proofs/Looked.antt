@@ -55,10 +55,13 @@ pub data Looked : FaultKind → List ℕ → Type 0 where
   inLength : {k : FaultKind} {w : List ℕ} (a s : ℕ) → tagOf w ≡ tag a s → lengthOf (drop s w) (constructorOf a) ≡ lengthFault k → length (drop s w) ≤ lengthSize (getD (drop s w) 0 0) → Looked k w
   -- 11: the whole element
   inContents : {w : List ℕ} (a u n : ℕ) → HeadOf w (head a u (definite n)) → u + n ≡ length w → Looked BadContents w
-  -- 7, 8, 9: the number of octets, the first octet, the end of the message
+  -- 7, 9: the number of octets, the end of the message
   tooLong : Looked Overlong []
-  noTag : {a : ℕ} → Looked NoMessage (a ∷ [])
   behind : Looked OctetsAfter []
+  -- 8: the first octet; of a constructor also the octets up to the end of its ID, 48 j octets on, or those that show that there is none
+  noTag : {a : ℕ} → Looked NoMessage (a ∷ [])
+  upToId : {w : List ℕ} (j u n : ℕ) → HeadOf (drop j w) (head 0x48 u (definite n)) → j + (u + n) ≡ length w → Looked NoMessage w
+  noId : {k : FaultKind} {w : List ℕ} (j : ℕ) → Looked k (drop j w) → Looked NoMessage w
 
 -- a fault's kind and place
 unfoldable pub kindOf : Fault → FaultKind
@@ -197,13 +200,15 @@ not-false : (b : Bool) → not b ≡ false → b ≡ true
 not-false true e = refl
 not-false false e = absurd (false≢true (sym e))
 
-module _ {A : Type 0} (b : Body A) (d : Bool) (p : ℕ) (part : List ℕ)
+-- e: how many octets of an end are looked at behind a value; the end pair of the contents, where they may end here
+module _ {A : Type 0} (b : Body A) (d : Bool) (p : ℕ) (part : List ℕ) (e : ℕ)
+    (whole : (v : A) → b .ends ≡ some v → e ≡ pair d)
     (spares : b .full ≡ false → Spares (b .owner))
     (other : (a s : ℕ) → tagOf part ≡ tag a s → b .mine a ≡ false → OfTag (b .other))
-    (goes : (h : Head) → HeadOf part h → b .full ≡ false → ltb 0 (b .left) ≡ true → b .mine (firstOf h) ≡ true → Local (Level part) (pair d) (sizeOf h) (b .goes d h p) p part (b .goes d h p part)) where
+    (goes : (h : Head) → HeadOf part h → b .full ≡ false → ltb 0 (b .left) ≡ true → b .mine (firstOf h) ≡ true → Local (Level part) e (sizeOf h) (b .goes d h p) p part (b .goes d h p part)) where
   -- one octet is looked at unless the contents end
   abbrev Asks : ℕ → Got A → Type 0
-  Asks base x = Local (Level part) (pair d) base (ask b d p) p part x
+  Asks base x = Local (Level part) e base (ask b d p) p part x
 
   -- a fault of kind k at p, whose clause looks at q octets
   here : (base : ℕ) (f : Fault) (k : FaultKind) (q : ℕ) → kindOf f ≡ k → placeOf f ≡ p → Looked k (take q part) → base ≤ q → q ≤ length part → ((t : List ℕ) → Level part t → Alike q part t → ask b d p t ≡ bad f) → Asks base (bad f)
@@ -213,9 +218,9 @@ module _ {A : Type 0} (b : Body A) (d : Bool) (p : ℕ) (part : List ℕ)
   unfolding kindOf placeOf
   owned k q f lk c l h = here 1 (b .owner (at k p)) k q (spares f (at k p) .0) (spares f (at k p) .1) lk c l h
 
-  from-goes : (h : Head) → HeadOf part h → b .full ≡ false → ltb 0 (b .left) ≡ true → b .mine (firstOf h) ≡ true → {x : Got A} → Local (Level part) (pair d) (sizeOf h) (b .goes d h p) p part x → Asks 1 x
+  from-goes : (h : Head) → HeadOf part h → b .full ≡ false → ltb 0 (b .left) ≡ true → b .mine (firstOf h) ≡ true → {x : Got A} → Local (Level part) e (sizeOf h) (b .goes d h p) p part x → Asks 1 x
   from-goes h i f v o (sure {a = a} {n = n} c l g) =
-      sure {a = a} {n = n} (omega (arith, head-some part h i)) l (λ t r e. ask-head b d p t h (head-alike part t h i (alike-less (sizeOf h) (n + pair d) part t (omega arith) e) (level-reaches part t h i r)) f v o ∙ g t r e)
+      sure {a = a} {n = n} (omega (arith, head-some part h i)) l (λ t r w. ask-head b d p t h (head-alike part t h i (alike-less (sizeOf h) (n + e) part t (omega arith) w) (level-reaches part t h i r)) f v o ∙ g t r w)
   from-goes h i f v o (wrong {f = w} j q pl lk c l g) =
       wrong {f = w} j q pl lk (omega (arith, head-some part h i)) l (λ t r e. ask-head b d p t h (head-alike part t h i (alike-less (sizeOf h) (j + q) part t c e) (level-reaches part t h i r)) f v o ∙ g t r e)
 
@@ -257,7 +262,7 @@ module _ {A : Type 0} (b : Body A) (d : Bool) (p : ℕ) (part : List ℕ)
   at-end-of : (o : Option A) → b .ends ≡ o → endOf d part ≡ ended → Asks 0 (atEnd b d p part o)
   unfolding atEnd kindOf placeOf
   at-end-of none f m = let (l, w) = pair-there d part m in here 0 (at Missing p) Missing (pair d) refl refl (ends w) (omega arith) l (λ t r i. ask-missing b d p t (end-alike d part t r i m) f)
-  at-end-of (some v) f m = let (l, w) = pair-there d part m in sure {a = v} {n = 0} (omega arith) (omega arith) (λ t r i. ask-ends b d p t v (end-alike d part t r (alike-less (pair d) (0 + pair d) part t (omega arith) i) m) f)
+  at-end-of (some v) f m = let (l, w) = pair-there d part m in sure {a = v} {n = 0} (omega arith) (omega (arith, whole v f)) (λ t r i. ask-ends b d p t v (end-alike d part t r (alike-less (pair d) (0 + e) part t (omega (arith, whole v f)) i) m) f)
 
   at-end : (r : EndRead) → endOf d part ≡ r → Asks 0 (askEnd b d p part r)
   unfolding askEnd kindOf placeOf

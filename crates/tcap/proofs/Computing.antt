@@ -23,10 +23,10 @@ use Rattle.tcap.specs.Meaning.{componentForm, componentsForm, dialogueFo
 use Rattle.tcap.specs.WellFormed.{Rules, idOk, the93}
 use Rattle.tcap.specs.Productions.{single?}
 use Rattle.tcap.specs.Record.{recordOf, rowsMean, meaningOf}
-use Rattle.tcap.specs.Reading.{readFirst, locatedUpTo, groundOf, byOwner, answerFor, refusalOf, answered, readingUpTo, reading}
+use Rattle.tcap.specs.Reading.{foremost, textOf, unknownOrig, readFirst, locatedUpTo, groundOf, byOwner, answerFor, refusalOf, answered, readingUpTo, reading}
 
 unfoldable pub outcomeUpTo : Rules → List ℕ → Reading
-unfolding numberFrom octetsIn topOf signedAt bitsAt holds same fewestOf constructorOf extendedOf codeZero widthFrom integerOctets signedOf integerOk numbers identifierOk numberOf inDialogue inComponent withInvokeId withOrigId endOf third second first tagOf within longOf lengthOf next check blamed askLength askTag atEnd askEnd ask leafContents inside onward optPick seriesBody walkPick walkContents idOk single? recordOf readFirst locatedUpTo groundOf byOwner answerFor refusalOf answered readingUpTo
+unfolding numberFrom octetsIn topOf signedAt bitsAt holds same fewestOf constructorOf extendedOf codeZero widthFrom integerOctets signedOf integerOk numbers identifierOk numberOf inDialogue inComponent withInvokeId withOrigId endOf third second first tagOf within longOf lengthOf next check blamed askLength askTag atEnd askEnd ask leafContents inside onward optPick seriesBody walkPick walkContents idOk single? recordOf foremost textOf unknownOrig readFirst locatedUpTo groundOf byOwner answerFor refusalOf answered readingUpTo
 outcomeUpTo rules m = readingUpTo rules m
 
 unfoldable pub outcomeOf : List ℕ → Reading

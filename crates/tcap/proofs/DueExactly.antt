@@ -101,7 +101,7 @@ strange-from : {rules : Rules} {m : List ℕ} {p : ℕ} {k : FaultKind} {w : Own
 unfolding rank
 strange-from other h is (overlong b) = absurd (omega arith)
 strange-from other h is (noOctets e) = absurd (omega arith)
-strange-from other h is (noMessage b e z) = absurd (omega arith)
+strange-from other h is (noMessage b e z u) = absurd (omega arith)
 strange-from other h is (within b e z (after x y u n o)) = absurd (omega arith)
 strange-from other h is (within b e z (found way (noPair x))) = absurd (omega arith)
 strange-from other h is (within b e z (found way (missing x y))) = absurd (omega arith)

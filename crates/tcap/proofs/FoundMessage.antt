@@ -30,6 +30,7 @@ use Rattle.tcap.proofs.Fronts.{ends-blame}
 use Rattle.tcap.proofs.Found.{tag-held, there-some, there-none, Like, BodyTells, Untold, BodyFinds, ItemFinds, Silent, ask-finds, leaf-finds, around-tells, map-finds, quietly, or-finds}
 use Rattle.tcap.proofs.Onward.{At, Rest, bind-tells, then-finds, only-finds, last-finds, opt-finds, map-body-tells, map-body-finds}
 use Rattle.tcap.proofs.FoundDialogue.{octet-z}
+use Rattle.tcap.proofs.UnknownType.{unknown-orig}
 use Rattle.tcap.proofs.FoundComponents.{components-find, dialogue-finds}
 
 module _ (rules : Rules) (m : List ℕ) where
@@ -193,7 +194,7 @@ unfolding readFirst
 first-finds rules [] big = failed (noOctets refl)
 first-finds rules (a ∷ r) big =
     let is : messageItem rules .mine a ≡ there (find message a) = message-finds rules (a ∷ r) .mine a in
-    ends-check (messageItem rules .mine a) _ (λ e. noMessage big refl (there-none (find message a) (sym is ∙ e))) λ e.
+    ends-check (messageItem rules .mine a) _ (λ e. noMessage big refl (there-none (find message a) (sym is ∙ e)) (unknown-orig rules (a ∷ r))) λ e.
     ends-weaken (ask-finds rules (a ∷ r) (alone-finds rules (a ∷ r) a r refl e) true 0 (a ∷ r) (omega arith) top) (λ v n w. record { short = big; size = n; fits = w .0 }) (λ f q. within big refl (there-some (find message a) (sym is ∙ e) .1) q)
 
 pub located-finds : (rules : Rules) (m : List ℕ) → Ends (λ v n. Allowed rules m) (Refuses rules m) (locatedUpTo rules m)

@@ -145,7 +145,7 @@ pub never-at-0 : {rules : Rules} {m : List ℕ} {p : ℕ} {k : FaultKind} {w : O
 unfolding rank
 never-at-0 e h (overlong b) = omega arith
 never-at-0 e h (noOctets f) = omega arith
-never-at-0 e h (noMessage b f z) = omega arith
+never-at-0 e h (noMessage b f z u) = omega arith
 never-at-0 e h (within b f z (after x y u n o)) = omega arith
 never-at-0 e h (within b f z (found way (noPair x))) = omega arith
 never-at-0 e h (within {a = a} {q = q} b f z (found {part = part} way (missing x y))) = let k = trail-zero way e in some-ends part a q (k .0 ∙ f) (rw (k .1) at x)

@@ -77,7 +77,7 @@ module _ (l : ℕ) where
   unfolding constructorOf
   ids-or-null = or-local (map-local some (integers 0x02 1 refl)) (map-local (λ v. none) (leaf-local l 0x05 (same []) refl))
 
-  origs : ItemLocal l origItem
+  pub origs : ItemLocal l origItem
   unfolding constructorOf
   origs = map-local orig (leaf-local l 0x48 idOk refl)
 

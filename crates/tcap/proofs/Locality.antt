@@ -5,31 +5,38 @@ use mathlib.Core.Path.{_≡_, refl, sym, ap, _∙_}
 use mathlib.Core.Logic.{inl}
 use mathlib.Core.Bool.{Bool, true, false, false≢true}
 use mathlib.Core.List.{List, [], _∷_}
+use mathlib.Core.Option.{Option, none}
 use native.Mathlib.Omega.{arith}
 use lib.ListN.{length, take, drop}
 use lib.Dec.{ltb, leb, eqb}
 use borrow.Author.Tests.{le-leb, leb-true, leb-false}
 use Rattle.element.specs.declared.{FaultKind.FaultKind}
 use Rattle.element.specs.declared.TagRead.the-variants.{Tag as tag}
-use Rattle.element.specs.Fault.{numberOf, Text, Fault, fault, at}
+use Rattle.element.specs.Fault.{numberOf, Text, portion, Fault, fault, at}
 use Rattle.element.specs.Head.{tagOf, endOf}
 use Rattle.element.specs.Ask.{Got, got, bad, next, check, blamed, definite, Head, head, ask}
 use Rattle.element.specs.Parts.{Item, firstOf}
-use Rattle.element.proofs.Asking.{HeadOf, finite, unended, ask-head}
+use Rattle.element.proofs.Asking.{Then, the-fact, HeadOf, finite, unended, ask-head}
 use Rattle.element.proofs.Heads.{TagIs, tag-sound}
-use Rattle.element.proofs.Alike.{Alike, alike-less, alike-all, alike-cons, pair}
-use Rattle.element.proofs.Looked.{Looked, tooLong, noTag, noPair, behind, kindOf, placeOf, Local, sure, wrong, Level, Reaches, sizeOf, head-alike, head-some, level-reaches, ask-more-local}
+use Rattle.element.proofs.Alike.{Alike, alike-less, alike-all, take-behind, alike-cons, pair}
+use Rattle.element.proofs.Looked.{Looked, tooLong, noTag, noId, noPair, behind, kindOf, placeOf, Local, sure, wrong, Level, Reaches, sizeOf, local-level, head-alike, head-some, level-reaches, ask-more-local}
 use Rattle.tcap.specs.declared.{Refusal.Refusal, Outcome.Outcome}
-use Rattle.tcap.specs.Meaning.{Message}
+use Rattle.tcap.specs.Meaning.{Originating, orig, Message}
 use Rattle.tcap.specs.WellFormed.{Rules, mostOctets, the93}
 use Rattle.tcap.specs.Productions.{messageItem}
-use Rattle.tcap.specs.Reading.{learnt, aloneBody, readFirst, locatedUpTo, refusalOf, answered, readingUpTo, reading}
+use Rattle.tcap.specs.Reading.{learnt, aloneBody, unknownTag, unknownBody, textOf, unknownOrig, readFirst, locatedUpTo, refusalOf, answered, readingUpTo, reading}
+use Rattle.tcap.proofs.UnknownType.{Opened, unknown-sound, opens-asked}
 use Rattle.tcap.proofs.LocalParts.{plainly, spares-learnt, messages}
+use Rattle.tcap.proofs.UnknownLocal.{Sought, sought, sought-inside, id-window, unsought}
 
 bad-same : {f g : Fault} → _≡_ {A = Got (Message Text)} (bad f) (bad g) → f ≡ g
 bad-same e = cc
 
 module _ (rules : Rules) where
+  -- 8, with the ID that was found
+  abbrev noMessage : Option Text → Fault
+  noMessage t = fault FaultKind.NoMessage 0 portion none t
+
   -- The message is all there is
 
   abbrev item : Item (Message Text)
@@ -74,7 +81,7 @@ module _ (rules : Rules) where
   asked : (a : ℕ) (r : List ℕ) → item .mine a ≡ true → Local (Level (a ∷ r)) 0 1 (ask (aloneBody rules item) true 0) 0 (a ∷ r) (ask (aloneBody rules item) true 0 (a ∷ r))
   unfolding pair endOf
   asked a r o =
-      ask-more-local (aloneBody rules item) true 0 (a ∷ r) (λ _. plainly)
+      ask-more-local (aloneBody rules item) true 0 (a ∷ r) 0 (λ v e. refl) (λ _. plainly)
       (λ b s e f. absurd (false≢true (sym (rw (first-tag a r b s e) at f) ∙ o)))
       (λ h i f v w. alone (a ∷ r) h i (messages rules .contents h 0 (a ∷ r) i v w))
       refl refl
@@ -90,7 +97,7 @@ module _ (rules : Rules) where
   unfolding readFirst check
   first-read a t o = rw o
 
-  first-refused : (a : ℕ) (t : List ℕ) → item .mine a ≡ false → readFirst rules item (a ∷ t) ≡ bad (at FaultKind.NoMessage 0)
+  first-refused : (a : ℕ) (t : List ℕ) → item .mine a ≡ false → readFirst rules item (a ∷ t) ≡ bad (noMessage (unknownOrig rules (a ∷ t)))
   unfolding readFirst check
   first-refused a t o = rw o
 
@@ -106,15 +113,43 @@ module _ (rules : Rules) where
   cons-read : (x : Got (Message Text)) (a : ℕ) (r t : List ℕ) → Alike 1 (a ∷ r) t → length t ≤ mostOctets → ((v : List ℕ) → t ≡ a ∷ v → readFirst rules item (a ∷ v) ≡ x) → locatedUpTo rules t ≡ x
   cons-read x a r t e l h = let y : t ≡ a ∷ drop 1 t = alike-cons a r t e in short-read t l ∙ ap (readFirst rules item) y ∙ h (drop 1 t) y
 
-  not-mine : (R : List ℕ → Type 0) → ((t : List ℕ) → R t → length t ≤ mostOctets) → (a : ℕ) (r : List ℕ) → item .mine a ≡ false → Sees R (a ∷ r) (at FaultKind.NoMessage 0)
-  unfolding kindOf placeOf
-  not-mine R s a r o =
-      record {
-        looks = 1;
-        what = noTag;
-        there = omega arith;
-        alike = λ t l e. cons-read (bad (at FaultKind.NoMessage 0)) a r t (alike-less 1 (0 + 1) (a ∷ r) t (omega arith) e) (s t l) (λ v y. first-refused a v o);
-      }
+  -- 8: what is looked at in seeking its ID
+  module _ (R : List ℕ → Type 0) (short : (t : List ℕ) → R t → length t ≤ mostOctets) (a : ℕ) (r : List ℕ) (o : item .mine a ≡ false) where
+    abbrev m : List ℕ
+    m = a ∷ r
+
+    same-id : (t : Option Text) → unknownOrig rules m ≡ t → (q : ℕ) → 1 ≤ q → q ≤ length m → Looked FaultKind.NoMessage (take q m) → ((v : List ℕ) → R v → Alike q m v → unknownOrig rules v ≡ t) → Sees R m (noMessage (unknownOrig rules m))
+    unfolding kindOf placeOf
+    same-id t is q some there what same =
+        record {
+          looks = q;
+          what = what;
+          there = omega arith;
+          alike = λ v l e. let g : Alike q m v = alike-less q (0 + q) m v (omega arith) e in
+              cons-read (bad (noMessage (unknownOrig rules m))) a r v (alike-less 1 q m v some g) (short v l)
+              (λ w y. first-refused a w o ∙ ap (λ (x : Option Text). bad (noMessage x)) (ap (unknownOrig rules) (sym y) ∙ same v l g ∙ sym is));
+        }
+
+    the-window : (v : Originating Text) (n : ℕ) → ask (unknownBody rules) true 0 m ≡ got v n → Then (Opened rules m) (got v n) → Looked FaultKind.NoMessage (take n m)
+    the-window v n is h =
+        let (s, e, (x, k, w, g)) = the-fact h in
+        let y : got v n ≡ got (orig s) (x .0 + k) = sym is ∙ opens-asked rules m x k s w g in
+        let z : n ≡ x .0 + k = cc in
+        rw z (id-window rules m x w g)
+
+    sees-id : (x : Got (Originating Text)) → ask (unknownBody rules) true 0 m ≡ x → Local R 0 1 (ask (unknownBody rules) true 0) 0 m x → Then (Opened rules m) x → Sees R m (noMessage (unknownOrig rules m))
+    unfolding unknownOrig textOf
+    sees-id x is (sure {a = v} {n = n} c l f) h =
+        same-id (textOf (got v n)) (ap textOf is) n c (omega arith) (the-window v n is h) (λ t k e. ap textOf (f t k (alike-less (n + 0) n m t (omega arith) e)))
+    sees-id x is (wrong {f = w} j q pl lk c l f) h =
+        same-id none (ap textOf is) (j + q) c l (noId j (rw (take-behind j q m) at lk)) (λ t k e. ap textOf (f t k e))
+
+    pub not-mine : Sought rules m R → Sees R m (noMessage (unknownOrig rules m))
+    not-mine l = sees-id (ask (unknownBody rules) true 0 m) refl l (unknown-sound rules m)
+
+    pub not-sought : unknownTag a ≡ false → Sees R m (noMessage (unknownOrig rules m))
+    not-sought u =
+        same-id none (unsought rules a r u) 1 (omega arith) (omega arith) noTag (λ v l e. let y : v ≡ a ∷ drop 1 v = alike-cons a r v e in ap (unknownOrig rules) y ∙ unsought rules a (drop 1 v) u)
 
   sees-asked : (a : ℕ) (r : List ℕ) → length (a ∷ r) ≤ mostOctets → item .mine a ≡ true → {x : Got (Message Text)} → Local (Level (a ∷ r)) 0 1 (ask (aloneBody rules item) true 0) 0 (a ∷ r) x → (f : Fault) → x ≡ bad f → Sees (Level (a ∷ r)) (a ∷ r) f
   sees-asked a r s o (sure b l g) f e = let z : _≡_ {A = ℕ} 0 1 = cc in absurd (omega arith)
@@ -130,7 +165,7 @@ module _ (rules : Rules) where
       })
 
   sees-first : (m : List ℕ) → length m ≤ mostOctets → (f : Fault) → readFirst rules item m ≡ bad f → Sees (Level m) m f
-  unfolding readFirst check kindOf placeOf
+  unfolding readFirst check kindOf placeOf endOf
   sees-first [] s f e =
       let y : at FaultKind.CutOff 0 ≡ f = cc in
       rw (← y) (record { looks = 0; what = noPair (inl refl); there = omega arith; alike = λ t i h. let z : t ≡ [] = alike-all 0 [] t i (omega arith) h in rw z (short-read [] (omega arith)) })
@@ -138,7 +173,11 @@ module _ (rules : Rules) where
     where
       by-mine : (b : Bool) → item .mine a ≡ b → Sees (Level (a ∷ r)) (a ∷ r) f
       by-mine true o = sees-asked a r s o (asked a r o) f (sym (first-read a r o) ∙ e)
-      by-mine false o = let y : at FaultKind.NoMessage 0 ≡ f = bad-same (sym (first-refused a r o) ∙ e) in rw (← y) (not-mine (Level (a ∷ r)) (λ t l. omega arith) a r o)
+      by-mine false o = let y : noMessage (unknownOrig rules (a ∷ r)) ≡ f = bad-same (sym (first-refused a r o) ∙ e) in rw (← y) (by-tag (unknownTag a) refl)
+        where
+          by-tag : (b : Bool) → unknownTag a ≡ b → Sees (Level (a ∷ r)) (a ∷ r) (noMessage (unknownOrig rules (a ∷ r)))
+          by-tag true u = not-mine (Level (a ∷ r)) (λ t l. omega arith) a r o (sought rules (a ∷ r) refl)
+          by-tag false u = not-sought (Level (a ∷ r)) (λ t l. omega arith) a r o u
 
   pub fault-local : (m : List ℕ) (f : Fault) → locatedUpTo rules m ≡ bad f → Sees (Level m) m f
   unfolding kindOf placeOf
@@ -189,7 +228,7 @@ module _ (rules : Rules) where
 
     pub definite-local : (m : List ℕ) (b u n : ℕ) → HeadOf m (head b u (definite n)) → (f : Fault) → (kindOf f ≡ FaultKind.Overlong → ⊥) → (kindOf f ≡ FaultKind.OctetsAfter → ⊥) → locatedUpTo rules m ≡ bad f
         → Sees (λ t. (u + n ≤ length t) × (length t ≤ mostOctets)) m f
-    unfolding kindOf sizeOf
+    unfolding kindOf sizeOf Reaches
     definite-local [] b u n i f long after e = absurd (no-octets (head b u (definite n)) i)
     definite-local (a ∷ r) b u n i f long after e = by-length (leb (length (a ∷ r)) mostOctets) refl
       where
@@ -198,8 +237,15 @@ module _ (rules : Rules) where
             let h : Head = head b u (definite n) in
             sees-inside a r b u n o i f after (messages rules .contents h 0 (a ∷ r) i deep-enough (rw (first-of a r h i) o)) (sym (read-inside a r h o i) ∙ sym (short-read (a ∷ r) l) ∙ e)
         by-mine l false o =
-            let y : at FaultKind.NoMessage 0 ≡ f = bad-same (sym (first-refused a r o) ∙ sym (short-read (a ∷ r) l) ∙ e) in
-            rw (← y) (not-mine (λ t. (u + n ≤ length t) × (length t ≤ mostOctets)) (λ t s. s .1) a r o)
+            let y : noMessage (unknownOrig rules (a ∷ r)) ≡ f = bad-same (sym (first-refused a r o) ∙ sym (short-read (a ∷ r) l) ∙ e) in
+            rw (← y) (by-tag (unknownTag a) refl)
+          where
+            R : List ℕ → Type 0
+            R t = (u + n ≤ length t) × (length t ≤ mostOctets)
+
+            by-tag : (b : Bool) → unknownTag a ≡ b → Sees R (a ∷ r) (noMessage (unknownOrig rules (a ∷ r)))
+            by-tag true k = let h : Head = head b u (definite n) in not-mine R (λ t s. s .1) a r o (local-level (λ t s. s .0) (sought-inside rules (a ∷ r) h i deep-enough (rw (first-of a r h i) k)))
+            by-tag false k = not-sought R (λ t s. s .1) a r o k
 
         by-length : (c : Bool) → leb (length (a ∷ r)) mostOctets ≡ c → Sees (λ t. (u + n ≤ length t) × (length t ≤ mostOctets)) (a ∷ r) f
         by-length true l = by-mine (leb-true (length (a ∷ r)) mostOctets l) (item .mine a) refl

@@ -19,6 +19,7 @@ use Rattle.tcap.specs.Refused.{Right, primitive, definite as filled, ind
 use Rattle.tcap.proofs.Fronts.{first-octet}
 use Rattle.tcap.proofs.Found.{same-some}
 use Rattle.tcap.proofs.OneFault.{right-head, same-first, none-some, right-one}
+use Rattle.tcap.proofs.UnknownType.{unknown-is}
 use Rattle.tcap.proofs.OneTrail.{Fails, at-once, within as inside, withinEndless, beyond, trail-fails, right-wrong, right-within, right-within-endless, fits-fails, fails-one}
 use Rattle.tcap.specs.WellFormed.{Rules}
 
@@ -91,19 +92,19 @@ same-front e f = let z : _ ≡ _ = sym e ∙ f in cc
 pub refuses-one : {rules : Rules} {m : List ℕ} {f g : Fault} → Refuses rules m f → Refuses rules m g → f ≡ g
 refuses-one (overlong b) (overlong c) = refl
 refuses-one (overlong b) (noOctets e) = absurd (omega (arith, b, ap length e))
-refuses-one (overlong b) (noMessage c e z) = absurd (omega arith)
+refuses-one (overlong b) (noMessage c e z u) = absurd (omega arith)
 refuses-one (overlong b) (within c e z x) = absurd (omega arith)
 refuses-one (noOctets e) (overlong b) = absurd (omega (arith, b, ap length e))
 refuses-one (noOctets e) (noOctets f) = refl
-refuses-one (noOctets e) (noMessage c f z) = absurd (empty-first e f)
+refuses-one (noOctets e) (noMessage c f z u) = absurd (empty-first e f)
 refuses-one (noOctets e) (within c f z x) = absurd (empty-first e f)
-refuses-one (noMessage c e z) (overlong b) = absurd (omega arith)
-refuses-one (noMessage c e z) (noOctets f) = absurd (empty-first f e)
-refuses-one (noMessage c e z) (noMessage d f y) = refl
-refuses-one (noMessage c e z) (within d f y x) = absurd (none-some z (rw (← (same-front e f)) at y))
+refuses-one (noMessage c e z u) (overlong b) = absurd (omega arith)
+refuses-one (noMessage c e z u) (noOctets f) = absurd (empty-first f e)
+refuses-one (noMessage c e z u) (noMessage d f y v) = rw (sym (unknown-is _ _ u) ∙ unknown-is _ _ v) refl
+refuses-one (noMessage c e z u) (within d f y x) = absurd (none-some z (rw (← (same-front e f)) at y))
 refuses-one (within d f y x) (overlong b) = absurd (omega arith)
 refuses-one (within d f y x) (noOctets e) = absurd (empty-first e f)
-refuses-one (within d f y x) (noMessage c e z) = absurd (none-some z (rw (← (same-front e f)) at y))
+refuses-one (within d f y x) (noMessage c e z u) = absurd (none-some z (rw (← (same-front e f)) at y))
 refuses-one (within d f y x) (within c e z w) = found-one x w
 
 -- what is allowed has none
@@ -118,7 +119,7 @@ first-of u = let (k, i, e) = right-head u in let (q, f) = first-octet _ k i in (
 pub allowed-refuses : {rules : Rules} {m : List ℕ} {f : Fault} → Allowed rules m → Refuses rules m f → ⊥
 allowed-refuses a (overlong b) = omega (arith, a .short)
 allowed-refuses a (noOctets e) = let (b, h, n, x, is, u, k) = fits-alone (a .fits) in empty-first e (first-of u .1)
-allowed-refuses a (noMessage c e z) = let (b, h, n, x, is, u, k) = fits-alone (a .fits) in none-some z (rw (same-front (first-of u .1) e) at is)
+allowed-refuses a (noMessage c e z w) = let (b, h, n, x, is, u, k) = fits-alone (a .fits) in none-some z (rw (same-front (first-of u .1) e) at is)
 allowed-refuses {m = m} a (within c e z (found w x)) = fits-fails (2 * length m + 1) (omega arith) (a .fits) (trail-fails w (at-once x))
 allowed-refuses {m = m} a (within c e z (after is z′ u n o)) =
     let (b, h, k, x, is′, u′, s) = fits-alone (a .fits) in

@@ -26,9 +26,31 @@ faults =
     ∷ (hex "62 01 48", refuses 1 2 OptionalOrig.NoOrig (cause 2))
     -- no room is set aside for pairs still owed; the ID was read
     ∷ (hex "62 80 48 03 05 00 00", refuses 1 7 (origAt 4 3) (cause 2))
-    -- 8 looks at the first octet alone
+    -- 8 comes by the first octet alone
     ∷ (hex "1F", refuses 8 0 OptionalOrig.NoOrig (cause 0))
     ∷ (hex "00 00", refuses 8 0 OptionalOrig.NoOrig (cause 0))
+    -- it tells the ID if a constructor in one octet stands there, and 48 first in it; what follows is not asked, nor an end pair
+    ∷ (hex "63 03 48 01 05", refuses 8 0 (origAt 4 1) (cause 0))
+    ∷ (hex "63 80 48 01 05", refuses 8 0 (origAt 4 1) (cause 0))
+    ∷ (hex "63 80 48 03 05 00 00", refuses 8 0 (origAt 4 3) (cause 0))
+    ∷ (hex "63 03 48 01 05 FF FF", refuses 8 0 (origAt 4 1) (cause 0))
+    ∷ (hex "63 06 48 01 05 FF FF 00", refuses 8 0 (origAt 4 1) (cause 0))
+    ∷ (hex "30 03 48 01 05", refuses 8 0 (origAt 4 1) (cause 0))
+    ∷ (hex "6B 03 48 01 05", refuses 8 0 (origAt 4 1) (cause 0))
+    -- another first octet: a primitive, code 0, an extended tag
+    ∷ (hex "43 03 48 01 05", refuses 8 0 OptionalOrig.NoOrig (cause 0))
+    ∷ (hex "20 03 48 01 05", refuses 8 0 OptionalOrig.NoOrig (cause 0))
+    ∷ (hex "7F 21 03 48 01 05", refuses 8 0 OptionalOrig.NoOrig (cause 0))
+    -- a length that is not sound, of either element
+    ∷ (hex "63 04 48 01 05", refuses 8 0 OptionalOrig.NoOrig (cause 0))
+    ∷ (hex "63 81 03 48 01 05", refuses 8 0 OptionalOrig.NoOrig (cause 0))
+    ∷ (hex "63 03 48 02 05", refuses 8 0 OptionalOrig.NoOrig (cause 0))
+    ∷ (hex "63 02 48 01 05", refuses 8 0 OptionalOrig.NoOrig (cause 0))
+    ∷ (hex "63 04 48 81 01 05", refuses 8 0 OptionalOrig.NoOrig (cause 0))
+    -- no 48 first, or not of 1 to 4 octets
+    ∷ (hex "63 06 49 01 09 48 01 05", refuses 8 0 OptionalOrig.NoOrig (cause 0))
+    ∷ (hex "63 02 48 00", refuses 8 0 OptionalOrig.NoOrig (cause 0))
+    ∷ (hex "63 07 48 05 01 02 03 04 05", refuses 8 0 OptionalOrig.NoOrig (cause 0))
     -- a badly extended tag before the expected tag
     ∷ (hex "62 06 48 01 05 5F 80 01", refuses 2 5 (origAt 4 1) (cause 2))
     -- code 0 before the expected tag and the length

@@ -10,7 +10,7 @@ use native.Mathlib.Omega.{arith}
 use lib.ListN.{length, getD}
 use lib.Dec.{leb, eqb}
 use lib.IntN.{ℤ}
-use borrow.Author.Tests.{eq-eqb, leb-false}
+use borrow.Author.Tests.{eq-eqb, le-leb, leb-false}
 use Rattle.base.specs.Value.{Every, Maybe, same}
 use Rattle.element.specs.declared.{FaultKind.FaultKind}
 use Rattle.element.specs.Element.{extendedOf}
@@ -27,11 +27,13 @@ use Rattle.tcap.specs.declared.{Problem.Problem, Diagnostic.Diagnostic}
 use Rattle.tcap.specs.Meaning.{silent, Originating, orig, dest, Code, local, global, Component, invoke, last, notLast, error, reject, Dialogue, request, unidialogue, response, aborted, single, octets, Ending, cause, says, Message, unidirectional, begin, finish, continue, abort, structured, unstructured, version}
 use Rattle.tcap.specs.WellFormed.{Rules, mostOctets, mostComponents, leftAt, idOk, InvokeIdOk, OrigOk, WellFormedUpTo}
 use Rattle.tcap.specs.Productions.{single?, octetItem, nameItem, codeItem, problemItem, idOrNullItem, origItem, destItem, carried, noted, versionBody, levelAt, parameterItem, codeBody, invokeBody, bothItem, resultBody, errorBody, rejectBody, componentItem, componentAt, componentsItem, infoBody, contextItem, askedItem, numberItem, sourceItem, answeredItem, abortedItem, heldItem, externalBody, inside6B, dialogueItem, tailBody, uniBody, beginBody, endBody, continueBody, abortBody, messageItem}
-use Rattle.tcap.specs.Reading.{learnt, aloneBody, readFirst, locatedUpTo}
+use Rattle.tcap.specs.Reading.{learnt, aloneBody, unknownOrig, readFirst, locatedUpTo}
 use Rattle.tcap.proofs.Records.{Sits}
 use Rattle.tcap.proofs.Components.{id-laws, null-laws}
 use Rattle.tcap.proofs.Messages.{orig-laws, message-laws}
 use Rattle.tcap.proofs.Strings.{octetsOf, origAs, forget, Strings, tagged, whole, optionStrings, seriesStrings, codeStrings, bothStrings, componentStrings, namedStrings, dialogueStrings, endingStrings, origStrings, destStrings, restStrings, strings}
+use Rattle.tcap.specs.Refused.{UnknownOrig, begun}
+use Rattle.tcap.proofs.UnknownType.{unknown-orig, opens-begins, begins-behind}
 
 -- Of a fault
 
@@ -112,9 +114,14 @@ about-message m k p h i j = record { place = h; owner = tt; inner = inr refl; ov
 other-kind : {A : Type 0} (k l : FaultKind) → eqb (numberOf k) (numberOf l) ≡ false → k ≡ l → A
 other-kind k l t e = absurd (false≢true (sym t ∙ eq-eqb _ _ (ap numberOf e)))
 
-no-message : (m : List ℕ) → RefusedFor m (at FaultKind.NoMessage 0)
+no-message : (m : List ℕ) (t : Option Text) → Maybe (OrigHere m) t → RefusedFor m (fault FaultKind.NoMessage 0 portion none t)
 unfolding numberOf
-no-message m = about-message m FaultKind.NoMessage 0 (omega arith) (other-kind FaultKind.NoMessage FaultKind.Overlong refl) (λ e. refl)
+no-message m t h = record { place = omega arith; owner = tt; inner = inr refl; overlong = other-kind FaultKind.NoMessage FaultKind.Overlong refl; noMessage = λ e. refl; invokeId = tt; origId = h }
+
+unknown-here : (rules : Rules) (m : List ℕ) (t : Option Text) → UnknownOrig rules m t → Maybe (OrigHere m) t
+unfolding idOk
+unknown-here rules m none u = tt
+unknown-here rules m (some s) (begun w) = let b = opens-begins rules m s w in (begins-behind b, rw (le-leb 1 (length (s .1)) (b .sized .0), le-leb (length (s .1)) 4 (b .sized .1)))
 
 too-long : (m : List ℕ) → mostOctets ≤ length m → RefusedFor m (at FaultKind.Overlong mostOctets)
 unfolding numberOf
@@ -401,7 +408,7 @@ module _ (m : List ℕ) where
     alone-reads : Ends (λ v n. Laid m 0 (length m) (strings v)) (Refused rules m) (ask (aloneBody rules (messageItem rules)) true 0 m)
     unfolding claim
     alone-reads =
-        ends-ask (aloneBody rules (messageItem rules)) true 0 m (λ v e f. nothing-ends e) (λ k i _. inside-message m (at k 0) (claim m .grows 0 (length m) (at k 0) (omega arith) (claim m .found k 0 i))) (λ _ f q. q) (λ _. no-message m) λ h i f k.
+        ends-ask (aloneBody rules (messageItem rules)) true 0 m (λ v e f. nothing-ends e) (λ k i _. inside-message m (at k 0) (claim m .grows 0 (length m) (at k 0) (omega arith) (claim m .found k 0 i))) (λ _ f q. q) (λ _. no-message m none tt) λ h i f k.
         ends-next (ends-both (ends-weaken (message-reads .reads 0 m h all-here i k) (λ v n j. j) (λ f q _. inside-message m f (claim m .grows (0 + length m) (length m) f (omega arith) q))) (then-given _ (λ big. message-laws rules big .sound 0 m h i k))) λ v n j.
         ends-blamed (learnt v) (λ f q big. keeps-learnt v 0 (0 + n) (j .0 .laid) (j .1 big .fine) f (q big))
         (ends-check (eqb n (length m)) _ (λ _ _. after-message m (0 + n) (omega (arith, j .0 .within))) λ _. held {a = v} {n = n} (laid-wider 0 (length m) (omega arith) (omega (arith, j .0 .within)) (j .0 .laid)))
@@ -409,7 +416,7 @@ module _ (m : List ℕ) where
 first-reads : (rules : Rules) (m : List ℕ) → Ends (λ v n. Laid m 0 (length m) (strings v)) (Refused rules m) (readFirst rules (messageItem rules) m)
 unfolding readFirst claim numberOf
 first-reads rules [] = failed (λ _. inside-message [] (at FaultKind.CutOff 0) (claim [] .found FaultKind.CutOff 0 refl))
-first-reads rules (a ∷ r) = ends-check (messageItem rules .mine a) _ (λ _ _. no-message (a ∷ r)) λ _. alone-reads (a ∷ r) rules
+first-reads rules (a ∷ r) = ends-check (messageItem rules .mine a) _ (λ _ _. no-message (a ∷ r) (unknownOrig rules (a ∷ r)) (unknown-here rules (a ∷ r) _ (unknown-orig rules (a ∷ r)))) λ _. alone-reads (a ∷ r) rules
 
 located-reads : (rules : Rules) (m : List ℕ) → Ends (λ v n. Laid m 0 (length m) (strings v)) (Refused rules m) (locatedUpTo rules m)
 unfolding locatedUpTo

@@ -83,7 +83,7 @@ module _ (rules : Rules) (big : 8 ≤ rules .limit) where
   first-sound : (m : List ℕ) → Then (Says m) (readFirst rules (messageItem rules) m)
   unfolding readFirst
   first-sound [] = void
-  first-sound (a ∷ r) = then-check (messageItem rules .mine a) (at FaultKind.NoMessage 0) λ e. alone-sound (a ∷ r)
+  first-sound (a ∷ r) = then-check (messageItem rules .mine a) _ λ e. alone-sound (a ∷ r)
 
   located-sound : (m : List ℕ) → Then (λ v n. ReadsUpTo rules m (forget v)) (locatedUpTo rules m)
   unfolding locatedUpTo

@@ -1,10 +1,10 @@
 -- Reading one message: before all 7, 1 for no octets, 8 by the first octet; then the message; then 9. And what is answered to a message that is refused.
 -- Assumes nothing: these are definitions.
 use Prim.Native.Nat.{ℕ, _+_}
-use mathlib.Core.{Bool.true, List.List, List.[], List._∷_, Option.Option, Option.none, Option.Option·map, Option.Option·getD}
-use lib.{ListN.length, Dec.leb, Dec.eqb, IntN.ℤ}
-use Rattle.element.specs.{Fault.Text, Fault.Owner, Fault.portion, Fault.dialogue, Fault.component, Fault.Fault, Fault.fault, Fault.at, Ask.Got, Ask.got, Ask.bad, Ask.next, Ask.check, Ask.blamed, Ask.Body, Ask.ask, Parts.Item, Parts.level, Parts.place, declared.FaultKind.FaultKind}
-use Rattle.tcap.specs.{declared.Answer.Answer, declared.Ground.Ground, declared.OptionalOrig.OptionalOrig, declared.Refusal.Refusal, declared.Outcome.Outcome, declared.Reading.Reading, Meaning.orig, Meaning.Message, Meaning.unidirectional, Meaning.begin, Meaning.finish, Meaning.continue, Meaning.abort, WellFormed.Rules, WellFormed.mostOctets, WellFormed.the93, Productions.carried, Productions.messageItem, Record.origField, Record.idField, Record.recordOf, Record.blankRecord}
+use mathlib.Core.{Bool.Bool, Bool.true, Bool.false, Bool.not, Bool._&&_, List.List, List.[], List._∷_, Option.Option, Option.none, Option.some, Option.Option·map, Option.Option·getD}
+use lib.{ListN.length, ListN.take, ListN.drop, Dec.leb, Dec.eqb, IntN.ℤ}
+use Rattle.element.specs.{Element.constructorOf, Element.extendedOf, Fault.Text, Fault.Owner, Fault.portion, Fault.dialogue, Fault.component, Fault.Fault, Fault.fault, Fault.at, Ask.Got, Ask.got, Ask.bad, Ask.next, Ask.check, Ask.blamed, Ask.definite, Ask.indefinite, Ask.Head, Ask.head, Ask.Body, Ask.ask, Parts.Item, Parts.level, Parts.place, declared.FaultKind.FaultKind}
+use Rattle.tcap.specs.{declared.Answer.Answer, declared.Ground.Ground, declared.OptionalOrig.OptionalOrig, declared.Refusal.Refusal, declared.Outcome.Outcome, declared.Reading.Reading, Meaning.Originating, Meaning.orig, Meaning.Message, Meaning.unidirectional, Meaning.begin, Meaning.finish, Meaning.continue, Meaning.abort, WellFormed.Rules, WellFormed.mostOctets, WellFormed.the93, Productions.origItem, Productions.carried, Productions.levelAt, Productions.messageItem, Record.origField, Record.idField, Record.recordOf, Record.blankRecord}
 
 abbrev pub learnt : Message Text → Fault → Fault
 learnt (unidirectional d cs) = λ f. f
@@ -19,10 +19,33 @@ aloneBody rules x =
     place (level (rules .limit)) none (x .mine) FaultKind.NoMessage
     (λ d h p part. next (x .contents h p part) (λ v n. blamed (learnt v) (check (eqb n (length part)) (at FaultKind.OctetsAfter (p + n)) (got v n))))
 
+-- The originating ID of octets that are no message (8): they begin with a constructor whose tag is one octet, and 48 stands first in it
+
+-- what stands first in a constructor: the rest of its contents is not asked
+unfoldable pub foremost : {A : Type 0} → Body A → Head → ℕ → List ℕ → Got A
+foremost b (head a u (definite n)) p part = next (ask b true (p + u) (take n (drop u part))) (λ v k. got v (u + k))
+foremost b (head a u indefinite) p part = next (ask b false (p + u) (drop u part)) (λ v k. got v (u + k))
+
+abbrev pub idFirst : Rules → Body (Originating Text)
+idFirst rules = place (levelAt rules 2) none (origItem .mine) FaultKind.Another (λ d. origItem .contents)
+
+abbrev pub unknownTag : ℕ → Bool
+unknownTag a = constructorOf a && not (extendedOf a)
+
+abbrev pub unknownBody : Rules → Body (Originating Text)
+unknownBody rules = place (level (rules .limit)) none unknownTag FaultKind.Another (λ d. foremost (idFirst rules))
+
+unfoldable pub textOf : Got (Originating Text) → Option Text
+textOf (got (orig t) n) = some t
+textOf (bad f) = none
+
+unfoldable pub unknownOrig : Rules → List ℕ → Option Text
+unknownOrig rules m = textOf (ask (unknownBody rules) true 0 m)
+
 -- 8 goes by the first octet alone, before tag and level; `aloneBody` asks for the same tags, so its own 8 never answers
 unfoldable pub readFirst : Rules → Item (Message Text) → List ℕ → Got (Message Text)
 readFirst rules x [] = bad (at FaultKind.CutOff 0)
-readFirst rules x (a ∷ r) = check (x .mine a) (at FaultKind.NoMessage 0) (ask (aloneBody rules x) true 0 (a ∷ r))
+readFirst rules x (a ∷ r) = check (x .mine a) (fault FaultKind.NoMessage 0 portion none (unknownOrig rules (a ∷ r))) (ask (aloneBody rules x) true 0 (a ∷ r))
 
 -- the message with its places, or the first fault
 unfoldable pub locatedUpTo : Rules → List ℕ → Got (Message Text)

@@ -154,6 +154,21 @@ pub data Found (rules : Rules) (m : List ℕ) : Fault → Type 0 where
   found : {l p : ℕ} {d : Bool} {r : Parts} {c o w : Owner} {i : Option ℤ} {t : Option Text} {k : FaultKind} {part : List ℕ} → Trail rules m l d r (known c o i t) p part → Wrong rules l d r part c (whose (position r) o) k w → Found rules m (fault k p w i t)
   after : {n a : ℕ} {h : Holds} {r : Parts} {x : Text} {t : Option Text} → find message a ≡ some h → contentsOf h ≡ some r → Right rules 1 a h 0 m n x → (n ≡ length m → ⊥) → OrigOf rules r x t → Found rules m (fault FaultKind.OctetsAfter n portion none t)
 
+-- octets that begin with a constructor whose tag is one octet and whose length is sound: the place of its contents, and these (of an indefinite one,
+-- to the end of the octets)
+pub data Opens (m : List ℕ) : Text → Type 0 where
+  opens : {a u n : ℕ} → constructorOf a ≡ true → extendedOf a ≡ false → Definitely m a u n → Opens m (u, take n (drop u m))
+  opensEndless : {a u : ℕ} → extendedOf a ≡ false → Endlessly m a u → Opens m (u, drop u m)
+
+-- and 48 stands first in these: s is its contents
+abbrev pub OpensWith : Rules → List ℕ → Text → Type 0
+OpensWith rules m s = (x : Text) × (n : ℕ) × Opens m x × Right rules 2 0x48 origId (x .0) (x .1) n s
+
+-- the originating ID of octets that are no message: that one, or none if there is none
+pub data UnknownOrig (rules : Rules) (m : List ℕ) : Option Text → Type 0 where
+  begun : {s : Text} → OpensWith rules m s → UnknownOrig rules m (some s)
+  unbegun : ((s : Text) → OpensWith rules m s → ⊥) → UnknownOrig rules m none
+
 -- the whole table: 7, 1 for no octets and 8 before all
 pub data Refuses (rules : Rules) (m : List ℕ) : Fault → Type 0 where
   -- over 255 octets (7)
@@ -161,7 +176,7 @@ pub data Refuses (rules : Rules) (m : List ℕ) : Fault → Type 0 where
   -- nothing at all (1)
   noOctets : m ≡ [] → Refuses rules m (fault FaultKind.CutOff 0 portion none none)
   -- not one of the five message tags (8)
-  noMessage : {a : ℕ} {q : List ℕ} → length m ≤ 255 → m ≡ a ∷ q → find message a ≡ none → Refuses rules m (fault FaultKind.NoMessage 0 portion none none)
+  noMessage : {a : ℕ} {q : List ℕ} {t : Option Text} → length m ≤ 255 → m ≡ a ∷ q → find message a ≡ none → UnknownOrig rules m t → Refuses rules m (fault FaultKind.NoMessage 0 portion none t)
   -- else what is found inside the message, or behind it
   within : {a : ℕ} {q : List ℕ} {h : Holds} {f : Fault} → length m ≤ 255 → m ≡ a ∷ q → find message a ≡ some h → Found rules m f → Refuses rules m f
 
