@@ -3,13 +3,14 @@
 use Prim.Native.Nat.{ℕ, _+_, _≤_}
 use mathlib.Core.Path.{_≡_, refl, sym, ap, _∙_}
 use mathlib.Core.Logic.{inl}
-use mathlib.Core.Bool.{Bool, true, false, false≢true}
+use mathlib.Core.Bool.{Bool, true, false, not, _&&_, and-eq-true-iff, false≢true}
 use mathlib.Core.List.{List, [], _∷_}
 use mathlib.Core.Option.{Option, none}
 use native.Mathlib.Omega.{arith}
 use lib.ListN.{length, take, drop}
 use lib.Dec.{ltb, leb, eqb}
 use borrow.Author.Tests.{le-leb, leb-true, leb-false}
+use Rattle.element.specs.Element.{codeZero}
 use Rattle.element.specs.declared.{FaultKind.FaultKind}
 use Rattle.element.specs.declared.TagRead.the-variants.{Tag as tag}
 use Rattle.element.specs.Fault.{numberOf, Text, portion, Fault, fault, at}
@@ -147,7 +148,7 @@ module _ (rules : Rules) where
     pub not-mine : Sought rules m R → Sees R m (noMessage (unknownOrig rules m))
     not-mine l = sees-id (ask (unknownBody rules) true 0 m) refl l (unknown-sound rules m)
 
-    pub not-sought : unknownTag a ≡ false → Sees R m (noMessage (unknownOrig rules m))
+    pub not-sought : unknownTag a && not (codeZero a) ≡ false → Sees R m (noMessage (unknownOrig rules m))
     not-sought u =
         same-id none (unsought rules a r u) 1 (omega arith) (omega arith) noTag (λ v l e. let y : v ≡ a ∷ drop 1 v = alike-cons a r v e in ap (unknownOrig rules) y ∙ unsought rules a (drop 1 v) u)
 
@@ -173,9 +174,9 @@ module _ (rules : Rules) where
     where
       by-mine : (b : Bool) → item .mine a ≡ b → Sees (Level (a ∷ r)) (a ∷ r) f
       by-mine true o = sees-asked a r s o (asked a r o) f (sym (first-read a r o) ∙ e)
-      by-mine false o = let y : noMessage (unknownOrig rules (a ∷ r)) ≡ f = bad-same (sym (first-refused a r o) ∙ e) in rw (← y) (by-tag (unknownTag a) refl)
+      by-mine false o = let y : noMessage (unknownOrig rules (a ∷ r)) ≡ f = bad-same (sym (first-refused a r o) ∙ e) in rw (← y) (by-tag (unknownTag a && not (codeZero a)) refl)
         where
-          by-tag : (b : Bool) → unknownTag a ≡ b → Sees (Level (a ∷ r)) (a ∷ r) (noMessage (unknownOrig rules (a ∷ r)))
+          by-tag : (b : Bool) → unknownTag a && not (codeZero a) ≡ b → Sees (Level (a ∷ r)) (a ∷ r) (noMessage (unknownOrig rules (a ∷ r)))
           by-tag true u = not-mine (Level (a ∷ r)) (λ t l. omega arith) a r o (sought rules (a ∷ r) refl)
           by-tag false u = not-sought (Level (a ∷ r)) (λ t l. omega arith) a r o u
 
@@ -238,13 +239,13 @@ module _ (rules : Rules) where
             sees-inside a r b u n o i f after (messages rules .contents h 0 (a ∷ r) i deep-enough (rw (first-of a r h i) o)) (sym (read-inside a r h o i) ∙ sym (short-read (a ∷ r) l) ∙ e)
         by-mine l false o =
             let y : noMessage (unknownOrig rules (a ∷ r)) ≡ f = bad-same (sym (first-refused a r o) ∙ sym (short-read (a ∷ r) l) ∙ e) in
-            rw (← y) (by-tag (unknownTag a) refl)
+            rw (← y) (by-tag (unknownTag a && not (codeZero a)) refl)
           where
             R : List ℕ → Type 0
             R t = (u + n ≤ length t) × (length t ≤ mostOctets)
 
-            by-tag : (b : Bool) → unknownTag a ≡ b → Sees R (a ∷ r) (noMessage (unknownOrig rules (a ∷ r)))
-            by-tag true k = let h : Head = head b u (definite n) in not-mine R (λ t s. s .1) a r o (local-level (λ t s. s .0) (sought-inside rules (a ∷ r) h i deep-enough (rw (first-of a r h i) k)))
+            by-tag : (b : Bool) → unknownTag a && not (codeZero a) ≡ b → Sees R (a ∷ r) (noMessage (unknownOrig rules (a ∷ r)))
+            by-tag true k = let h : Head = head b u (definite n) in not-mine R (λ t s. s .1) a r o (local-level (λ t s. s .0) (sought-inside rules (a ∷ r) h i deep-enough (rw (first-of a r h i) (and-eq-true-iff (unknownTag a) (not (codeZero a)) .0 k .0))))
             by-tag false k = not-sought R (λ t s. s .1) a r o k
 
         by-length : (c : Bool) → leb (length (a ∷ r)) mostOctets ≡ c → Sees (λ t. (u + n ≤ length t) × (length t ≤ mostOctets)) (a ∷ r) f

@@ -1,20 +1,21 @@
 -- The ID of octets that are no message depends on nothing behind it; that there is none, on nothing behind what shows it. Assumes nothing.
 use Prim.Native.Nat.{ℕ, _+_, _≤_}
 use mathlib.Core.Path.{_≡_, refl, sym, ap, _∙_}
-use mathlib.Core.Bool.{Bool, true, false, false≢true}
+use mathlib.Core.Bool.{Bool, true, false, not, _&&_, false≢true}
 use mathlib.Core.List.{List, _∷_}
 use mathlib.Core.Option.{none}
 use native.Mathlib.Omega.{arith}
 use lib.ListN.{length, take, drop, length-drop}
 use lib.Seq.{take-take, drop-drop, length-take-le}
 use lib.Dec.{ltb}
+use Rattle.element.specs.Element.{codeZero}
 use Rattle.element.specs.declared.FaultKind.{FaultKind}
 use Rattle.element.specs.declared.EndRead.the-variants.{More as more}
 use Rattle.element.specs.Fault.{Text}
 use Rattle.element.specs.Head.{endOf}
 use Rattle.element.specs.Ask.{Got, got, bad, next, definite, indefinite, Head, head, ask}
 use Rattle.element.specs.Parts.{firstOf}
-use Rattle.element.proofs.Asking.{Then, fact, next-of, HeadOf, ask-head, ask-sound}
+use Rattle.element.proofs.Asking.{Then, fact, next-of, HeadOf, finite, unended, ask-head, ask-sound}
 use Rattle.element.proofs.Laid.{nothing-ends}
 use Rattle.element.proofs.Alike.{Alike, alike-less, take-behind, alike-drop, pair}
 use Rattle.element.proofs.Looked.{Looked, upToId, other, Local, sure, wrong, Level, Reaches, sizeOf, next-bad, local-level, head-alike, head-room, head-least, head-some, level-reaches, ask-local, ask-more-local}
@@ -112,12 +113,16 @@ module _ (rules : Rules) where
     id-window x (opensEndless {a = a} {u = u} e y) r = window u (drop u m) (omega (arith, length-drop u m, head-least m a u (endless-head y) .0)) (λ q l. refl) r
 
   -- no constructor with a tag of one octet
-  pub unsought : (a : ℕ) (r : List ℕ) → unknownTag a ≡ false → unknownOrig rules (a ∷ r) ≡ none
+  head-plain : (part : List ℕ) (h : Head) → HeadOf part h → codeZero (firstOf h) ≡ false
+  head-plain part h (finite a s k n t z l) = z
+  head-plain part h (unended a s t z l) = z
+
+  pub unsought : (a : ℕ) (r : List ℕ) → unknownTag a && not (codeZero a) ≡ false → unknownOrig rules (a ∷ r) ≡ none
   unfolding unknownOrig textOf
-  unsought a r o = by-ask (ask (unknownBody rules) true 0 (a ∷ r)) (ask-sound (λ v n. ⊥) (unknownBody rules) true 0 (a ∷ r) (λ v e f. nothing-ends e) (λ h i m. absurd (false≢true (sym (rw (first-is h i) at o) ∙ m))))
+  unsought a r o = by-ask (ask (unknownBody rules) true 0 (a ∷ r)) (ask-sound (λ v n. ⊥) (unknownBody rules) true 0 (a ∷ r) (λ v e f. nothing-ends e) (λ h i m. absurd (not-here h i m)))
     where
-      first-is : (h : Head) → HeadOf (a ∷ r) h → a ≡ firstOf h
-      first-is h i = let (q, e) = first-octet (a ∷ r) h i in cc
+      not-here : (h : Head) → HeadOf (a ∷ r) h → unknownTag (firstOf h) ≡ true → ⊥
+      not-here h i m = let (q, e) = first-octet (a ∷ r) h i in let z : a ≡ firstOf h = cc in false≢true (sym o ∙ rw (z, m, head-plain (a ∷ r) h i))
 
       by-ask : (x : Got (Originating Text)) → Then (λ v n. ⊥) x → textOf x ≡ none
       by-ask (got v n) (fact e) = absurd e
