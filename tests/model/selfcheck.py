@@ -199,7 +199,7 @@ def compare_histories(directory):
 
 def main(directory):
     total = 0
-    for name, comparison in (("read.txt", compare_read), ("records.jsonl", compare_records),
+    for name, comparison in (("read.txt, 05-unknown/read.txt", compare_read), ("records.jsonl", compare_records),
                              ("write.jsonl", compare_write), ("steer.jsonl", compare_steer),
                              ("06-unitdata/read.jsonl", compare_unitdata_read),
                              ("06-unitdata/write.jsonl", compare_unitdata_write),

@@ -281,9 +281,10 @@ class MessageReader(ElementReader):
         if not self.octets:
             raise Fault(1, 0, ELSEWHERE)
         kind = self.octets[0]
-        if kind not in MESSAGE_NAMES:
-            raise Fault(8, 0, ELSEWHERE)
         whole = Contents(0, len(self.octets), False, 1, ELSEWHERE, ELSEWHERE)
+        if kind not in MESSAGE_NAMES:
+            self.orig = self.unknown_orig(whole)
+            raise Fault(8, 0, ELSEWHERE)
         parts = self.enter(whole, kind)
         dest, dialogue, rows = None, Dialogue(NO_DIALOGUE), []
         if kind in WITH_ORIGINATING_ID:
@@ -301,6 +302,17 @@ class MessageReader(ElementReader):
         if whole.place < whole.end:
             raise whole.fault(9)
         return Record(kind, self.orig, dest, dialogue, len(rows), rows)
+
+    def unknown_orig(self, whole):
+        """The ID of an unknown type of message: it begins with a constructor's tag in one octet, not
+        code 0, and a sound length, and a sound 48 stands first in it. Else None."""
+        try:
+            tag = self.tag(whole)
+            if len(tag) > 1 or not is_constructor(tag):
+                return None
+            return self.primitive(self.enter_any(whole), 0x48, good_id)
+        except Fault:
+            return None
 
     def number(self, span):
         """The number in contents of one octet, none of which may be negative."""

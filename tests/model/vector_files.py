@@ -1,4 +1,4 @@
-"""Reads the vector files (read.txt, records.jsonl, write.jsonl, steer.jsonl) into plain values.
+"""Reads the vector files (read.txt, 05-unknown/read.txt, records.jsonl, write.jsonl, steer.jsonl) into plain values.
 Knows their notation only, none of the rules."""
 
 import json
@@ -10,9 +10,11 @@ ReadVector = namedtuple("ReadVector", "message listing refused orig invoke")
 
 
 def read_vectors(directory):
-    """read.txt: '> HEX', the listing, and after a refusal 'orig HEX|- invoke N|-'."""
-    with open(os.path.join(directory, "read.txt"), encoding="ascii") as file:
-        blocks = ("\n" + file.read()).split("\n>")[1:]
+    """read.txt and 05-unknown/read.txt: '> HEX', the listing, and after a refusal 'orig HEX|- invoke N|-'."""
+    blocks = []
+    for name in ("read.txt", "05-unknown/read.txt"):
+        with open(os.path.join(directory, name), encoding="ascii") as file:
+            blocks += ("\n" + file.read()).split("\n>")[1:]
     vectors = []
     for block in blocks:
         first, *lines = block.split("\n")

@@ -17,7 +17,7 @@ use Rattle.element.proofs.Asking.{Then, fact, void, the-fact}
 use Rattle.tcap.specs.Meaning.{Message, silent, unidirectional, begin, finish, continue, abort}
 use Rattle.tcap.specs.WellFormed.{the93}
 use Rattle.tcap.specs.Productions.{origItem, destItem, carried, componentsItem, dialogueItem, tailBody, uniBody, beginBody, endBody, continueBody, abortBody}
-use Rattle.tcap.specs.Reading.{learnt, readFirst, locatedUpTo}
+use Rattle.tcap.specs.Reading.{unknownOrig, learnt, readFirst, locatedUpTo}
 use Rattle.element.specs.Answers.{span, lengthSize}
 use Rattle.read_place.specs.Places.{Far, Near, until, finite, part, front, Placed, Reads, Finishes, lengthPlace}
 use Rattle.read_place.specs.Leaves.{Left, Leaves, LeavesAll, untold}
@@ -76,7 +76,7 @@ learnt-stays (abort e s) = λ f l t. t
 module _ (m : List ℕ) (len : ℕ) (is : len ≡ length m) (some : 1 ≤ len) (short : len ≤ 255) where
   pub other-left : (b : Bool) → b ≡ kinds .mine (getD m 0 0) → b ≡ false → (old new : List ℕ) → length old ≡ 428 → new ≡ set old 0 0 → Left layAccepted Blames (readFirst the93 kinds m) old new
   unfolding check Left
-  other-left b asked t old new long i = rw (i, first-is m len is some short, ← asked, t) (says-portion old long FaultKind.NoMessage 0 none none)
+  other-left b asked t old new long i = rw (i, first-is m len is some short, ← asked, t) (says-portion old long FaultKind.NoMessage 0 none (unknownOrig the93 m))
 
   module _ (b : Bool) (asked : b ≡ kinds .mine (getD m 0 0)) (told : b ≡ true) (inner : ℕ) (stops : inner ≡ lengthPlace 0 1 len (lengthOf (span m 1 len) true)) where
     abbrev this : Item (Message Text)

@@ -12,7 +12,7 @@ use borrow.Author.Tests.{eqb-true, eq-eqb, ne-eqb, le-leb, lt-leb, lt-ltb}
 use Rattle.element.specs.declared.FaultKind.{FaultKind}
 use Rattle.element.specs.declared.TagRead.{TagRead}
 use Rattle.element.specs.Element.{constructorOf}
-use Rattle.element.specs.Fault.{Text, at}
+use Rattle.element.specs.Fault.{fault, portion, Text, at}
 use Rattle.element.specs.Head.{lengthOf}
 use Rattle.element.specs.Answers.{frontOf, span, lengthSize}
 use Rattle.element.specs.Ask.{Got, got, next, check, blamed, Head, Body, ask}
@@ -20,7 +20,7 @@ use Rattle.element.specs.Parts.{Item, level, place, aroundItem, orItem}
 use Rattle.tcap.specs.Meaning.{Message, unidirectional, begin, finish, continue, abort}
 use Rattle.tcap.specs.WellFormed.{the93}
 use Rattle.tcap.specs.Productions.{uniBody, beginBody, endBody, continueBody, abortBody, messageItem}
-use Rattle.tcap.specs.Reading.{learnt, aloneBody, readFirst, locatedUpTo}
+use Rattle.tcap.specs.Reading.{unknownOrig, learnt, aloneBody, readFirst, locatedUpTo}
 use Rattle.read_place.specs.Places.{Far, Near, until, finite, part, base, faultPlace, front, Placed, Reads, Finishes, Leads, standsOf, entryPlace, lengthPlace, octetsAfter, noMessage, overlong, cutOff, opening}
 use Rattle.read_place.specs.Leaves.{LeavesAll}
 use Rattle.read_place.specs.Laying.{layMessage}
@@ -199,11 +199,11 @@ module _ (m : List ℕ) where
     pub all-of-it : drop 0 (take (length m) m) ≡ m
     all-of-it = take-all (length m) m (omega arith)
 
-    pub first-is : readFirst the93 kinds m ≡ check (kinds .mine (getD m 0 0)) (at FaultKind.NoMessage 0) (ask (aloneBody the93 kinds) true 0 m)
+    pub first-is : readFirst the93 kinds m ≡ check (kinds .mine (getD m 0 0)) (fault FaultKind.NoMessage 0 portion none (unknownOrig the93 m)) (ask (aloneBody the93 kinds) true 0 m)
     unfolding readFirst
     first-is = go m is
       where
-        go : (l : List ℕ) → len ≡ length l → readFirst the93 kinds l ≡ check (kinds .mine (getD l 0 0)) (at FaultKind.NoMessage 0) (ask (aloneBody the93 kinds) true 0 l)
+        go : (l : List ℕ) → len ≡ length l → readFirst the93 kinds l ≡ check (kinds .mine (getD l 0 0)) (fault FaultKind.NoMessage 0 portion none (unknownOrig the93 l)) (ask (aloneBody the93 kinds) true 0 l)
         go [] e = absurd (omega (arith, e, some))
         go (a ∷ r) e = refl
 
