@@ -1,3 +1,4 @@
 pub mod Bare
+pub mod Unknown
 pub mod Origs
 pub mod Refusals

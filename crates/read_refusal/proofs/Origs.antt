@@ -1,7 +1,7 @@
--- Which originating ID a fault of a message carries: that of a Begin or a Continue, if it was read before. Assumes nothing.
+-- Which originating ID a fault of a message carries: that of a Begin, of a Continue or of a constructor that is no message, if it was read before. Assumes nothing.
 use Prim.Native.Nat.{ℕ, _+_, _-_, _≤_, _<_}
 use mathlib.Core.Path.{_≡_, refl, sym, ap, _∙_}
-use mathlib.Core.Bool.{Bool, true, false, cond}
+use mathlib.Core.Bool.{Bool, true, false, cond, not, _&&_, false≢true}
 use mathlib.Core.List.{List, [], _∷_}
 use mathlib.Core.Option.{Option, none, some, Option·map, Option·getD}
 use native.Mathlib.Omega.{arith}
@@ -13,7 +13,7 @@ use Rattle.element.specs.declared.FaultKind.{FaultKind}
 use Rattle.element.specs.declared.EndRead.{EndRead}
 use Rattle.element.specs.declared.TagRead.{TagRead}
 use Rattle.element.specs.declared.LengthRead.{LengthRead}
-use Rattle.element.specs.Element.{constructorOf}
+use Rattle.element.specs.Element.{constructorOf, codeZero}
 use Rattle.element.specs.Fault.{Text, Fault, fault, at, withOrigId}
 use Rattle.element.specs.Head.{endOf, lengthOf}
 use Rattle.element.specs.Answers.{frontOf, lengthSize}
@@ -27,8 +27,9 @@ use Rattle.tcap.specs.Meaning.{Originating, orig, Message, unidirectional, begi
 use Rattle.tcap.specs.WellFormed.{the93, idOk}
 use Rattle.tcap.specs.Productions.{origItem, destItem, carried, tailBody, uniBody, beginBody, endBody, continueBody, abortBody, messageItem}
 use Rattle.tcap.specs.Record.{origField}
-use Rattle.tcap.specs.Reading.{learnt, readFirst, locatedUpTo}
+use Rattle.tcap.specs.Reading.{learnt, idFirst, unknownTag, unknownBody, textOf, unknownOrig, readFirst, locatedUpTo}
 use Rattle.tcap.proofs.Places.{origOf}
+use Rattle.tcap.proofs.UnknownLocal.{unsought}
 use Rattle.read_place.specs.Places.{Far, Near, until, finite, opening, part, front, Placed, Reads, Leads, standsOf, entryPlace, lengthPlace}
 use Rattle.read_place.proofs.Answers.{far-fault, placed-near}
 use Rattle.read_place.proofs.Fronts.{byFront, ask-front}
@@ -39,7 +40,8 @@ use Rattle.read_place.proofs.Around.{around-ask}
 use Rattle.read_place.proofs.Values.{leaf-stood}
 use Rattle.read_field.proofs.Choices.{reads-map, transaction-sized}
 use Rattle.read_message.proofs.Whole.{alone-is, first-is, all-of-it, alone-to}
-use Rattle.read_refusal.specs.Told.{Ided, OrigTold}
+use Rattle.read_refusal.specs.Told.{constructorTag, idSought, OrigTold}
+use Rattle.read_refusal.proofs.Unknown.{text-next, Strange, strange-of, unsought-of, first-as, unknown-ask}
 use Rattle.read_refusal.proofs.Bare.{Said, Any, said-got, said-next, said-check, said-blamed, ask-said, Bare, bare-ask, map-bare, leaf-bare, uni-bare, end-bare, abort-bare}
 
 abbrev kinds : Item (Message Text)
@@ -135,16 +137,20 @@ module _ (m : List ℕ) (st inner r : ℕ) (h : until inner ≤ length m) (e : R
   abbrev idText : Text
   idText = (st + 2, take (r - (st + 2)) (drop (st + 2) m))
 
-  id-near : Near r → Said (λ o. o ≡ orig idText) (some idText) here-id
-  unfolding Said Placed
-  id-near f = go here-id id-placed (id-value st (part m st inner) (finite inner))
+  id-got : Near r → (n : ℕ) × (here-id ≡ got (orig idText) n)
+  unfolding Placed
+  id-got f = go here-id refl id-placed (id-value st (part m st inner) (finite inner))
     where
-      go : (x : Got (Originating Text)) → Placed st (until inner) x r → Then (λ o n. (3 ≤ n) × (o ≡ orig (st + 2, take (n - 2) (drop 2 (part m st inner))))) x → Said (λ o. o ≡ orig idText) (some idText) x
-      go (got a n) q t =
+      go : (x : Got (Originating Text)) → here-id ≡ x → Placed st (until inner) x r → Then (λ o n. (3 ≤ n) × (o ≡ orig (st + 2, take (n - 2) (drop 2 (part m st inner))))) x → (n : ℕ) × (here-id ≡ got (orig idText) n)
+      go (got a n) i q t =
           let k = the-fact t in
           let z : n - 2 ≡ r - (st + 2) = omega (arith, q) in
-          k .1 ∙ ap orig (rw (span-take m st (until inner) 2 (n - 2) (omega (arith, q, k .0)) h, z))
-      go (bad g) q t = absurd (omega (arith, q, f, far-fault g))
+          (n, i ∙ ap (λ (o : Originating Text). got o n) (k .1 ∙ ap orig (rw (span-take m st (until inner) 2 (n - 2) (omega (arith, q, k .0)) h, z))))
+      go (bad g) i q t = absurd (omega (arith, q, f, far-fault g))
+
+  id-near : Near r → Said (λ o. o ≡ orig idText) (some idText) here-id
+  unfolding Said
+  id-near f = let (n, i) = id-got f in rw i refl
 
   id-long : Near r → (3 ≤ r - st) × (st ≤ r) × (r ≤ until inner)
   id-long f = let l = placed-near here-id st (until inner) r id-placed f in go here-id id-placed (id-value st (part m st inner) (finite inner)) l
@@ -152,6 +158,11 @@ module _ (m : List ℕ) (st inner r : ℕ) (h : until inner ≤ length m) (e : R
       go : (x : Got (Originating Text)) → Placed st (until inner) x r → Then (λ o n. (3 ≤ n) × (o ≡ orig (st + 2, take (n - 2) (drop 2 (part m st inner))))) x → (st ≤ r) × (r ≤ until inner) → (3 ≤ r - st) × (st ≤ r) × (r ≤ until inner)
       go (got a n) q t l = unfold Placed in (let k = the-fact t in (omega (arith, q, k .0), omega (arith, q), omega (arith, q)))
       go (bad g) q t l = unfold Placed in absurd (omega (arith, q, f, far-fault g))
+
+no-text : (x : Got (Originating Text)) → Said (λ o. ⊥) none x → textOf x ≡ none
+unfolding Said textOf
+no-text (got o n) e = absurd e
+no-text (bad f) e = refl
 
 -- A message by its tag
 
@@ -217,10 +228,6 @@ module _ (m : List ℕ) (len : ℕ) (is : len ≡ length m) (any : 1 ≤ len) (s
       rw (le-leb (length m) 255 (omega (arith, is, short)), first-is m len is any short, mine, alone-is m)
       (said-next (Learnt t) Any t _ _ g (λ v n k. said-blamed Any t (learnt v) _ k (said-check Any none (eqb n (length m)) _ _ refl (said-got Any none v n tt))))
 
-  other-said : kinds .mine (getD m 0 0) ≡ false → Said Any none (locatedUpTo the93 m)
-  unfolding locatedUpTo check Said
-  other-said mine = rw (le-leb (length m) 255 (omega (arith, is, short)), first-is m len is any short, mine)
-
   -- one of several, by the tag that stands here
   module _ (tag : ℕ) (stands : getD m 0 0 ≡ tag) (t : Option Text) where
     abbrev Asked : Item (Message Text) → Type 0
@@ -255,38 +262,66 @@ module _ (m : List ℕ) (len : ℕ) (is : len ≡ length m) (any : 1 ≤ len) (s
   continue-said e t q = second-of 101 e t unis others refl (second-of 101 e t begins enders refl (second-of 101 e t ends continuers refl (first-of 101 e t continues aborts refl (plain-of 101 e t continues refl q))))
 
   -- around the contents
-  module _ (b : Body (Message Text)) (tag : ℕ) (leads : Leads tag) (kind : constructorOf tag ≡ true) (stands : getD m 0 0 ≡ tag) (inner : ℕ) (entry : inner ≡ entryPlace true m 0 len tag) where
+  module _ {A : Type 0} (P : A → Type 0) (b : Body A) (tag : ℕ) (leads : Leads tag) (kind : constructorOf tag ≡ true) (stands : getD m 0 0 ≡ tag) (inner : ℕ) (entry : inner ≡ entryPlace true m 0 len tag) where
     abbrev There : Option Text → Type 0
-    There t = Said (Learnt t) t (ask (front (level 1) FaultKind.Another (aroundItem tag b)) (finite len) 0 (part m 0 len))
+    There t = Said P t (ask (front (level 1) FaultKind.Another (aroundItem tag b)) (finite len) 0 (part m 0 len))
 
     entry-said : Far inner → There none
     unfolding entryPlace standsOf
     entry-said f =
         let answer : inner ≡ lengthPlace 0 1 (until len) (lengthOf (part m 1 len) true) = entry ∙ rw (ne-eqb 0 (until len) (λ z. omega (arith, z, inside-it)), eq-eqb (getD m 0 0) tag stands) in
         let i : Entered true m 0 len tag inner = record { here = inside-it .1; first = stands; len = lengthOf (part m 1 len) true; len-is = refl; answer = answer } in
-        rw (ask-entered true m 0 len tag inner (omega arith) (inside-it .0) entry (aroundItem tag b) leads kind (λ a. refl) i) (far-length (Learnt none) (aroundItem tag b) m 0 len (inside-it .0) (inside-it .1) inner f tag (lengthOf (part m 1 len) true) refl answer)
+        rw (ask-entered true m 0 len tag inner (omega arith) (inside-it .0) entry (aroundItem tag b) leads kind (λ a. refl) i) (far-length P (aroundItem tag b) m 0 len (inside-it .0) (inside-it .1) inner f tag (lengthOf (part m 1 len) true) refl answer)
 
-    inner-said : Near inner → (st : ℕ) → st ≡ 1 + lengthSize (getD m 1 0) → (t : Option Text) → Said (Learnt t) t (ask b (finite inner) st (part m st inner)) → There t
+    inner-said : Near inner → (st : ℕ) → st ≡ 1 + lengthSize (getD m 1 0) → (t : Option Text) → Said P t (ask b (finite inner) st (part m st inner)) → There t
     inner-said near st start t e =
         let q = around-ask b m 0 len tag inner st (omega arith) (inside-it .0) (omega (arith, is, short)) leads kind entry near start in
-        rw (q .1) (said-next (Learnt t) (Learnt t) t _ _ e (λ v k z. said-got (Learnt t) t v (q .0 k) z))
+        rw (q .1) (said-next P P t _ _ e (λ v k z. said-got P t v (q .0 k) z))
 
-    -- before the ID, at it, and behind it
+  -- a message, before its ID, at it, and behind it
+  module _ (b : Body (Message Text)) (tag : ℕ) (leads : Leads tag) (kind : constructorOf tag ≡ true) (stands : getD m 0 0 ≡ tag) (inner : ℕ) (entry : inner ≡ entryPlace true m 0 len tag) where
     module _ {B : Type 0} (f : Originating Text × B → Message Text) (y : Originating Text → Body B) (tells : (v : Originating Text × B) → learnt (f v) ≡ carried (v .0)) (same : b ≡ idBody f y tells) (near : Near inner) (st : ℕ) (start : st ≡ 1 + lengthSize (getD m 1 0))
         (h : until inner ≤ length m) (r : ℕ) (e : Reads (leafItem 0x48 idOk) m st inner r) where
-      far-said : Far r → There none
-      far-said g = inner-said near st start none (rw same (unread f y tells (finite inner) st (part m st inner) (id-far m st inner r h e g)))
+      far-said : Far r → There (Learnt none) b tag leads kind stands inner entry none
+      far-said g = inner-said (Learnt none) b tag leads kind stands inner entry near st start none (rw same (unread f y tells (finite inner) st (part m st inner) (id-far m st inner r h e g)))
 
-      near-said : Near r → There (some (idText m st inner r h e))
-      near-said g = inner-said near st start (some (idText m st inner r h e)) (rw same (known f y tells (finite inner) st (part m st inner) (idText m st inner r h e) (id-near m st inner r h e g)))
+      near-said : Near r → There (Learnt (some (idText m st inner r h e))) b tag leads kind stands inner entry (some (idText m st inner r h e))
+      near-said g = inner-said (Learnt (some (idText m st inner r h e))) b tag leads kind stands inner entry near st start (some (idText m st inner r h e)) (rw same (known f y tells (finite inner) st (part m st inner) (idText m st inner r h e) (id-near m st inner r h e g)))
+
+  -- no message: what 8 tells
+
+  told-as : kinds .mine (getD m 0 0) ≡ false → (t : Option Text) → unknownOrig the93 m ≡ t → Said Any t (locatedUpTo the93 m)
+  unfolding locatedUpTo check Said
+  told-as mine t e = rw (le-leb (length m) 255 (omega (arith, is, short)), first-is m len is any short, mine) e
+
+  module _ (tag : ℕ) (s : Strange tag) (stands : getD m 0 0 ≡ tag) (inner : ℕ) (entry : inner ≡ entryPlace true m 0 len tag) where
+    sought-in : unknownOrig the93 m ≡ textOf (ask (front (level 1) FaultKind.Another (aroundItem tag (idFirst the93))) (finite len) 0 (part m 0 len))
+    unfolding unknownOrig
+    sought-in =
+        let z : until len ≡ length m = omega (arith, is, short) in
+        let same : ask (unknownBody the93) (finite len) 0 (part m 0 len) ≡ ask (unknownBody the93) true 0 m = rw (z, lt-ltb len opening (omega (arith, short)), all-of-it m len is any short) in
+        ap textOf (sym same) ∙ unknown-ask tag s (finite len) 0 (part m 0 len) (λ a u z. only tag stands a u z)
+
+    strange-entry : Far inner → unknownOrig the93 m ≡ none
+    strange-entry f = sought-in ∙ no-text _ (entry-said (λ o. ⊥) (idFirst the93) tag (s .leads) (s .constructor) stands inner entry f)
+
+    module _ (near : Near inner) (st : ℕ) (start : st ≡ 1 + lengthSize (getD m 1 0)) (h : until inner ≤ length m) (r : ℕ) (e : Reads (leafItem 0x48 idOk) m st inner r) where
+      strange-inner : unknownOrig the93 m ≡ textOf (here-id m st inner r h e)
+      strange-inner =
+          let q = around-ask (idFirst the93) m 0 len tag inner st (omega arith) (inside-it .0) (omega (arith, is, short)) (s .leads) (s .constructor) entry near start in
+          sought-in ∙ ap textOf (q .1) ∙ text-next (ask (idFirst the93) (finite inner) st (part m st inner)) (q .0) ∙ ap (λ (b : Body (Originating Text)). textOf (ask b (finite inner) st (part m st inner))) first-as
+
+      strange-far : Far r → unknownOrig the93 m ≡ none
+      strange-far f = strange-inner ∙ no-text _ (id-far m st inner r h e f)
+
+      strange-near : Near r → unknownOrig the93 m ≡ some (idText m st inner r h e)
+      unfolding textOf
+      strange-near f = let (n, i) = id-got m st inner r h e f in strange-inner ∙ rw i
 
 -- What `orig_of` and `orig_at` answer
 
-pub ided-begin : (tag : ℕ) → tag ≡ 98 → Ided tag
-ided-begin tag e = rw (eq-eqb tag 98 e)
-
-pub ided-continue : (tag : ℕ) → tag ≡ 101 → Ided tag
-ided-continue tag e = rw e
+pub sought-true : (b : Bool) (tag : ℕ) → b ≡ idSought tag → b ≡ true → idSought tag ≡ true
+sought-true b tag is t = sym is ∙ t
 
 told-by : (t : Option Text) (x : Got (Message Text)) → Said Any t x → OrigTold (Option·getD (Option·map (λ s. origField (orig s)) t) OptionalOrig.NoOrig) x
 unfolding Said OrigTold
@@ -305,29 +340,48 @@ module _ (m : List ℕ) (len : ℕ) (is : len ≡ length m) where
       go [] e = unfold locatedUpTo readFirst check Said in refl
       go (a ∷ r) e = absurd (omega (arith, e))
 
-  pub orig-other : len ≤ 255 → (len ≡ 0 → ⊥) → (getD m 0 0 ≡ 98 → ⊥) → (getD m 0 0 ≡ 101 → ⊥) → OrigTold OptionalOrig.NoOrig (locatedUpTo the93 m)
-  orig-other short any begin? continue? = told-by none (locatedUpTo the93 m) (go (eqb (getD m 0 0) 97) (eqb (getD m 0 0) 100) (eqb (getD m 0 0) 103) refl refl refl)
+  pub orig-other : len ≤ 255 → (len ≡ 0 → ⊥) → (b : Bool) → b ≡ idSought (getD m 0 0) → b ≡ false → OrigTold OptionalOrig.NoOrig (locatedUpTo the93 m)
+  unfolding idSought
+  orig-other short any b asked t = told-by none (locatedUpTo the93 m) (go (eqb tag 98) (eqb tag 101) (eqb tag 100) (eqb tag 103) (eqb tag 97) refl refl refl refl refl (sym asked ∙ t))
     where
+      tag : ℕ
+      tag = getD m 0 0
+
       some-octet : 1 ≤ len
       some-octet = omega (arith, any)
 
       stood : (t : ℕ) → kinds .mine t ≡ true → getD m 0 0 ≡ t → Here m len is some-octet short none → Said Any none (locatedUpTo the93 m)
       stood t i e q = opened-as m len is some-octet short none (rw e i) q
 
-      go : (a b c : Bool) → eqb (getD m 0 0) 97 ≡ a → eqb (getD m 0 0) 100 ≡ b → eqb (getD m 0 0) 103 ≡ c → Said Any none (locatedUpTo the93 m)
-      go true b c i j k = stood 97 refl (eqb-true (getD m 0 0) 97 i) (uni-said m len is some-octet short (eqb-true (getD m 0 0) 97 i))
-      go false true c i j k = stood 100 refl (eqb-true (getD m 0 0) 100 j) (end-said m len is some-octet short (eqb-true (getD m 0 0) 100 j))
-      go false false true i j k = stood 103 refl (eqb-true (getD m 0 0) 103 k) (abort-said m len is some-octet short (eqb-true (getD m 0 0) 103 k))
-      go false false false i j k = other-said m len is some-octet short (rw (i, j, k, ne-eqb (getD m 0 0) 98 begin?, ne-eqb (getD m 0 0) 101 continue?))
+      go : (u v a b c : Bool) → eqb (getD m 0 0) 98 ≡ u → eqb (getD m 0 0) 101 ≡ v → eqb (getD m 0 0) 100 ≡ a → eqb (getD m 0 0) 103 ≡ b → eqb (getD m 0 0) 97 ≡ c
+          → cond u true (cond v true (cond a false (cond b false (cond c false (constructorTag (getD m 0 0)))))) ≡ false → Said Any none (locatedUpTo the93 m)
+      go true v a b c x y i j k e = absurd (false≢true (sym e))
+      go false true a b c x y i j k e = absurd (false≢true (sym e))
+      go false false true b c x y i j k e = stood 100 refl (eqb-true (getD m 0 0) 100 i) (end-said m len is some-octet short (eqb-true (getD m 0 0) 100 i))
+      go false false false true c x y i j k e = stood 103 refl (eqb-true (getD m 0 0) 103 j) (abort-said m len is some-octet short (eqb-true (getD m 0 0) 103 j))
+      go false false false false true x y i j k e = stood 97 refl (eqb-true (getD m 0 0) 97 k) (uni-said m len is some-octet short (eqb-true (getD m 0 0) 97 k))
+      go false false false false false x y i j k e = told-as m len is some-octet short (rw (x, y, i, j, k)) none (unasked m is (unsought-of (getD m 0 0) e))
+        where
+          unasked : (l : List ℕ) → len ≡ length l → unknownTag (getD l 0 0) && not (codeZero (getD l 0 0)) ≡ false → unknownOrig the93 l ≡ none
+          unasked [] i e = absurd (omega (arith, i, some-octet))
+          unasked (a ∷ r) i e = unsought the93 a r e
 
-  module _ (any : 1 ≤ len) (short : len ≤ 255) (tag : ℕ) (first : tag ≡ getD m 0 0) (ided : Ided tag) (inner : ℕ) (entry : inner ≡ entryPlace true m 0 len tag) where
-    -- of a Begin, and of a Continue
-    by-tag : {P : Type 0} → (tag ≡ 98 → P) → (tag ≡ 101 → P) → P
-    by-tag {P} f g = go (eqb tag 98) refl ided
+  module _ (any : 1 ≤ len) (short : len ≤ 255) (tag : ℕ) (first : tag ≡ getD m 0 0) (ided : idSought tag ≡ true) (inner : ℕ) (entry : inner ≡ entryPlace true m 0 len tag) where
+    -- of a Begin, of a Continue, and of what is no message
+    by-tag : {P : Type 0} → (tag ≡ 98 → P) → (tag ≡ 101 → P) → (Strange tag → kinds .mine tag ≡ false → P) → P
+    unfolding idSought
+    by-tag {P} f g h = go (eqb tag 98) (eqb tag 101) (eqb tag 100) (eqb tag 103) (eqb tag 97) refl refl refl refl refl ided
       where
-        go : (a : Bool) → eqb tag 98 ≡ a → cond a true (eqb tag 101) ≡ true → P
-        go true i e = f (eqb-true tag 98 i)
-        go false i e = g (eqb-true tag 101 e)
+        go : (u v a b c : Bool) → eqb tag 98 ≡ u → eqb tag 101 ≡ v → eqb tag 100 ≡ a → eqb tag 103 ≡ b → eqb tag 97 ≡ c → cond u true (cond v true (cond a false (cond b false (cond c false (constructorTag tag))))) ≡ true → P
+        go true v a b c x y i j k e = f (eqb-true tag 98 x)
+        go false true a b c x y i j k e = g (eqb-true tag 101 y)
+        go false false true b c x y i j k e = absurd (false≢true e)
+        go false false false true c x y i j k e = absurd (false≢true e)
+        go false false false false true x y i j k e = absurd (false≢true e)
+        go false false false false false x y i j k e = h (strange-of tag e) (rw (x, y, i, j, k))
+
+    strange : kinds .mine tag ≡ false → (t : Option Text) → unknownOrig the93 m ≡ t → Said Any t (locatedUpTo the93 m)
+    strange mine t e = told-as m len is any short (rw (← first) mine) t e
 
     begun : tag ≡ 98 → (t : Option Text) → Said (Learnt t) t (ask (front (level 1) FaultKind.Another begins) (finite len) 0 (part m 0 len)) → Said Any t (locatedUpTo the93 m)
     begun e t q = opened-as m len is any short t (rw (← first, e)) (begin-said m len is any short (sym first ∙ e) t q)
@@ -339,8 +393,9 @@ module _ (m : List ℕ) (len : ℕ) (is : len ≡ length m) where
     unfolding constructorOf
     orig-entry f =
         told-by none (locatedUpTo the93 m) (by-tag
-        (λ e. begun e none (entry-said m len is any short (beginBody the93) 98 (omega arith, omega arith, omega arith) refl (sym first ∙ e) inner (rw e at entry) f))
-        (λ e. continued e none (entry-said m len is any short (continueBody the93) 101 (omega arith, omega arith, omega arith) refl (sym first ∙ e) inner (rw e at entry) f)))
+        (λ e. begun e none (entry-said m len is any short (Learnt none) (beginBody the93) 98 (omega arith, omega arith, omega arith) refl (sym first ∙ e) inner (rw e at entry) f))
+        (λ e. continued e none (entry-said m len is any short (Learnt none) (continueBody the93) 101 (omega arith, omega arith, omega arith) refl (sym first ∙ e) inner (rw e at entry) f))
+        (λ s mine. strange mine none (strange-entry m len is any short tag s (sym first) inner entry f)))
 
     module _ (near : Near inner) (st : ℕ) (start : st ≡ 1 + lengthSize (getD m 1 0)) (r : ℕ) (e : Reads (leafItem 0x48 idOk) m st inner r) where
       to : until inner ≤ length m
@@ -353,7 +408,8 @@ module _ (m : List ℕ) (len : ℕ) (is : len ≡ length m) where
           (λ i. begun i none (far-said m len is any short (beginBody the93) 98 (omega arith, omega arith, omega arith) refl (sym first ∙ i) inner (rw i at entry)
           (λ v. begin (v .0) (v .1 .0) (v .1 .1)) (λ o. tailBody the93) (λ v. refl) refl near st start to r e f))
           (λ i. continued i none (far-said m len is any short (continueBody the93) 101 (omega arith, omega arith, omega arith) refl (sym first ∙ i) inner (rw i at entry)
-          (λ v. continue (v .0) (v .1 .0) (v .1 .1 .0) (v .1 .1 .1)) (λ o. thenBody (level 15) destItem (tailBody the93)) (λ v. refl) refl near st start to r e f)))
+          (λ v. continue (v .0) (v .1 .0) (v .1 .1 .0) (v .1 .1 .1)) (λ o. thenBody (level 15) destItem (tailBody the93)) (λ v. refl) refl near st start to r e f))
+          (λ s mine. strange mine none (strange-far m len is any short tag s (sym first) inner entry near st start to r e f)))
 
       abbrev text : Text
       text = (st + 2, take (r - (st + 2)) (drop (st + 2) m))
@@ -370,4 +426,5 @@ module _ (m : List ℕ) (len : ℕ) (is : len ≡ length m) where
           (λ i. begun i (some text) (near-said m len is any short (beginBody the93) 98 (omega arith, omega arith, omega arith) refl (sym first ∙ i) inner (rw i at entry)
           (λ v. begin (v .0) (v .1 .0) (v .1 .1)) (λ o. tailBody the93) (λ v. refl) refl near st start to r e f))
           (λ i. continued i (some text) (near-said m len is any short (continueBody the93) 101 (omega arith, omega arith, omega arith) refl (sym first ∙ i) inner (rw i at entry)
-          (λ v. continue (v .0) (v .1 .0) (v .1 .1 .0) (v .1 .1 .1)) (λ o. thenBody (level 15) destItem (tailBody the93)) (λ v. refl) refl near st start to r e f))))
+          (λ v. continue (v .0) (v .1 .0) (v .1 .1 .0) (v .1 .1 .1)) (λ o. thenBody (level 15) destItem (tailBody the93)) (λ v. refl) refl near st start to r e f))
+          (λ s mine. strange mine (some text) (strange-near m len is any short tag s (sym first) inner entry near st start to r e f))))

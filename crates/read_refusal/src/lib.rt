@@ -1,5 +1,6 @@
 // The refusal of a message, from the number of its fault and what is told of it in the octets lent to its reader.
 ghost use mathlib.Core.Path.{_≡_};
+ghost use mathlib.Core.Bool.{true};
 ghost use Prim.Native.Nat.{_≤_};
 ghost use lib.ListN.{length, getD};
 ghost use Rattle.tcap.specs.WellFormed.{the93};
@@ -8,7 +9,7 @@ ghost use Rattle.tcap.specs.Reading.{locatedUpTo, groundOf, byOwner, answerFor}
 ghost use Rattle.read_place.specs.Places.{Far};
 ghost use Rattle.read_place.specs.Blames.{ownerIn, idIn};
 ghost use Rattle.read_message.specs.Messages.{Answers};
-ghost use Rattle.read_refusal.specs.Told.{Ided, idTold, OrigTold, Blamed, RefusedAs};
+ghost use Rattle.read_refusal.specs.Told.{constructorTag, idSought, idTold, OrigTold, Blamed, RefusedAs};
 use element::FaultKind;
 use primitive::signed_octet;
 use read_fault::kind_from;
@@ -94,9 +95,44 @@ fn answer_of(ground: Ground, out: &[u8]) -> Answer
     }
 }
 
-// The originating ID of a Begin or a Continue, if it can be read.
+// The tag of a constructor, of one octet and not 20.
+fn constructor_tag(tag: u8) -> bool
+    ensures { λ r. ⌜ r ≡ constructorTag tag ⌝ }
+{
+    if tag == 0x20 {
+        return false;
+    }
+    if tag % 32 == 31 {
+        return false;
+    }
+    tag / 32 % 2 == 1
+}
+
+// Octets with this first one may tell an originating ID: a Begin, a Continue, a constructor that is no message.
+fn id_sought(tag: u8) -> bool
+    ensures { λ r. ⌜ r ≡ idSought tag ⌝ }
+{
+    if tag == 0x62 {
+        return true;
+    }
+    if tag == 0x65 {
+        return true;
+    }
+    if tag == 0x64 {
+        return false;
+    }
+    if tag == 0x67 {
+        return false;
+    }
+    if tag == 0x61 {
+        return false;
+    }
+    constructor_tag(tag)
+}
+
+// The originating ID that stands first in such octets, if it can be read.
 fn orig_at(m: &[u8], len: usize, tag: u8) -> OptionalOrig
-    requires { ⌜ (len ≡ length (now m)) × (1 ≤ len) × (len ≤ 255) × (tag ≡ getD (now m) 0 0) × Ided tag ⌝ }
+    requires { ⌜ (len ≡ length (now m)) × (1 ≤ len) × (len ≤ 255) × (tag ≡ getD (now m) 0 0) × (idSought tag ≡ true) ⌝ }
     ensures { λ r. ⌜ OrigTold r (locatedUpTo the93 (now (m .entry))) ⌝ }
 {
     let inner = entry_asked(m, 0, len, tag);
@@ -130,10 +166,7 @@ fn orig_of(m: &[u8]) -> OptionalOrig
         return OptionalOrig::NoOrig;
     }
     let tag = m[0];
-    if tag == 0x62 {
-        return orig_at(m, len, tag);
-    }
-    if tag == 0x65 {
+    if id_sought(tag) {
         return orig_at(m, len, tag);
     }
     OptionalOrig::NoOrig
