@@ -893,6 +893,20 @@ static const uint8_t *read_parts(const struct reader *r, const uint8_t *end)
     return p;
 }
 
+/* The originating ID of an unknown type of message: a constructor, its tag one
+ * octet, and 48 first in it. Whatever fault is found here, number 8 comes over it. */
+static void read_unknown(const struct reader *r, const uint8_t *end)
+{
+    uint8_t tag = *r->msg;
+    struct contents c;
+
+    if ((tag & CONSTRUCTOR) == 0 || tag == CONSTRUCTOR || (tag & EXTENDED) == EXTENDED)
+        return;
+    c = read_length(r, r->msg, r->msg + 1, end);
+    if (c.at != NULL)
+        read_transaction(r, c.at, c.end, c.open, TAG_ORIG, &r->out->orig);
+}
+
 int plain_read(const uint8_t *msg, size_t len,
                struct plain_record *out, struct plain_refusal *no)
 {
@@ -920,11 +934,12 @@ int plain_read(const uint8_t *msg, size_t len,
             no->orig = out->orig;
             return no->number;
         default:
+            read_unknown(&r, msg + len);
             fault(&r, NO_MESSAGE, msg);
             break;
         }
     }
     answer_message(&r);
-    no->orig = none;
+    no->orig = out->orig;
     return no->number;
 }

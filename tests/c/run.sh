@@ -241,7 +241,7 @@ done
 # Did all of the vectors come through?
 if [ $vectors = yes ]; then
     one "the model gives what the vectors give" python3 "$root/tests/model/selfcheck.py" "$VECTORS"
-    read=$(grep -c '^>' "$VECTORS/read.txt")
+    read=$(cat "$VECTORS/read.txt" "$VECTORS/05-unknown/read.txt" | grep -c '^>')
     write=$(grep -c . "$VECTORS/write.jsonl")
     steer=$(grep -c . "$VECTORS/steer.jsonl")
     unitdata_read=$(grep -c . "$VECTORS/06-unitdata/read.jsonl")
