@@ -45,7 +45,40 @@ static const struct specimen specimens[] = {
     { "62 0E 48 01 05 6C 09 A1 07 02 01 01 02 02 00 7F", "refused 11 12 problem 1 component 0\n", NULL, NONE },
 };
 
+/* Unknown types of message: how long the originating ID is that the refusal tells, and where it stands. */
+static const struct unknown {
+    const char *message;
+    size_t length, place;
+} unknowns[] = {
+    { "63 03 48 01 05", 1, 4 },
+    { "63 80 48 04 05 06 07 08", 4, 4 },
+    { "63 03 48 01 05 FF FF", 1, 4 },
+    { "A1 06 48 01 05 FF FF 00", 1, 4 },
+    { "63 00", 0, 0 },
+    { "43 03 48 01 05", 0, 0 },
+    { "20 03 48 01 05", 0, 0 },
+    { "7F 21 03 48 01 05", 0, 0 },
+    { "63 03 48 02 05", 0, 0 },
+    { "63 04 48 81 01 05", 0, 0 },
+    { "63 06 49 01 09 48 01 05", 0, 0 },
+};
+
 static goldenskep_rule rules[2];
+
+static void check_unknown(const struct unknown *the)
+{
+    uint8_t message[16];
+    goldenskep_record record;
+    size_t n = octets_of(the->message, message, sizeof message);
+    uint64_t answer = goldenskep_read_record(message, n, &record);
+    goldenskep_span orig = goldenskep_answer_orig(answer);
+
+    CHECK(goldenskep_answer_status(answer) == GOLDENSKEP_STATUS_MESSAGE_TAG && goldenskep_answer_place(answer) == 0);
+    CHECK(!goldenskep_answer_is_reject(answer) && goldenskep_answer_cause(answer) == 0);
+    CHECK(goldenskep_answer_has_orig(answer) == (the->length != 0));
+    CHECK(orig.length == the->length && orig.place == the->place);
+    CHECK(goldenskep_steer_rules(message, n, rules, 2) == answer);
+}
 
 static void check_specimen(const struct specimen *the)
 {
@@ -87,6 +120,13 @@ int main(void)
         check_specimen(&specimens[i]);
         if (checks_failed != failed)
             printf("  in %s\n", specimens[i].message);
+    }
+    for (size_t i = 0; i < sizeof unknowns / sizeof unknowns[0]; i++) {
+        unsigned long failed = checks_failed;
+
+        check_unknown(&unknowns[i]);
+        if (checks_failed != failed)
+            printf("  in %s\n", unknowns[i].message);
     }
     return checks_end();
 }
