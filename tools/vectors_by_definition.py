@@ -1,7 +1,7 @@
 #!/usr/bin/env python3
 """tools/vectors_by_definition.py VECTORS [PER]: from the repository's root. Computes the definition of reading, not the code, on every
-message of VECTORS/read.txt, and holds the outcome to the vectors: for a refusal number, place, standard answer, IDs; for an accepted message
-every value of VECTORS/records.jsonl. The tables are proved statements in a crate of their own, in a folder that is removed afterwards; PER
+message of VECTORS/read.txt and VECTORS/05-unknown/read.txt, and holds the outcome to the vectors: for a refusal number, place, standard
+answer, IDs; for an accepted message every value of VECTORS/records.jsonl. The tables are proved statements in a crate of their own, in a folder that is removed afterwards; PER
 messages stand in a statement. Not in the gate: it takes minutes."""
 import json, os, shutil, subprocess, sys, tempfile
 
@@ -78,13 +78,14 @@ for line in open(os.path.join(vectors, "records.jsonl")):
     records[r["message"].upper()] = r["record"]
 
 cases, current = [], None
-for line in open(os.path.join(vectors, "read.txt")):
-    line = line.rstrip("\n")
-    if line.startswith(">"):
-        current = (line[1:].strip().upper(), [])
-        cases.append(current)
-    else:
-        current[1].append(line)
+for name in ("read.txt", "05-unknown/read.txt"):
+    for line in open(os.path.join(vectors, name)):
+        line = line.rstrip("\n")
+        if line.startswith(">"):
+            current = (line[1:].strip().upper(), [])
+            cases.append(current)
+        else:
+            current[1].append(line)
 
 SUMMARY = """-- A reading as a list of numbers. Assumes nothing.
 use Prim.Native.Nat.{ℕ}
