@@ -761,7 +761,8 @@ static inline int goldenskep_answer_has_orig(uint64_t answer)
     return goldenskep_bits_(answer, 40, 4) != 0;
 }
 
-/* Unreadable: the originating ID, in the message. */
+/* Unreadable: the originating ID, in the message. Of an unknown type of message
+ * (8) it is the 48 that stands first in it, if it is a constructor. */
 static inline goldenskep_span goldenskep_answer_orig(uint64_t answer)
 {
     goldenskep_span span;
