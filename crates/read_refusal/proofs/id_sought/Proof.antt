@@ -25,9 +25,6 @@ returns-5 : tie.Need-returns-5
 unfolding idSought
 returns-5 c = search tests
 
-constructor-tag-requires : tie.Need-constructor-tag-requires
-constructor-tag-requires c κs = search needs
-
 returns-6 : tie.Need-returns-6
 unfolding idSought
 returns-6 c = search tests
@@ -35,4 +32,4 @@ returns-6 c = search tests
 pub id-sought-spec : {M : Type 1} → statement M
 id-sought-spec =
     tie.close
-    (tie.spec returns returns-2 returns-3 returns-4 returns-5 constructor-tag-requires returns-6)
+    (tie.spec returns returns-2 returns-3 returns-4 returns-5 (λ c κs. search needs) returns-6)

@@ -10,17 +10,8 @@ returns c = search orig-long
 returns-2 : tie.Need-returns-2
 returns-2 c = search orig-empty
 
-shared-slice-read-tag : tie.Need-shared-slice-read-tag
-shared-slice-read-tag c = search needs
-
-id-sought-requires : tie.Need-id-sought-requires
-id-sought-requires c κs = search needs
-
 orig-at-requires : tie.Need-orig-at-requires
 orig-at-requires c κs = search (needs, sought-true)
-
-returns-3 : tie.Need-returns-3
-returns-3 c = search needs
 
 returns-4 : tie.Need-returns-4
 returns-4 c = search orig-other
@@ -31,8 +22,8 @@ orig-of-spec =
     (tie.spec
     returns
     returns-2
-    shared-slice-read-tag
-    id-sought-requires
+    (λ c. search needs)
+    (λ c κs. search needs)
     orig-at-requires
-    returns-3
+    (λ c. search needs)
     returns-4)
