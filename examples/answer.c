@@ -12,8 +12,8 @@
  *
  *   - Without an originating ID there is no one to answer, and the message is
  *     just discarded. That holds for End, Abort and Unidirectional, which have
- *     none; for a message whose fault comes before or in it; and for a message
- *     too long (7), in which none is looked for.
+ *     none; for a Begin or Continue whose fault comes before or in it; and for a
+ *     message too long (7), in which none is looked for.
  *   - An unknown type of message (8) is answered with an Abort, cause 0, if it
  *     is a constructor in which a sound 48 stands first: its contents are the ID.
  *   - An Abort is sent as it is.

@@ -7,7 +7,7 @@
  * link. The first rule that fits a message gives its link. Prints for each
  * message its link, or that no rule fits, or why and where it is unreadable and
  * what is sent back (answer.c makes the octets of it). An unknown type of message
- * (8) is answered as well, with an Abort of cause 0, if 48 stands first in it. */
+ * (8) is answered as well, with an Abort of cause 0, if its ID is told. */
 #include "goldenskep.h"
 #include "lines.h"
 

@@ -762,7 +762,8 @@ static inline int goldenskep_answer_has_orig(uint64_t answer)
 }
 
 /* Unreadable: the originating ID, in the message. Of an unknown type of message
- * (8) it is the 48 that stands first in it, if it is a constructor. */
+ * (8): the contents of a sound 48 that stands first in it, if it is a constructor,
+ * its tag in one octet and its length sound. */
 static inline goldenskep_span goldenskep_answer_orig(uint64_t answer)
 {
     goldenskep_span span;
