@@ -43,6 +43,7 @@ pub fn read(message: &[u8]) -> Reading
     let outcome = read_octets(message, &mut octets);
     match outcome {
         Outcome::Refused(refusal) => {
+            // count 0: no octet is looked at, and all sixteen rows are blank
             let rows = rows_in(&octets, 0);
             Reading {
                 outcome: Outcome::Refused(refusal),

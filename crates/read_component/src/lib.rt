@@ -24,7 +24,7 @@ use read_row::component_at;
 use read_row::is_component;
 
 // The invoke ID that goes with a fault of the component here: 256 and its octet, or 0.
-pub fn known_id(m: &[u8], at: usize, stop: usize) -> usize
+fn known_id(m: &[u8], at: usize, stop: usize) -> usize
     requires { ⌜ Ready (now m) at stop × (at < until stop) ⌝ }
     ensures { λ r. ⌜ KnowsId (now (m .entry)) at stop r ⌝ }
     ensures { λ r. ⌜ r < 512 ⌝ }

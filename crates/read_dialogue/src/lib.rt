@@ -1,4 +1,5 @@
 // The dialogue portion: an answer is the place behind what was read, or a fault.
+// Octets of the head (docs/LAYOUT.md): 3 the kind of dialogue, 24 the name, 32 and 40 user information, 41 result or source, 42 and 43 the diagnostic.
 ghost use mathlib.Core.Path.{_≡_};
 ghost use mathlib.Core.Bool.{true};
 ghost use Prim.Native.Nat.{_+_, _/_, _%_, _≤_, _<_};
@@ -20,6 +21,8 @@ use read_place::ANOTHER;
 use read_place::BAD_CONTENTS;
 use read_place::CUT_OFF;
 use read_place::FAULT;
+use read_place::LEFT_AT_5;
+use read_place::LEFT_AT_7;
 use read_place::MISSING;
 use read_place::OF_DIALOGUE;
 use read_place::OF_PORTION;
@@ -51,7 +54,7 @@ fn externals_at(m: &[u8], from: usize, stop: usize) -> usize
             return behind(at, stop);
         }
         if stands(m, at, stop, 0x28) {
-            let r = walk_any(m, at, stop % OPEN, 10);
+            let r = walk_any(m, at, stop % OPEN, LEFT_AT_7);
             if r >= FAULT {
                 return r;
             }
@@ -356,7 +359,7 @@ fn single_at(m: &[u8], at: usize, stop: usize, out: &mut [u8]) -> usize
     if unfinished(m, from, inner) {
         return CUT_OFF + from;
     }
-    let r = walk_any(m, from, inner % OPEN, 12);
+    let r = walk_any(m, from, inner % OPEN, LEFT_AT_5);
     if r >= FAULT {
         return r;
     }

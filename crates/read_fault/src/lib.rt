@@ -4,7 +4,7 @@ ghost use Rattle.read_fault.specs.Faults.{kindFrom};
 use element::FaultKind;
 use read_place::OPEN;
 
-// The kind of a fault; its place is the number's rest by OPEN.
+// The kind of a fault, by the blocks of read_place's constants in their order (CUT_OFF is block 2); its place is the number's rest by OPEN.
 pub fn kind_from(fault: usize) -> FaultKind
     ensures { λ r. ⌜ r ≡ kindFrom fault ⌝ }
 {

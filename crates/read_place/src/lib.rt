@@ -53,6 +53,13 @@ pub const OF_DIALOGUE: u8 = 1;
 
 pub const OF_COMPONENT: u8 = 2;
 
+// Levels left, of 16, for an element at level 4, 5 and 7.
+pub const LEFT_AT_4: usize = 13;
+
+pub const LEFT_AT_5: usize = 12;
+
+pub const LEFT_AT_7: usize = 10;
+
 // Whether contents end here.
 pub fn ended(m: &[u8], at: usize, stop: usize) -> bool
     requires { ⌜ Ready (now m) at stop ⌝ }
@@ -104,7 +111,7 @@ pub fn behind(at: usize, stop: usize) -> usize
 }
 
 // The place behind the tag here.
-pub fn tag_at(m: &[u8], at: usize, end: usize) -> usize
+fn tag_at(m: &[u8], at: usize, end: usize) -> usize
     requires { ⌜ Stands (now m) at end ⌝ }
     ensures { λ r. ⌜ r ≡ tagPlace at (tagOf (span (now (m .entry)) at end)) ⌝ }
 {
@@ -227,7 +234,8 @@ pub fn start_of(m: &[u8], from: usize) -> usize
     from + (1 + (b - 128))
 }
 
-// The fault of an element that may not stand here: `other` if it is sound.
+// What is wrong where none of the expected elements stands: the end (14), a missing end pair (1), a bad tag, code 0, else `other`.
+// The level is not asked: what the page names stands at level 8 at most.
 pub fn wrong_at(m: &[u8], at: usize, stop: usize, other: usize) -> usize
     requires { ⌜ Ready (now m) at stop × (other ≤ 1048576) ⌝ }
     ensures { λ r. ⌜ r ≡ wrongPlace (now (m .entry)) at stop other ⌝ }
@@ -377,7 +385,7 @@ pub fn count_at(m: &[u8], at: usize, stop: usize, tag: u8, most: usize) -> usize
 }
 
 // The place behind a primitive, or an empty constructor, whose tag and length take an octet each; 0 if none stands here, or no level is left.
-pub fn short_at(m: &[u8], at: usize, end: usize, left: usize) -> usize
+fn short_at(m: &[u8], at: usize, end: usize, left: usize) -> usize
     requires { ⌜ Stands (now m) at end ⌝ }
     ensures { λ r. ⌜ r ≡ shortPlace left at end (getD (now (m .entry)) at 0) (getD (now (m .entry)) (at + 1) 0) ⌝ }
 {
@@ -455,7 +463,7 @@ pub fn walk_element(m: &[u8], at: usize, end: usize, left: usize) -> usize
 }
 
 // Elements to the end of their contents.
-pub fn walk_series(m: &[u8], from: usize, stop: usize, left: usize) -> usize
+fn walk_series(m: &[u8], from: usize, stop: usize, left: usize) -> usize
     requires { ⌜ Ready (now m) from stop ⌝ }
     ensures { λ r. ⌜ WalkedOut (finite stop) from (until stop) (seriesWalk 0 left (finite stop) from (part (now (m .entry)) from stop)) r ⌝ }
 {

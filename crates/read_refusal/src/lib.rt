@@ -144,6 +144,7 @@ fn orig_at(m: &[u8], len: usize, tag: u8) -> OptionalOrig
     if r >= FAULT {
         return OptionalOrig::NoOrig;
     }
+    // 48 and its length take an octet each: an ID has at most 4
     let place = first + 2;
     let size = r - place;
     OptionalOrig::Orig(OrigTransactionId(TransactionId {

@@ -17,6 +17,8 @@ use read_part::parameter_at;
 use read_part::problem_at;
 use read_part::reject_id_at;
 use read_place::FAULT;
+use read_place::LEFT_AT_4;
+use read_place::LEFT_AT_5;
 use read_place::OPEN;
 use read_place::UNKNOWN_COMPONENT;
 use read_place::behind;
@@ -54,9 +56,9 @@ fn linked_at(m: &[u8], at: usize, stop: usize, row: &mut [u8]) -> usize
         }
         row[3] = 1;
         row[4] = m[at + 2];
-        return coded_at(m, r, stop, 13, false, row);
+        return coded_at(m, r, stop, LEFT_AT_4, false, row);
     }
-    coded_at(m, at, stop, 13, false, row)
+    coded_at(m, at, stop, LEFT_AT_4, false, row)
 }
 
 // The contents of an Invoke.
@@ -82,7 +84,7 @@ fn error_at(m: &[u8], at: usize, stop: usize, row: &mut [u8]) -> usize
     if r >= FAULT {
         return r;
     }
-    coded_at(m, r, stop, 13, false, row)
+    coded_at(m, r, stop, LEFT_AT_4, false, row)
 }
 
 // Code and parameter in 30, or nothing: what stands behind the invoke ID of a result.
@@ -98,7 +100,7 @@ fn result_at(m: &[u8], at: usize, stop: usize, row: &mut [u8]) -> usize
     if inner >= FAULT {
         return inner;
     }
-    let r = coded_at(m, start_of(m, at + 1), inner, 12, true, row);
+    let r = coded_at(m, start_of(m, at + 1), inner, LEFT_AT_5, true, row);
     if r >= FAULT {
         return r;
     }

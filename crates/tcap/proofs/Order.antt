@@ -44,6 +44,7 @@ faults =
     -- a length that is not sound, of either element
     ∷ (hex "63 04 48 01 05", refuses 8 0 OptionalOrig.NoOrig (cause 0))
     ∷ (hex "63 81 03 48 01 05", refuses 8 0 OptionalOrig.NoOrig (cause 0))
+    ∷ (hex "63 FF 48 01 05", refuses 8 0 OptionalOrig.NoOrig (cause 0))
     ∷ (hex "63 03 48 02 05", refuses 8 0 OptionalOrig.NoOrig (cause 0))
     ∷ (hex "63 02 48 01 05", refuses 8 0 OptionalOrig.NoOrig (cause 0))
     ∷ (hex "63 04 48 81 01 05", refuses 8 0 OptionalOrig.NoOrig (cause 0))

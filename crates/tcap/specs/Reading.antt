@@ -29,6 +29,7 @@ foremost b (head a u indefinite) p part = next (ask b false (p + u) (drop u part
 abbrev pub idFirst : Rules → Body (Originating Text)
 idFirst rules = place (levelAt rules 2) none (origItem .mine) FaultKind.Another (λ d. origItem .contents)
 
+-- 20 is not asked here: `ask` refuses code 0 before
 abbrev pub unknownTag : ℕ → Bool
 unknownTag a = constructorOf a && not (extendedOf a)
 

@@ -7,7 +7,7 @@ use Rattle.base.specs.{Number.numberFrom}
 use Rattle.primitive.specs.{Primitive.signedOf}
 use Rattle.element.specs.{Form.fewestOf, Element.IsTag, Element.constructorOf, Element.codeZero, Element.extendedOf, Element.Definitely, Element.Endlessly, Fault.Text, Fault.Owner, Fault.portion, Fault.dialogue as theDialogue, Fault.component as theComponent, Fault.Fault, Fault.fault, Fault.numberOf, Head.endOf, declared.FaultKind.FaultKind, declared.EndRead.EndRead}
 use Rattle.tcap.specs.{declared.OptionalOrig.OptionalOrig, declared.Refusal.Refusal, Meaning.orig, Record.origField, Standard.Standard, Due.Parts, Due.end, Due.must, Due.Holds, Due.octets, Due.origId, Due.invokeId, Due.parts, Due.dialogue, Due.message, Due.find, Due.due, Due.behind, Due.mayEnd, Due.someMay, Due.position, Due.passes, Due.contentsOf}
-use Rattle.tcap.specs.WellFormed.{Rules, the93}
+use Rattle.tcap.specs.WellFormed.{Rules}
 
 -- Octets that are right
 
@@ -154,7 +154,7 @@ pub data Found (rules : Rules) (m : List ℕ) : Fault → Type 0 where
   found : {l p : ℕ} {d : Bool} {r : Parts} {c o w : Owner} {i : Option ℤ} {t : Option Text} {k : FaultKind} {part : List ℕ} → Trail rules m l d r (known c o i t) p part → Wrong rules l d r part c (whose (position r) o) k w → Found rules m (fault k p w i t)
   after : {n a : ℕ} {h : Holds} {r : Parts} {x : Text} {t : Option Text} → find message a ≡ some h → contentsOf h ≡ some r → Right rules 1 a h 0 m n x → (n ≡ length m → ⊥) → OrigOf rules r x t → Found rules m (fault FaultKind.OctetsAfter n portion none t)
 
--- octets that begin with a constructor whose tag is one octet and whose length is sound: the place of its contents, and these (of an indefinite one,
+-- octets that begin with a constructor, not of code 0, whose tag is one octet and whose length is sound: the place of its contents, and these (of an indefinite one,
 -- to the end of the octets)
 pub data Opens (m : List ℕ) : Text → Type 0 where
   opens : {a u n : ℕ} → constructorOf a ≡ true → extendedOf a ≡ false → Definitely m a u n → Opens m (u, take n (drop u m))

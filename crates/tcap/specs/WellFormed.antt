@@ -18,7 +18,7 @@ mostComponents = 16
 abbrev pub deepestLevel : ℕ
 deepestLevel = 16
 
--- the rules that a message is read and written by: every definition and law is over them
+-- the rules that a message is read by and a meaning is well-formed by: the definitions of both, and the laws between them, take them
 pub record Rules : Type 0 where
   pub limit : ℕ
 
@@ -90,7 +90,7 @@ OrigOk (orig i) = idOk i ≡ true
 abbrev pub DestOk : Destination (List ℕ) → Type 0
 DestOk (dest i) = idOk i ≡ true
 
--- with so many levels, of which the fixed parts of a message need 8
+-- by these rules; the fixed parts of a message need 8 levels
 unfoldable pub WellFormedUpTo : Rules → Meaning → Type 0
 WellFormedUpTo rules (unidirectional d cs) = Maybe (DialogueOk rules) d × (1 ≤ length cs) × ComponentsOk rules cs
 WellFormedUpTo rules (begin o d cs) = OrigOk o × Maybe (DialogueOk rules) d × ComponentsOk rules cs

@@ -127,7 +127,7 @@ fn kind_in(tag: u8, part: &[u8]) -> ComponentKind
 }
 
 // The row that the octets stand for, whether they are one or not.
-pub fn row_in(part: &[u8]) -> Row
+fn row_in(part: &[u8]) -> Row
     requires { ⌜ 24 ≤ length (now part) ⌝ }
     ensures { λ r. ⌜ r ≡ rowIn (now (part .entry)) ⌝ }
 {

@@ -28,7 +28,7 @@ module _ (m : List ℕ) where
   returnedForm Returned.Bare = exactly []
   returnedForm (Returned.Both c p) = around 0x30 (then (codeForm c) (exactly (octetsIn m p)))
 
-  -- tag of a component, and its contents
+  -- the tag of a component
   abbrev pub rowTag : ComponentKind → ℕ
   rowTag (ComponentKind.Invoke l c p) = 0xA1
   rowTag (ComponentKind.ResultLast r) = 0xA2
@@ -63,7 +63,7 @@ module _ (m : List ℕ) where
   infoForm OptionalSpan.Absent = exactly []
   infoForm (OptionalSpan.Present s) = around 0xBE (exactly (octetsIn m s))
 
-  -- the fields of a request or unidialogue, of a response, of an abort
+  -- A0 and 60 around the fields of a request or a unidialogue
   abbrev pub askedForm : Span → OptionalSpan → Form
   askedForm n u = around 0xA0 (around 0x60 (then versionForm (then (contextForm (octetsIn m n)) (infoForm u))))
 

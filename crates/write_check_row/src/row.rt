@@ -155,7 +155,7 @@ fn rest_judged(tag: u8, part: &[u8], material: &[u8]) -> Judged
 }
 
 // One component; its ID may be null in a Reject alone.
-pub fn row_judged(part: &[u8], material: &[u8]) -> Judged
+fn row_judged(part: &[u8], material: &[u8]) -> Judged
     requires { ⌜ 24 ≤ length (now part) ⌝ }
     ensures { λ r. ⌜ r ≡ listed (isRow (now (part .entry))) (rowJudged (now (material .entry)) (rowIn (now (part .entry)))) ⌝ }
 {
