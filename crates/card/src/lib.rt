@@ -1,4 +1,4 @@
-// The calls for C, on octets and numbers: docs/LAYOUT.md. Each is what the crate of its name proves.
+// The calls for C, on octets and numbers: docs/LAYOUT.md. Each is one call, of the function that is proved in the crate it names.
 ghost use mathlib.Core.Path.{_≡_};
 ghost use Rattle.c_read.specs.Read.{readAnswer, readRoom};
 ghost use Rattle.c_write.specs.Write.{writeAnswer};
