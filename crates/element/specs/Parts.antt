@@ -4,7 +4,7 @@ use Prim.Native.Nat.{ℕ, zero, suc, _+_}
 use mathlib.Core.{Bool.Bool, Bool.true, Bool.false, Bool._||_, Bool.cond, List.List, List.[], List._∷_, Option.Option, Option.Option·map, Option.none, Option.some}
 use lib.{ListN.length, ListN.take, ListN.drop, Dec.eqb, IntN.ℤ}
 use Rattle.primitive.specs.{Primitive.signedOf, Primitive.integerOk}
-use Rattle.element.specs.{Fault.Text, Fault.Fault, Fault.at, Ask.Got, Ask.got, Ask.bad, Ask.next, Ask.check, Ask.blamed, Ask.Size, Ask.definite, Ask.indefinite, Ask.Head, Ask.head, Ask.Body, Ask.ask, declared.FaultKind.FaultKind}
+use Rattle.element.specs.{Fault.Text, Fault.Fault, Fault.at, Ask.Got, Ask.got, Ask.next, Ask.check, Ask.blamed, Ask.definite, Ask.indefinite, Ask.Head, Ask.head, Ask.Body, Ask.ask, declared.FaultKind.FaultKind}
 
 -- one kind of element: its first octets, and how its contents are read from its head, its place and the part that it begins
 pub record Item (A : Type 0) : Type 0 where

@@ -1,7 +1,7 @@
 -- Contents of primitives: document 01, "Numbers". Signed integers in the fewest octets, object identifiers.
 -- Assumes nothing: these are definitions.
 use Prim.Native.Nat.{ℕ, zero, suc, _-_}
-use mathlib.Core.{Bool.Bool, Bool.true, Bool.false, Bool.cond, Bool.not, Bool._&&_, List.List, List.[], List._∷_}
+use mathlib.Core.{Bool.Bool, Bool.true, Bool.cond, Bool.not, Bool._&&_, List.List, List.[], List._∷_}
 use lib.{ListN.length, ListN.getD, Dec.ltb, Dec.leb, Dec.eqb, IntN.ℤ}
 use Rattle.base.specs.{Number.numberFrom, Number.octetsIn, Number.topOf, Number.signedAt, Number.bitsAt, Number.holds, Value.same}
 

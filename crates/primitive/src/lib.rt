@@ -11,6 +11,11 @@ ghost use Rattle.base.specs.Value.{same};
 ghost use Rattle.primitive.specs.Primitive.{mostIntegerOctets, integerOctets, signedOf, beginsAt, identifierOk};
 ghost use Rattle.primitive.specs.Answers.{integerOf};
 
+// The most octets of a signed integer, and of an object identifier.
+pub const MOST_INTEGER_OCTETS: usize = 4;
+
+pub const MOST_IDENTIFIER_OCTETS: usize = 16;
+
 // Contents, read as a signed integer.
 pub enum IntegerRead {
     Value(i32),
@@ -179,7 +184,7 @@ pub fn identifier_ok(contents: &[u8]) -> bool
     if contents.len() < 1 {
         return false;
     }
-    if contents.len() > 16 {
+    if contents.len() > MOST_IDENTIFIER_OCTETS {
         return false;
     }
     let mut at = 0;

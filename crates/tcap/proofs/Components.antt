@@ -26,7 +26,7 @@ use Rattle.element.proofs.Walker.{element-laws}
 use Rattle.element.proofs.Integers.{integer-laws}
 use Rattle.tcap.specs.declared.{Problem.Problem}
 use Rattle.tcap.specs.Meaning.{Code, local, global, Component, invoke, last, notLast, error, reject, octet, integer, codeForm, problemForm, holding, idOrNull, componentForm}
-use Rattle.tcap.specs.WellFormed.{Rules, leftAt, mostComponents, InvokeIdOk, CodeOk, ProblemOk, BothOk, ComponentOk}
+use Rattle.tcap.specs.WellFormed.{Rules, leftAt, mostComponents, mostGeneralProblem, mostInvokeProblem, mostResultProblem, mostErrorProblem, InvokeIdOk, CodeOk, ProblemOk, BothOk, ComponentOk}
 use Rattle.tcap.specs.Productions.{single?, octetItem, idItem, nameItem, codeItem, problemItem, idOrNullItem, noted, levelAt, parameterItem, codeBody, invokeBody, bothItem, resultBody, errorBody, rejectBody, componentItem, componentAt, componentsItem}
 use Rattle.tcap.proofs.Strings.{octetsOf, codeAs, bothAs, componentAs}
 
@@ -79,7 +79,9 @@ code-laws =
 abbrev pub AtMost : ℕ → ℕ → Type 0
 AtMost most n = leb n most ≡ true
 
-problem-kinds : (a : Problem) → ProblemOk a → Image Problem.General (AtMost 2) a ⊎ (Image Problem.OfInvoke (AtMost 7) a ⊎ (Image Problem.OfResult (AtMost 2) a ⊎ Image Problem.OfError (AtMost 4) a))
+problem-kinds : (a : Problem) → ProblemOk a → 
+    Image Problem.General (AtMost mostGeneralProblem) a
+    ⊎ (Image Problem.OfInvoke (AtMost mostInvokeProblem) a ⊎ (Image Problem.OfResult (AtMost mostResultProblem) a ⊎ Image Problem.OfError (AtMost mostErrorProblem) a))
 problem-kinds (Problem.General n) o = inl (n, refl, o)
 problem-kinds (Problem.OfInvoke n) o = inr (inl (n, refl, o))
 problem-kinds (Problem.OfResult n) o = inr (inr (inl (n, refl, o)))
@@ -90,8 +92,8 @@ unfolding extendedOf codeZero
 problem-laws =
     item-range problem-kinds
     (λ a. ⊎-elim (image-out ProblemOk (λ n o. o) a) (⊎-elim (image-out ProblemOk (λ n o. o) a) (⊎-elim (image-out ProblemOk (λ n o. o) a) (image-out ProblemOk (λ n o. o) a))))
-    (or-laws 0x80 _ _ (kind Problem.General 0x80 2 (λ n. refl) refl refl)
-    (or-laws 0x81 _ _ (kind Problem.OfInvoke 0x81 7 (λ n. refl) refl refl) (or-laws 0x82 _ _ (kind Problem.OfResult 0x82 2 (λ n. refl) refl refl) (kind Problem.OfError 0x83 4 (λ n. refl) refl refl) (λ a. refl) refl) (λ a. refl) refl)
+    (or-laws 0x80 _ _ (kind Problem.General 0x80 _ (λ n. refl) refl refl)
+    (or-laws 0x81 _ _ (kind Problem.OfInvoke 0x81 _ (λ n. refl) refl refl) (or-laws 0x82 _ _ (kind Problem.OfResult 0x82 _ (λ n. refl) refl refl) (kind Problem.OfError 0x83 _ (λ n. refl) refl refl) (λ a. refl) refl) (λ a. refl) refl)
     (λ a. refl) refl)
   where
     kind : (f : ℕ → Problem) (t most : ℕ) → ((n : ℕ) → problemForm (f n) ≡ octet t n) → extendedOf t ≡ false → codeZero t ≡ false → ItemLaws (mapItem f (octetItem t most)) id problemForm (Image f (AtMost most))

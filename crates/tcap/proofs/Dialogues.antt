@@ -22,7 +22,7 @@ use Rattle.element.proofs.Joins.{map-body-laws, or-laws, item-range, item-form,
 use Rattle.element.proofs.Walker.{element-laws, element-tag-laws, enough-laws}
 use Rattle.tcap.specs.declared.{Diagnostic.Diagnostic}
 use Rattle.tcap.specs.Meaning.{Dialogue, request, unidialogue, response, aborted, single, octets, octet, structured, unstructured, version, versionForm, contextForm, infoForm, sourceForm, dialogueForm}
-use Rattle.tcap.specs.WellFormed.{Rules, leftAt, SourceOk, Outside, DialogueOk}
+use Rattle.tcap.specs.WellFormed.{Rules, leftAt, mostResult, mostUserDiagnostic, mostProviderDiagnostic, mostAbortSource, SourceOk, Outside, DialogueOk}
 use Rattle.tcap.specs.Productions.{octetItem, nameItem, versionBody, levelAt, parameterItem, infoBody, contextItem, askedItem, numberItem, sourceItem, answeredItem, abortedItem, heldItem, externalBody, inside6B, dialogueItem}
 use Rattle.tcap.proofs.Strings.{octetsOf, dialogueAs}
 use Rattle.tcap.proofs.Components.{id, AtMost, octet-laws, name-laws, deep-at}
@@ -145,7 +145,7 @@ module _ (rules : Rules) (big : 8 ≤ rules .limit) where
   unfolding extendedOf codeZero
   holding-laws t most l h e z c = around-laws t _ (λ n. only-laws (levelAt rules l) (octetItem 0x02 most) id (octet 0x02) (AtMost most) n (octet-laws 0x02 most refl refl) (at l h)) e z c
 
-  source-kinds : (s : Diagnostic) → SourceOk s → Image Diagnostic.ByUser (AtMost 2) s ⊎ Image Diagnostic.ByProvider (AtMost 2) s
+  source-kinds : (s : Diagnostic) → SourceOk s → Image Diagnostic.ByUser (AtMost mostUserDiagnostic) s ⊎ Image Diagnostic.ByProvider (AtMost mostProviderDiagnostic) s
   source-kinds (Diagnostic.ByUser n) o = inl (n, refl, o)
   source-kinds (Diagnostic.ByProvider n) o = inr (n, refl, o)
 
@@ -154,8 +154,8 @@ module _ (rules : Rules) (big : 8 ≤ rules .limit) where
   source-laws =
       around-laws 0xA3 _ (λ n. only-laws (levelAt rules 7) _ id sourceForm SourceOk n
       (item-range source-kinds (λ s. ⊎-elim (image-out SourceOk (λ n o. o) s) (image-out SourceOk (λ n o. o) s))
-      (or-laws 0xA1 _ _ (image-laws Diagnostic.ByUser Diagnostic.ByUser id id (λ v. refl) _ sourceForm (AtMost 2) (λ n o. refl) _ (holding-laws 0xA1 2 8 (omega arith) refl refl refl))
-      (image-laws Diagnostic.ByProvider Diagnostic.ByProvider id id (λ v. refl) _ sourceForm (AtMost 2) (λ n o. refl) _ (holding-laws 0xA2 2 8 (omega arith) refl refl refl)) (λ a. refl) refl))
+      (or-laws 0xA1 _ _ (image-laws Diagnostic.ByUser Diagnostic.ByUser id id (λ v. refl) _ sourceForm _ (λ n o. refl) _ (holding-laws 0xA1 _ 8 (omega arith) refl refl refl))
+      (image-laws Diagnostic.ByProvider Diagnostic.ByProvider id id (λ v. refl) _ sourceForm _ (λ n o. refl) _ (holding-laws 0xA2 _ 8 (omega arith) refl refl refl)) (λ a. refl) refl))
       (at 7 (omega arith))) refl refl refl
 
   abbrev Answered : Type 0
@@ -168,7 +168,7 @@ module _ (rules : Rules) (big : 8 ≤ rules .limit) where
   answeredForm = thenForms contextForm (λ a. thenForms (λ n. around 0xA2 (octet 0x02 n)) (λ b. thenForms (λ s. around 0xA3 (sourceForm s)) (λ c. infoForm)))
 
   abbrev AnsweredOk : Answered → Type 0
-  AnsweredOk = thenOks NameOk (λ a. thenOks (AtMost 1) (λ b. thenOks SourceOk (λ c. Maybe InfoOk)))
+  AnsweredOk = thenOks NameOk (λ a. thenOks (AtMost mostResult) (λ b. thenOks SourceOk (λ c. Maybe InfoOk)))
 
   answered-laws : ItemLaws (answeredItem rules) dialogueMeaning pduForm (Image answered AnsweredOk)
   unfolding extendedOf codeZero constructorOf
@@ -178,7 +178,7 @@ module _ (rules : Rules) (big : 8 ≤ rules .limit) where
       (λ v. then versionForm (answeredForm v)) insideForm AnsweredOk (λ v o. refl) n _
       (version-laws n _ (pairs octetsOf (pairs id (pairs id (Option·map octetsOf)))) answeredForm AnsweredOk
       (bind-laws (levelAt rules 6) silently (contextItem rules) _ octetsOf _ contextForm _ NameOk _ n context-laws
-      (λ u. bind-laws (levelAt rules 6) silently (numberItem rules 0xA2 7 1) _ id _ (λ n. around 0xA2 (octet 0x02 n)) _ (AtMost 1) _ n (holding-laws 0xA2 1 7 (omega arith) refl refl refl)
+      (λ u. bind-laws (levelAt rules 6) silently _ _ id _ (λ n. around 0xA2 (octet 0x02 n)) _ _ _ n (holding-laws 0xA2 _ 7 (omega arith) refl refl refl)
       (λ v. bind-laws (levelAt rules 6) silently (sourceItem rules) _ id (Option·map octetsOf) (λ s. around 0xA3 (sourceForm s)) (λ c. infoForm) SourceOk (λ c. Maybe InfoOk) n source-laws (λ w. info-laws n) (at 6 (omega arith)))
       (at 6 (omega arith))) (at 6 (omega arith)))
       refl (at 6 (omega arith)) refl)) refl refl refl
@@ -187,14 +187,14 @@ module _ (rules : Rules) (big : 8 ≤ rules .limit) where
   stopped v = aborted (v .0) (v .1)
 
   abbrev StoppedOk : ℕ × Option (List ℕ) → Type 0
-  StoppedOk = thenOks (AtMost 1) (λ a. Maybe InfoOk)
+  StoppedOk = thenOks (AtMost mostAbortSource) (λ a. Maybe InfoOk)
 
   aborted-laws : ItemLaws (abortedItem rules) dialogueMeaning pduForm (Image stopped StoppedOk)
   unfolding extendedOf codeZero constructorOf
   aborted-laws =
       pdu-laws 0x64 _ stopped StoppedOk (λ v. refl)
       (λ n. image-body-laws (λ v. aborted (v .0) (v .1)) stopped (pairs id (Option·map octetsOf)) dialogueMeaning (λ v. refl) (thenForms (octet 0x80) (λ a. infoForm)) insideForm StoppedOk (λ v o. refl) n _
-      (bind-laws (levelAt rules 6) silently (octetItem 0x80 1) _ id (Option·map octetsOf) (octet 0x80) (λ a. infoForm) (AtMost 1) (λ a. Maybe InfoOk) n (octet-laws 0x80 1 refl refl) (λ v. info-laws n) (at 6 (omega arith)))) refl refl refl
+      (bind-laws (levelAt rules 6) silently _ _ id (Option·map octetsOf) (octet 0x80) (λ a. infoForm) _ (λ a. Maybe InfoOk) n (octet-laws 0x80 _ refl refl) (λ v. info-laws n) (at 6 (omega arith)))) refl refl refl
 
   -- what stands behind the name n
   abbrev requested : List ℕ × Option (List ℕ) → Dialogue (List ℕ)

@@ -18,7 +18,7 @@ use Rattle.element.specs.Parts.{Item, leafItem, aroundItem, thenBody, onlyBody,
 use Rattle.element.specs.Walk.{elementOf, anyTag, walkContents}
 use Rattle.tcap.specs.declared.{Problem.Problem, Diagnostic.Diagnostic}
 use Rattle.tcap.specs.Meaning.{local, global, Dialogue, request, unidialogue, response, aborted, single, octets as kept, structured, unstructured, version}
-use Rattle.tcap.specs.WellFormed.{Rules, leftAt}
+use Rattle.tcap.specs.WellFormed.{Rules, leftAt, mostUserDiagnostic, mostProviderDiagnostic}
 use Rattle.tcap.specs.Productions.{single?, octetItem, nameItem, codeItem, problemItem, versionBody, levelAt, parameterItem, infoBody, contextItem, askedItem, numberItem, sourceItem, answeredItem, abortedItem, heldItem, externalBody}
 use Rattle.tcap.specs.Due.{Parts, end, must, may, many, Choice, tag, either, any, Holds, octets, parts, code, problem, information, version as versionOne, context, number, asked, answered, aborted as stopped, named, external, find, position}
 use Rattle.tcap.specs.Refused.{another}
@@ -67,8 +67,8 @@ module _ (rules : Rules) (m : List ℕ) {w : Owner} {i : Option ℤ} {t : Option
   pub problem-z : {l : ℕ} → ItemZ problemItem l problem
   unfolding constructorOf
   problem-z =
-      or-finds rules m (quietly rules m Problem.General (octet-z 0x80 2 refl))
-      (or-finds rules m (quietly rules m Problem.OfInvoke (octet-z 0x81 7 refl)) (or-finds rules m (quietly rules m Problem.OfResult (octet-z 0x82 2 refl)) (quietly rules m Problem.OfError (octet-z 0x83 4 refl))))
+      or-finds rules m (quietly rules m Problem.General (octet-z 0x80 _ refl))
+      (or-finds rules m (quietly rules m Problem.OfInvoke (octet-z 0x81 _ refl)) (or-finds rules m (quietly rules m Problem.OfResult (octet-z 0x82 _ refl)) (quietly rules m Problem.OfError (octet-z 0x83 _ refl))))
 
   -- Contents at level l
 
@@ -120,18 +120,18 @@ module _ (rules : Rules) (m : List ℕ) {w : Owner} {i : Option ℤ} {t : Option
   unfolding constructorOf
   number-z a l most low = around-z l a (only-z (suc l) (omega arith) refl (octet-z 0x02 most refl))
 
-  source-z : ItemZ (sourceItem rules) 6 (tag 0xA3 (parts (must (either (number 0xA1 2) (number 0xA2 2)) end)))
-  source-z = around-z 6 0xA3 (only-z 7 (omega arith) refl (or-finds rules m (quietly rules m Diagnostic.ByUser (number-z 0xA1 7 2 (omega arith))) (quietly rules m Diagnostic.ByProvider (number-z 0xA2 7 2 (omega arith)))))
+  source-z : ItemZ (sourceItem rules) 6 (tag 0xA3 (parts (must (either (number 0xA1 mostUserDiagnostic) (number 0xA2 mostProviderDiagnostic)) end)))
+  source-z = around-z 6 0xA3 (only-z 7 (omega arith) refl (or-finds rules m (quietly rules m Diagnostic.ByUser (number-z 0xA1 7 _ (omega arith))) (quietly rules m Diagnostic.ByProvider (number-z 0xA2 7 _ (omega arith)))))
 
   answered-z : ItemZ (answeredItem rules) 5 answered
   answered-z =
       around-z 5 0x61
       (λ room. map-body-finds rules m (omega arith) (λ v. response (v .0) (v .1 .0) (v .1 .1 .0) (v .1 .1 .1))
-      (version-z refl refl refl (then-z 6 (omega arith) refl context-z (then-z 6 (omega arith) refl (number-z 0xA2 6 1 (omega arith)) (then-z 6 (omega arith) refl source-z info-z))) room))
+      (version-z refl refl refl (then-z 6 (omega arith) refl context-z (then-z 6 (omega arith) refl (number-z 0xA2 6 _ (omega arith)) (then-z 6 (omega arith) refl source-z info-z))) room))
 
   aborted-z : ItemZ (abortedItem rules) 5 stopped
   unfolding constructorOf
-  aborted-z = around-z 5 0x64 (λ room. map-body-finds rules m (omega arith) (λ v. aborted (v .0) (v .1)) (then-z 6 (omega arith) refl (octet-z 0x80 1 refl) info-z room))
+  aborted-z = around-z 5 0x64 (λ room. map-body-finds rules m (omega arith) (λ v. aborted (v .0) (v .1)) (then-z 6 (omega arith) refl (octet-z 0x80 _ refl) info-z room))
 
   held-z : (n : Text) (s u : Bool) → ItemZ (heldItem rules n s u) 4 (named s u)
   unfolding constructorOf

@@ -120,7 +120,7 @@ module _ (rules : Rules) (m : List ℕ) where
       map-body-tells rules m (omega arith) (λ v. abort (v .0) (Option·getD (v .1) silent)) (λ v x _. told-by refl (without refl) (λ k p. refl))
       (then-finds rules m (omega arith) (levelAt rules 2) room refl (at2 none (λ f. f) bare) (dests none (λ f. f) bare)
       (last-finds rules m (omega arith) (levelAt rules 2) room refl (at2 none (λ f. f) bare)
-      (or-finds rules m (quietly rules m cause (octet-z rules m (record { said = λ k p. refl }) 0x4A 4 refl)) (quietly rules m says (dialogue-finds rules m none (λ f. f) bare)))))
+      (or-finds rules m (quietly rules m cause (octet-z rules m (record { said = λ k p. refl }) 0x4A _ refl)) (quietly rules m says (dialogue-finds rules m none (λ f. f) bare)))))
 
   message-at : {b : Body (Message Text)} (a : ℕ) (r : Parts) → ((n : ℕ) → BodyTells rules m b 2 n r portion portion none none (λ f. f) (Of r)) → ItemFinds rules m (aroundItem a b) 1 (tag a (parts r)) portion none none (λ f. f) (λ v g x. Tells g v x)
   message-at a r s =

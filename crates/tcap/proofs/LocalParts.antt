@@ -70,8 +70,8 @@ module _ (l : ℕ) where
   problems : ItemLocal l problemItem
   unfolding constructorOf
   problems =
-      or-local (map-local Problem.General (octets-of 0x80 2 refl))
-      (or-local (map-local Problem.OfInvoke (octets-of 0x81 7 refl)) (or-local (map-local Problem.OfResult (octets-of 0x82 2 refl)) (map-local Problem.OfError (octets-of 0x83 4 refl))))
+      or-local (map-local Problem.General (octets-of 0x80 _ refl))
+      (or-local (map-local Problem.OfInvoke (octets-of 0x81 _ refl)) (or-local (map-local Problem.OfResult (octets-of 0x82 _ refl)) (map-local Problem.OfError (octets-of 0x83 _ refl))))
 
   ids-or-null : ItemLocal l idOrNullItem
   unfolding constructorOf
@@ -146,17 +146,17 @@ module _ (rules : Rules) where
   sources : ItemLocal (leftAt rules 6) (sourceItem rules)
   sources =
       around-local (leftAt rules 6) 0xA3
-      (only-local (levelAt rules 7) plainly (or-local (map-local Diagnostic.ByUser (numbers (leftAt rules 7) 0xA1 8 2)) (map-local Diagnostic.ByProvider (numbers (leftAt rules 7) 0xA2 8 2))))
+      (only-local (levelAt rules 7) plainly (or-local (map-local Diagnostic.ByUser (numbers (leftAt rules 7) 0xA1 8 _)) (map-local Diagnostic.ByProvider (numbers (leftAt rules 7) 0xA2 8 _))))
 
   answereds : ItemLocal (leftAt rules 5) (answeredItem rules)
   answereds =
       around-local (leftAt rules 5) 0x61
       (map-body-local (λ v. response (v .0) (v .1 .0) (v .1 .1 .0) (v .1 .1 .1))
-      (versions (then-local (levelAt rules 6) plainly contexts (then-local (levelAt rules 6) plainly (numbers (leftAt rules 6) 0xA2 7 1) (then-local (levelAt rules 6) plainly sources infos)))))
+      (versions (then-local (levelAt rules 6) plainly contexts (then-local (levelAt rules 6) plainly (numbers (leftAt rules 6) 0xA2 7 _) (then-local (levelAt rules 6) plainly sources infos)))))
 
   aborteds : ItemLocal (leftAt rules 5) (abortedItem rules)
   unfolding constructorOf
-  aborteds = around-local (leftAt rules 5) 0x64 (map-body-local (λ v. aborted (v .0) (v .1)) (then-local (levelAt rules 6) plainly (octets-of (leftAt rules 6) 0x80 1 refl) infos))
+  aborteds = around-local (leftAt rules 5) 0x64 (map-body-local (λ v. aborted (v .0) (v .1)) (then-local (levelAt rules 6) plainly (octets-of (leftAt rules 6) 0x80 _ refl) infos))
 
   helds : (n : Text) (s u : Bool) → ItemLocal (leftAt rules 4) (heldItem rules n s u)
   unfolding constructorOf
@@ -194,7 +194,7 @@ module _ (rules : Rules) where
   unfolding constructorOf
   aborts =
       map-body-local (λ v. abort (v .0) (Option·getD (v .1) silent))
-      (then-local (levelAt rules 2) plainly (dests (leftAt rules 2)) (last-local (levelAt rules 2) plainly (or-local (map-local cause (octets-of (leftAt rules 2) 0x4A 4 refl)) (map-local says dialogues))))
+      (then-local (levelAt rules 2) plainly (dests (leftAt rules 2)) (last-local (levelAt rules 2) plainly (or-local (map-local cause (octets-of (leftAt rules 2) 0x4A _ refl)) (map-local says dialogues))))
 
   pub messages : ItemLocal (rules .limit) (messageItem rules)
   messages =

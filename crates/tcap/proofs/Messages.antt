@@ -17,7 +17,7 @@ use Rattle.element.specs.Parts.{aroundItem, mapItem, thenBody, bindBody, silent
 use Rattle.element.proofs.Insides.{ItemLaws, BodyLaws, leaf-laws, around-laws}
 use Rattle.element.proofs.Joins.{map-body-laws, or-laws, item-range, item-form, Image, image-out, image-laws, image-body-laws, pairs, thenForms, thenOks, bind-laws, only-laws, last-laws, optPairs, optForms, optOks, opt-laws, SeriesOk}
 use Rattle.tcap.specs.Meaning.{Originating, orig, Destination, dest, Component, Dialogue, Ending, silent, cause, says, Message, unidirectional, begin, finish, continue, abort, Meaning, octet, componentForm, componentsForm, dialogueForm, endingForm, origForm, destForm, messageForm}
-use Rattle.tcap.specs.WellFormed.{Rules, leftAt, mostComponents, idOk, ComponentOk, ComponentsOk, DialogueOk, EndingOk, OrigOk, DestOk, WellFormedUpTo}
+use Rattle.tcap.specs.WellFormed.{Rules, leftAt, mostComponents, mostCause, idOk, ComponentOk, ComponentsOk, DialogueOk, EndingOk, OrigOk, DestOk, WellFormedUpTo}
 use Rattle.tcap.specs.Productions.{octetItem, origItem, destItem, carried, levelAt, componentsItem, dialogueItem, tailBody, uniBody, beginBody, endBody, continueBody, abortBody, messageItem}
 use Rattle.tcap.proofs.Strings.{octetsOf, componentAs, dialogueAs, endingAs, origAs, destAs, messageAs, forget}
 use Rattle.tcap.proofs.Components.{AtMost, id, octet-laws, components-laws, deep-at}
@@ -173,7 +173,7 @@ module _ (rules : Rules) (big : 8 ≤ rules .limit) where
 
   -- Abort: nothing, 4A or 6B
   abbrev StopOk : Ending Octets → Type 0
-  StopOk s = Image cause (AtMost 4) s ⊎ Image says (DialogueOk rules) s
+  StopOk s = Image cause (AtMost mostCause) s ⊎ Image says (DialogueOk rules) s
 
   abbrev stopped : Destination Octets × Option (Ending Octets) → Meaning
   stopped v = abort (v .0) (orSilent (v .1))
@@ -196,7 +196,7 @@ module _ (rules : Rules) (big : 8 ≤ rules .limit) where
       image-body-laws (λ v. abort (v .0) (orSilent (v .1))) stopped (pairs (destAs octetsOf) (Option·map (endingAs octetsOf))) forget (λ v. stopped-same (v .0) (v .1)) (thenForms destForm (λ e. maybe endingForm)) insideForm StoppedOk (λ v o. stopped-form (v .0) (v .1)) n _
       (bind-laws (levelAt rules 2) silently destItem _ (destAs octetsOf) (Option·map (endingAs octetsOf)) destForm (λ e. maybe endingForm) DestOk (λ e. Maybe StopOk) n dest-laws
       (λ v. last-laws (levelAt rules 2) _ (endingAs octetsOf) endingForm StopOk n
-      (or-laws 0x4A _ _ (image-laws cause cause id (endingAs octetsOf) (λ v. refl) (octet 0x4A) endingForm (AtMost 4) (λ n o. refl) _ (octet-laws 0x4A 4 refl refl))
+      (or-laws 0x4A _ _ (image-laws cause cause id (endingAs octetsOf) (λ v. refl) (octet 0x4A) endingForm _ (λ n o. refl) _ (octet-laws 0x4A _ refl refl))
       (image-laws says says dialogueMeaning (endingAs octetsOf) (λ v. refl) dialogueForm endingForm (DialogueOk rules) (λ d o. refl) _ (dialogue-laws rules big)) (λ a. refl) refl) at-2) at-2)
 
   -- the five messages

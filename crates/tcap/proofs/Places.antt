@@ -25,7 +25,7 @@ use Rattle.element.proofs.Ends.{outer, Ends, held, failed, the-held, the-failed
 use Rattle.element.proofs.Laid.{Here, StandsAt, Laid, stop, stands-here, here-within, laid-wider, laid-append, laid-none, laid-each, nothing-ends, Claim, Keeps, Span, strung, ItemLaid, BodyLaid, leaf-laid, around-laid, kept-laid, item-weaken, map-laid, or-laid, bind-laid, only-laid, last-laid, opt-laid, map-body-laid, series-laid, series-unmarked, walk-laid}
 use Rattle.tcap.specs.declared.{Problem.Problem, Diagnostic.Diagnostic}
 use Rattle.tcap.specs.Meaning.{silent, Originating, orig, dest, Code, local, global, Component, invoke, last, notLast, error, reject, Dialogue, request, unidialogue, response, aborted, single, octets, Ending, cause, says, Message, unidirectional, begin, finish, continue, abort, structured, unstructured, version}
-use Rattle.tcap.specs.WellFormed.{Rules, mostOctets, mostComponents, leftAt, idOk, InvokeIdOk, OrigOk, WellFormedUpTo}
+use Rattle.tcap.specs.WellFormed.{Rules, mostOctets, mostComponents, mostTransactionIdOctets, mostCause, leftAt, idOk, InvokeIdOk, OrigOk, WellFormedUpTo}
 use Rattle.tcap.specs.Productions.{single?, octetItem, nameItem, codeItem, problemItem, idOrNullItem, origItem, destItem, carried, noted, versionBody, levelAt, parameterItem, codeBody, invokeBody, bothItem, resultBody, errorBody, rejectBody, componentItem, componentAt, componentsItem, infoBody, contextItem, askedItem, numberItem, sourceItem, answeredItem, abortedItem, heldItem, externalBody, inside6B, dialogueItem, tailBody, uniBody, beginBody, endBody, continueBody, abortBody, messageItem}
 use Rattle.tcap.specs.Reading.{learnt, aloneBody, unknownOrig, readFirst, locatedUpTo}
 use Rattle.tcap.proofs.Records.{Sits}
@@ -121,7 +121,7 @@ no-message m t h = record { place = omega arith; owner = tt; inner = inr refl; o
 unknown-here : (rules : Rules) (m : List ℕ) (t : Option Text) → UnknownOrig rules m t → Maybe (OrigHere m) t
 unfolding idOk
 unknown-here rules m none u = tt
-unknown-here rules m (some s) (begun w) = let b = opens-begins rules m s w in (begins-behind b, rw (le-leb 1 (length (s .1)) (b .sized .0), le-leb (length (s .1)) 4 (b .sized .1)))
+unknown-here rules m (some s) (begun w) = let b = opens-begins rules m s w in (begins-behind b, rw (le-leb 1 (length (s .1)) (b .sized .0), le-leb (length (s .1)) mostTransactionIdOctets (b .sized .1)))
 
 too-long : (m : List ℕ) → mostOctets ≤ length m → RefusedFor m (at FaultKind.Overlong mostOctets)
 unfolding numberOf
@@ -214,9 +214,9 @@ module _ (m : List ℕ) where
   problem-reads : ItemReads problemItem (λ v. [])
   unfolding extendedOf
   problem-reads =
-      or-laid (map-laid Problem.General (λ v lo hi i. i) (octet-reads 0x80 2 refl))
-      (or-laid (map-laid Problem.OfInvoke (λ v lo hi i. i) (octet-reads 0x81 7 refl))
-      (or-laid (map-laid Problem.OfResult (λ v lo hi i. i) (octet-reads 0x82 2 refl)) (map-laid Problem.OfError (λ v lo hi i. i) (octet-reads 0x83 4 refl))))
+      or-laid (map-laid Problem.General (λ v lo hi i. i) (octet-reads 0x80 _ refl))
+      (or-laid (map-laid Problem.OfInvoke (λ v lo hi i. i) (octet-reads 0x81 _ refl))
+      (or-laid (map-laid Problem.OfResult (λ v lo hi i. i) (octet-reads 0x82 _ refl)) (map-laid Problem.OfError (λ v lo hi i. i) (octet-reads 0x83 _ refl))))
 
   null-reads : ItemReads idOrNullItem (λ v. [])
   unfolding extendedOf
@@ -315,17 +315,17 @@ module _ (m : List ℕ) where
     number-reads t n most = around-laid t (only-laid (levelAt rules n) plainly (octet-reads 0x02 most refl))
 
     source-reads : ItemReads (sourceItem rules) (λ v. [])
-    source-reads = around-laid 0xA3 (only-laid (levelAt rules 7) plainly (or-laid (map-laid Diagnostic.ByUser (λ v lo hi i. i) (number-reads 0xA1 8 2)) (map-laid Diagnostic.ByProvider (λ v lo hi i. i) (number-reads 0xA2 8 2))))
+    source-reads = around-laid 0xA3 (only-laid (levelAt rules 7) plainly (or-laid (map-laid Diagnostic.ByUser (λ v lo hi i. i) (number-reads 0xA1 8 _)) (map-laid Diagnostic.ByProvider (λ v lo hi i. i) (number-reads 0xA2 8 _))))
 
     answered-reads : ItemReads (answeredItem rules) dialogueStrings
     answered-reads =
         around-laid 0x61
         (map-body-laid (λ v. response (v .0) (v .1 .0) (v .1 .1 .0) (v .1 .1 .1)) (λ v lo hi i. i)
-        (version-reads (then-reads (leftAt rules 6) context-reads (then-reads (leftAt rules 6) (number-reads 0xA2 7 1) (then-reads (leftAt rules 6) source-reads info-reads)))))
+        (version-reads (then-reads (leftAt rules 6) context-reads (then-reads (leftAt rules 6) (number-reads 0xA2 7 _) (then-reads (leftAt rules 6) source-reads info-reads)))))
 
     aborted-reads : ItemReads (abortedItem rules) dialogueStrings
     unfolding extendedOf
-    aborted-reads = around-laid 0x64 (map-body-laid (λ v. aborted (v .0) (v .1)) (λ v lo hi i. i) (then-reads (leftAt rules 6) (octet-reads 0x80 1 refl) info-reads))
+    aborted-reads = around-laid 0x64 (map-body-laid (λ v. aborted (v .0) (v .1)) (λ v lo hi i. i) (then-reads (leftAt rules 6) (octet-reads 0x80 _ refl) info-reads))
 
     held-reads : (n : Text) (s u : Bool) → ItemLaid m (claim m) (heldItem rules n s u) (Following n)
     unfolding extendedOf
@@ -373,11 +373,11 @@ module _ (m : List ℕ) where
         map-body-laid (λ v. continue (v .0) (v .1 .0) (v .1 .1 .0) (v .1 .1 .1)) (λ v lo hi i. i)
         (bind-reads (leftAt rules 2) carried orig-laws (keeps-carried m) orig-reads (then-reads (leftAt rules 2) dest-reads tail-reads))
 
-    pub stop-reads : ItemReads (orItem (mapItem cause (octetItem 0x4A 4)) (mapItem says (dialogueItem rules))) endingStrings
+    pub stop-reads : ItemReads (orItem (mapItem cause (octetItem 0x4A mostCause)) (mapItem says (dialogueItem rules))) endingStrings
     unfolding extendedOf
-    stop-reads = or-laid (map-laid cause (λ v lo hi i. i) (octet-reads 0x4A 4 refl)) (map-laid says (λ v lo hi i. i) dialogue-reads)
+    stop-reads = or-laid (map-laid cause (λ v lo hi i. i) (octet-reads 0x4A _ refl)) (map-laid says (λ v lo hi i. i) dialogue-reads)
 
-    pub ending-reads : BodyReads (lastBody (levelAt rules 2) (orItem (mapItem cause (octetItem 0x4A 4)) (mapItem says (dialogueItem rules)))) (optionStrings endingStrings)
+    pub ending-reads : BodyReads (lastBody (levelAt rules 2) (orItem (mapItem cause (octetItem 0x4A mostCause)) (mapItem says (dialogueItem rules)))) (optionStrings endingStrings)
     ending-reads = last-reads (leftAt rules 2) stop-reads
 
     abort-reads : BodyReads (abortBody rules) strings

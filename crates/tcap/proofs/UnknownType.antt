@@ -22,7 +22,7 @@ use Rattle.element.proofs.Asking.{Then, the-fact, fact, void, then-next, then-w
 use Rattle.element.proofs.Insides.{no-extension}
 use Rattle.element.proofs.Laid.{nothing-ends, Behind}
 use Rattle.tcap.specs.Meaning.{Originating, orig}
-use Rattle.tcap.specs.WellFormed.{Rules, leftAt, idOk}
+use Rattle.tcap.specs.WellFormed.{Rules, mostTransactionIdOctets, leftAt, idOk}
 use Rattle.tcap.specs.Productions.{origItem}
 use Rattle.tcap.specs.Reading.{foremost, idFirst, unknownTag, unknownBody, textOf, unknownOrig}
 use Rattle.tcap.specs.Due.{origId}
@@ -164,7 +164,7 @@ pub record BeginsWithId (m : List ℕ) (t : Text) : Type 0 where
   pub sound : StandsFor len (length contents) ⊎ ((len ≡ 0x80 ∷ []) × (rest ≡ []))
   pub starts : contents ≡ 0x48 ∷ (len48 ++ (t .1 ++ behind))
   pub sound48 : StandsFor len48 (length (t .1))
-  pub sized : (1 ≤ length (t .1)) × (length (t .1) ≤ 4)
+  pub sized : (1 ≤ length (t .1)) × (length (t .1) ≤ mostTransactionIdOctets)
   pub place : t .0 ≡ 2 + (length len + length len48)
 
 -- the head of an element whose tag is one octet
@@ -192,11 +192,11 @@ front-from part a l c rest e z s is =
     let d : drop (suc (length l)) part ≡ c ++ rest = rw is (drop-append-seam (a ∷ l) (c ++ rest)) in
     (record { ext = []; len = l; isTag = e; plain = z; stands = s; front = rw d is; used = refl; room = rw d (omega (arith, length-append c rest)) }, rw d (take-append-seam c rest))
 
-sized-of : (c : List ℕ) → leb 1 (length c) && leb (length c) 4 ≡ true → (1 ≤ length c) × (length c ≤ 4)
-sized-of c e = let k = and-eq-true-iff (leb 1 (length c)) (leb (length c) 4) .0 e in (leb-true 1 (length c) (k .0), leb-true (length c) 4 (k .1))
+sized-of : (c : List ℕ) → leb 1 (length c) && leb (length c) mostTransactionIdOctets ≡ true → (1 ≤ length c) × (length c ≤ mostTransactionIdOctets)
+sized-of c e = let k = and-eq-true-iff (leb 1 (length c)) (leb (length c) mostTransactionIdOctets) .0 e in (leb-true 1 (length c) (k .0), leb-true (length c) mostTransactionIdOctets (k .1))
 
-sized-from : (c : List ℕ) → (1 ≤ length c) × (length c ≤ 4) → leb 1 (length c) && leb (length c) 4 ≡ true
-sized-from c h = rw (le-leb 1 (length c) (h .0), le-leb (length c) 4 (h .1))
+sized-from : (c : List ℕ) → (1 ≤ length c) × (length c ≤ mostTransactionIdOctets) → leb 1 (length c) && leb (length c) mostTransactionIdOctets ≡ true
+sized-from c h = rw (le-leb 1 (length c) (h .0), le-leb (length c) mostTransactionIdOctets (h .1))
 
 -- 48 and its contents at the front of a part that begins at place p
 record Front48 (p : ℕ) (part : List ℕ) (s : Text) : Type 0 where
@@ -204,7 +204,7 @@ record Front48 (p : ℕ) (part : List ℕ) (s : Text) : Type 0 where
   pub behind : List ℕ
   pub octets : part ≡ 0x48 ∷ (len ++ (s .1 ++ behind))
   pub stands : StandsFor len (length (s .1))
-  pub sized : (1 ≤ length (s .1)) × (length (s .1) ≤ 4)
+  pub sized : (1 ≤ length (s .1)) × (length (s .1) ≤ mostTransactionIdOctets)
   pub place : s .0 ≡ p + suc (length len)
 
 module _ (rules : Rules) where

@@ -4,9 +4,9 @@ use Prim.Native.Nat.{ℕ, suc}
 use mathlib.Core.{Bool.Bool, Bool.true, Bool.false, Bool.cond, List.List, List.[], List._∷_, Option.Option, Option.none, Option.some}
 use lib.{Dec.eqb, Dec.ltb}
 use Rattle.base.specs.{Value.same}
-use Rattle.primitive.specs.{Primitive.between, Primitive.integerOk, Primitive.identifierOk}
+use Rattle.primitive.specs.{Primitive.between, Primitive.integerOk, Primitive.identifierOk, Primitive.mostIntegerOctets}
 use Rattle.element.specs.{Element.constructorOf, Element.codeZero}
-use Rattle.tcap.specs.{Productions.single?}
+use Rattle.tcap.specs.{Productions.single?, WellFormed.mostTransactionIdOctets, WellFormed.mostGeneralProblem, WellFormed.mostInvokeProblem, WellFormed.mostResultProblem, WellFormed.mostErrorProblem, WellFormed.mostCause, WellFormed.mostResult, WellFormed.mostUserDiagnostic, WellFormed.mostProviderDiagnostic, WellFormed.mostAbortSource}
 
 mutual
   -- what is still to come in some contents
@@ -33,7 +33,7 @@ mutual
   pub data Holds : Type 0 where
     -- a primitive, and what is asked of its contents
     octets : (List ℕ → Bool) → Holds
-    -- the two IDs that a refusal tells: 1 to 4 octets, an integer of one octet
+    -- the two IDs that a refusal tells: a transaction ID, an integer of one octet
     origId invokeId : Holds
     -- a constructor
     parts : Parts → Holds
@@ -43,7 +43,7 @@ mutual
 -- The lines of document 01
 
 abbrev pub code : Choice
-code = either (tag 0x02 (octets (integerOk 4))) (tag 0x06 (octets identifierOk))
+code = either (tag 0x02 (octets (integerOk mostIntegerOctets))) (tag 0x06 (octets identifierOk))
 
 -- 02 invoke ID, [80 linked ID], code, [parameter]
 abbrev pub invoke : Parts
@@ -57,9 +57,12 @@ result = must (tag 0x02 invokeId) (may (tag 0x30 (parts (must code (must any end
 abbrev pub error : Parts
 error = must (tag 0x02 invokeId) (must code (may any end))
 
--- 80 (general, 0 to 2), 81 (invoke, 0 to 7), 82 (return result, 0 to 2) or 83 (return error, 0 to 4)
+-- 80 (general), 81 (invoke), 82 (return result) or 83 (return error), one octet each
 abbrev pub problem : Choice
-problem = either (tag 0x80 (octets (single? 2))) (either (tag 0x81 (octets (single? 7))) (either (tag 0x82 (octets (single? 2))) (tag 0x83 (octets (single? 4)))))
+problem =
+    either (tag 0x80 (octets (single? mostGeneralProblem)))
+    (either (tag 0x81 (octets (single? mostInvokeProblem)))
+    (either (tag 0x82 (octets (single? mostResultProblem))) (tag 0x83 (octets (single? mostErrorProblem)))))
 
 -- 02 invoke ID or 05 00, then problem
 abbrev pub reject : Parts
@@ -90,13 +93,15 @@ number t most = tag t (parts (must (tag 0x02 (octets (single? most))) end))
 abbrev pub asked : Choice
 asked = tag 0x60 (parts (may version (must context (may information end))))
 
--- 61: [80 02 07 80], A1 holding 06, A2 holding 02 01 with 0 or 1, A3 holding A1 or A2 that holds 02 01 with 0 to 2, [BE]
+-- 61: [80 02 07 80], A1 holding 06, A2 holding 02 01 with the result, A3 holding A1 or A2 that holds 02 01 with the diagnostic, [BE]
 abbrev pub answered : Choice
-answered = tag 0x61 (parts (may version (must context (must (number 0xA2 1) (must (tag 0xA3 (parts (must (either (number 0xA1 2) (number 0xA2 2)) end))) (may information end))))))
+answered =
+    tag 0x61 (parts (may version (must context (must (number 0xA2 mostResult)
+    (must (tag 0xA3 (parts (must (either (number 0xA1 mostUserDiagnostic) (number 0xA2 mostProviderDiagnostic)) end))) (may information end))))))
 
--- 64: 80 01 with 0 or 1, [BE]
+-- 64: 80 01 with the source, [BE]
 abbrev pub aborted : Choice
-aborted = tag 0x64 (parts (must (tag 0x80 (octets (single? 1))) (may information end)))
+aborted = tag 0x64 (parts (must (tag 0x80 (octets (single? mostAbortSource))) (may information end)))
 
 -- what stands behind the identifier: of the structured dialogue, of the unstructured, of another name
 abbrev pub named : Bool → Bool → Choice
@@ -112,7 +117,7 @@ abbrev pub dialoguePortion : Choice
 dialoguePortion = tag 0x6B (dialogue (must (tag 0x28 (parts external)) end))
 
 abbrev pub destination : Choice
-destination = tag 0x49 (octets (between 1 4))
+destination = tag 0x49 (octets (between 1 mostTransactionIdOctets))
 
 -- [6B] [6C]
 abbrev pub portions : Parts
@@ -136,7 +141,7 @@ continue = must (tag 0x48 origId) (must destination portions)
 
 -- 49, then nothing, or 4A, or 6B
 abbrev pub abort : Parts
-abort = must destination (may (either (tag 0x4A (octets (single? 4))) dialoguePortion) end)
+abort = must destination (may (either (tag 0x4A (octets (single? mostCause))) dialoguePortion) end)
 
 abbrev pub message : Choice
 message = either (tag 0x61 (parts unidirectional)) (either (tag 0x62 (parts begin)) (either (tag 0x64 (parts finish)) (either (tag 0x65 (parts continue)) (tag 0x67 (parts abort)))))
@@ -205,7 +210,7 @@ position (components x k) = some k
 -- what is asked of a primitive's contents
 abbrev pub passes : Holds → List ℕ → Bool
 passes (octets fits) c = fits c
-passes origId c = between 1 4 c
+passes origId c = between 1 mostTransactionIdOctets c
 passes invokeId c = integerOk 1 c
 passes (parts r) c = false
 passes (dialogue r) c = false

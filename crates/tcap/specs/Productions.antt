@@ -6,7 +6,8 @@ use lib.{ListN.getD, Dec.leb, IntN.ℤ}
 use Rattle.base.specs.{Value.same}
 use Rattle.primitive.specs.{Primitive.identifierOk, Primitive.mostIntegerOctets}
 use Rattle.element.specs.{declared.FaultKind.FaultKind, Fault.Text, Fault.Fault, Fault.inDialogue, Fault.inComponent, Fault.withInvokeId, Fault.withOrigId, Ask.Body, Parts.Item, Parts.Where, Parts.level, Parts.leafItem, Parts.integerItem, Parts.aroundItem, Parts.keptItem, Parts.mapItem, Parts.orItem, Parts.bindBody, Parts.thenBody, Parts.silently, Parts.onlyBody, Parts.lastBody, Parts.optBody, Parts.mapBody, Parts.seriesBody, Walk.walkItem, Walk.walkTagItem}
-use Rattle.tcap.specs.{declared.Problem.Problem, declared.Diagnostic.Diagnostic, Meaning.Originating, Meaning.orig, Meaning.Destination, Meaning.dest, Meaning.Code, Meaning.local, Meaning.global, Meaning.Component, Meaning.invoke, Meaning.last, Meaning.notLast, Meaning.error, Meaning.reject, Meaning.Dialogue, Meaning.request, Meaning.unidialogue, Meaning.response, Meaning.aborted, Meaning.single, Meaning.octets, Meaning.Ending, Meaning.silent, Meaning.cause, Meaning.says, Meaning.Message, Meaning.unidirectional, Meaning.begin, Meaning.finish, Meaning.continue, Meaning.abort, Meaning.structured, Meaning.unstructured, Meaning.version, WellFormed.Rules, WellFormed.mostComponents, WellFormed.leftAt, WellFormed.idOk}
+use Rattle.tcap.specs.{declared.Problem.Problem, declared.Diagnostic.Diagnostic, Meaning.Originating, Meaning.orig, Meaning.Destination, Meaning.dest, Meaning.Code, Meaning.local, Meaning.global, Meaning.Component, Meaning.invoke, Meaning.last, Meaning.notLast, Meaning.error, Meaning.reject, Meaning.Dialogue, Meaning.request, Meaning.unidialogue, Meaning.response, Meaning.aborted, Meaning.single, Meaning.octets, Meaning.silent, Meaning.cause, Meaning.says, Meaning.Message, Meaning.unidirectional, Meaning.begin, Meaning.finish, Meaning.continue, Meaning.abort, Meaning.structured, Meaning.unstructured, Meaning.version, WellFormed.Rules, WellFormed.mostComponents, WellFormed.leftAt, WellFormed.idOk}
+use Rattle.tcap.specs.{WellFormed.mostGeneralProblem, WellFormed.mostInvokeProblem, WellFormed.mostResultProblem, WellFormed.mostErrorProblem, WellFormed.mostCause, WellFormed.mostResult, WellFormed.mostUserDiagnostic, WellFormed.mostProviderDiagnostic, WellFormed.mostAbortSource}
 
 -- Fields
 
@@ -30,8 +31,9 @@ codeItem = orItem (mapItem local (integerItem 0x02 mostIntegerOctets)) (mapItem 
 
 abbrev pub problemItem : Item Problem
 problemItem =
-    orItem (mapItem Problem.General (octetItem 0x80 2))
-    (orItem (mapItem Problem.OfInvoke (octetItem 0x81 7)) (orItem (mapItem Problem.OfResult (octetItem 0x82 2)) (mapItem Problem.OfError (octetItem 0x83 4))))
+    orItem (mapItem Problem.General (octetItem 0x80 mostGeneralProblem))
+    (orItem (mapItem Problem.OfInvoke (octetItem 0x81 mostInvokeProblem))
+    (orItem (mapItem Problem.OfResult (octetItem 0x82 mostResultProblem)) (mapItem Problem.OfError (octetItem 0x83 mostErrorProblem))))
 
 abbrev pub idOrNullItem : Item (Option ℤ)
 idOrNullItem = orItem (mapItem some idItem) (mapItem (λ v. none) (leafItem 0x05 (same [])))
@@ -114,16 +116,18 @@ module _ (rules : Rules) where
   numberItem t n most = aroundItem t (onlyBody (levelAt n) (octetItem 0x02 most))
 
   abbrev pub sourceItem : Item Diagnostic
-  sourceItem = aroundItem 0xA3 (onlyBody (levelAt 7) (orItem (mapItem Diagnostic.ByUser (numberItem 0xA1 8 2)) (mapItem Diagnostic.ByProvider (numberItem 0xA2 8 2))))
+  sourceItem =
+      aroundItem 0xA3
+      (onlyBody (levelAt 7) (orItem (mapItem Diagnostic.ByUser (numberItem 0xA1 8 mostUserDiagnostic)) (mapItem Diagnostic.ByProvider (numberItem 0xA2 8 mostProviderDiagnostic))))
 
   abbrev pub answeredItem : Item (Dialogue Text)
   answeredItem =
       aroundItem 0x61
       (mapBody (λ v. response (v .0) (v .1 .0) (v .1 .1 .0) (v .1 .1 .1))
-      (versionBody (thenBody (levelAt 6) contextItem (thenBody (levelAt 6) (numberItem 0xA2 7 1) (thenBody (levelAt 6) sourceItem infoBody)))))
+      (versionBody (thenBody (levelAt 6) contextItem (thenBody (levelAt 6) (numberItem 0xA2 7 mostResult) (thenBody (levelAt 6) sourceItem infoBody)))))
 
   abbrev pub abortedItem : Item (Dialogue Text)
-  abortedItem = aroundItem 0x64 (mapBody (λ v. aborted (v .0) (v .1)) (thenBody (levelAt 6) (octetItem 0x80 1) infoBody))
+  abortedItem = aroundItem 0x64 (mapBody (λ v. aborted (v .0) (v .1)) (thenBody (levelAt 6) (octetItem 0x80 mostAbortSource) infoBody))
 
   -- what stands behind the name n: the structured dialogue, the unstructured, another
   abbrev pub heldItem : Text → Bool → Bool → Item (Dialogue Text)
@@ -161,7 +165,7 @@ module _ (rules : Rules) where
   abbrev pub abortBody : Body (Message Text)
   abortBody =
       mapBody (λ v. abort (v .0) (Option·getD (v .1) silent))
-      (thenBody (levelAt 2) destItem (lastBody (levelAt 2) (orItem (mapItem cause (octetItem 0x4A 4)) (mapItem says dialogueItem))))
+      (thenBody (levelAt 2) destItem (lastBody (levelAt 2) (orItem (mapItem cause (octetItem 0x4A mostCause)) (mapItem says dialogueItem))))
 
   abbrev pub messageItem : Item (Message Text)
   messageItem =

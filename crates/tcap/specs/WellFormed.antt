@@ -1,7 +1,7 @@
 -- Well-formed meanings: document 01, "Numbers", and the ranges and levels of "Messages" and "Dialogue portion"; and demand 2's definition of
 -- reading, which knows nothing of how a message is read. Assumes nothing: these are definitions.
 use Prim.Native.Nat.{ℕ, suc, _-_, _≤_}
-use mathlib.Core.{Path._≡_, Bool.Bool, Bool.true, Bool.false, List.List, Option.Option}
+use mathlib.Core.{Path._≡_, Bool.Bool, Bool.true, Bool.false, List.List}
 use lib.{ListN.length, Dec.leb, IntN.ℤ}
 use Rattle.base.specs.{Number.holds, Value.Every, Value.Maybe, Value.same}
 use Rattle.primitive.specs.{Primitive.between, Primitive.identifierOk, Primitive.mostIntegerOctets}
@@ -18,6 +18,40 @@ mostComponents = 16
 abbrev pub deepestLevel : ℕ
 deepestLevel = 16
 
+abbrev pub mostTransactionIdOctets : ℕ
+mostTransactionIdOctets = 4
+
+-- problems of a Reject: general (80), of an invoke (81), of a return result (82), of a return error (83)
+abbrev pub mostGeneralProblem : ℕ
+mostGeneralProblem = 2
+
+abbrev pub mostInvokeProblem : ℕ
+mostInvokeProblem = 7
+
+abbrev pub mostResultProblem : ℕ
+mostResultProblem = 2
+
+abbrev pub mostErrorProblem : ℕ
+mostErrorProblem = 4
+
+-- the P-Abort cause
+abbrev pub mostCause : ℕ
+mostCause = 4
+
+-- of a dialogue response: its result, and what the user or the provider diagnosed
+abbrev pub mostResult : ℕ
+mostResult = 1
+
+abbrev pub mostUserDiagnostic : ℕ
+mostUserDiagnostic = 2
+
+abbrev pub mostProviderDiagnostic : ℕ
+mostProviderDiagnostic = 2
+
+-- the source of a dialogue abort
+abbrev pub mostAbortSource : ℕ
+mostAbortSource = 1
+
 -- the rules that a message is read by and a meaning is well-formed by: the definitions of both, and the laws between them, take them
 pub record Rules : Type 0 where
   pub limit : ℕ
@@ -30,9 +64,9 @@ the93 = record { limit = deepestLevel }
 abbrev pub leftAt : Rules → ℕ → ℕ
 leftAt rules n = suc (rules .limit) - n
 
--- a transaction ID: 1 to 4 octets
+-- a transaction ID
 unfoldable pub idOk : List ℕ → Bool
-idOk c = between 1 4 c
+idOk c = between 1 mostTransactionIdOctets c
 
 -- an invoke or linked ID: one octet, -128 to 127
 abbrev pub InvokeIdOk : ℤ → Type 0
@@ -43,10 +77,10 @@ CodeOk (local z) = holds mostIntegerOctets z ≡ true
 CodeOk (global c) = identifierOk c ≡ true
 
 abbrev pub ProblemOk : Problem → Type 0
-ProblemOk (Problem.General n) = leb n 2 ≡ true
-ProblemOk (Problem.OfInvoke n) = leb n 7 ≡ true
-ProblemOk (Problem.OfResult n) = leb n 2 ≡ true
-ProblemOk (Problem.OfError n) = leb n 4 ≡ true
+ProblemOk (Problem.General n) = leb n mostGeneralProblem ≡ true
+ProblemOk (Problem.OfInvoke n) = leb n mostInvokeProblem ≡ true
+ProblemOk (Problem.OfResult n) = leb n mostResultProblem ≡ true
+ProblemOk (Problem.OfError n) = leb n mostErrorProblem ≡ true
 
 abbrev pub BothOk : Rules → Code (List ℕ) × List ℕ → Type 0
 BothOk rules (c, p) = CodeOk c × Element (leftAt rules 5) p
@@ -60,8 +94,8 @@ ComponentOk rules (error i c p) = InvokeIdOk i × CodeOk c × Maybe (Element (le
 ComponentOk rules (reject i q) = Maybe InvokeIdOk i × ProblemOk q
 
 abbrev pub SourceOk : Diagnostic → Type 0
-SourceOk (Diagnostic.ByUser n) = leb n 2 ≡ true
-SourceOk (Diagnostic.ByProvider n) = leb n 2 ≡ true
+SourceOk (Diagnostic.ByUser n) = leb n mostUserDiagnostic ≡ true
+SourceOk (Diagnostic.ByProvider n) = leb n mostProviderDiagnostic ≡ true
 
 -- a name that is neither of the two
 abbrev pub Outside : List ℕ → Type 0
@@ -71,14 +105,14 @@ Outside n = (identifierOk n ≡ true) × (same structured n ≡ false) × (same 
 unfoldable pub DialogueOk : Rules → Dialogue (List ℕ) → Type 0
 DialogueOk rules (request n u) = (identifierOk n ≡ true) × Maybe (SeriesOf 0x28 (leftAt rules 7)) u
 DialogueOk rules (unidialogue n u) = (identifierOk n ≡ true) × Maybe (SeriesOf 0x28 (leftAt rules 7)) u
-DialogueOk rules (response n r s u) = (identifierOk n ≡ true) × (leb r 1 ≡ true) × SourceOk s × Maybe (SeriesOf 0x28 (leftAt rules 7)) u
-DialogueOk rules (aborted r u) = (leb r 1 ≡ true) × Maybe (SeriesOf 0x28 (leftAt rules 7)) u
+DialogueOk rules (response n r s u) = (identifierOk n ≡ true) × (leb r mostResult ≡ true) × SourceOk s × Maybe (SeriesOf 0x28 (leftAt rules 7)) u
+DialogueOk rules (aborted r u) = (leb r mostAbortSource ≡ true) × Maybe (SeriesOf 0x28 (leftAt rules 7)) u
 DialogueOk rules (single n e) = Outside n × Element (leftAt rules 5) e
 DialogueOk rules (octets n c) = Outside n
 
 abbrev pub EndingOk : Rules → Ending (List ℕ) → Type 0
 EndingOk rules silent = Unit {0}
-EndingOk rules (cause n) = leb n 4 ≡ true
+EndingOk rules (cause n) = leb n mostCause ≡ true
 EndingOk rules (says d) = DialogueOk rules d
 
 abbrev pub ComponentsOk : Rules → List (Component (List ℕ)) → Type 0

@@ -5,6 +5,42 @@ ghost use Rattle.tcap.specs.Record.{blankRow, messageTag};
 ghost use Rattle.tcap.specs.Names.{common, nameKind};
 use element::FaultKind;
 
+// The numbers of the page, as tcap/specs/WellFormed has them: the most octets of a message and of a transaction ID, the most components, the deepest level.
+pub const MOST_OCTETS: usize = 255;
+
+pub const MOST_TRANSACTION_ID_OCTETS: usize = 4;
+
+pub const MOST_COMPONENTS: usize = 16;
+
+pub const DEEPEST_LEVEL: usize = 16;
+
+// Levels left for an element at level 4, 5 and 7; the message is level 1.
+pub const LEFT_AT_4: usize = DEEPEST_LEVEL - 3;
+
+pub const LEFT_AT_5: usize = DEEPEST_LEVEL - 4;
+
+pub const LEFT_AT_7: usize = DEEPEST_LEVEL - 6;
+
+// The greatest problem of a Reject: general, of an invoke, of a return result, of a return error.
+pub const MOST_GENERAL_PROBLEM: u8 = 2;
+
+pub const MOST_INVOKE_PROBLEM: u8 = 7;
+
+pub const MOST_RESULT_PROBLEM: u8 = 2;
+
+pub const MOST_ERROR_PROBLEM: u8 = 4;
+
+// The greatest P-Abort cause; of a dialogue response the greatest result and diagnostic; of a dialogue abort the greatest source.
+pub const MOST_CAUSE: u8 = 4;
+
+pub const MOST_RESULT: u8 = 1;
+
+pub const MOST_USER_DIAGNOSTIC: u8 = 2;
+
+pub const MOST_PROVIDER_DIAGNOSTIC: u8 = 2;
+
+pub const MOST_ABORT_SOURCE: u8 = 1;
+
 pub struct Span {
     pub place: u32,
     pub len: u32,
