@@ -32,7 +32,7 @@ enum {
     ONE_MORE = 16                 /* an element where nothing more may */
 };
 
-enum { CONSTRUCTOR = 0x20, EXTENDED = 0x1F, MAX_LEVEL = 16 };
+enum { CONSTRUCTOR = 0x20, EXTENDED = 0x1F };
 
 enum {
     TAG_INTEGER = 0x02,
@@ -281,7 +281,7 @@ static inline struct contents read_head(const struct reader *r, const uint8_t *p
         fault(r, CODE_ZERO, p);
         return none;
     }
-    if (level > MAX_LEVEL) {
+    if (level > PLAIN_MAX_LEVEL) {
         fault(r, TOO_DEEP, p);
         return none;
     }
@@ -341,7 +341,7 @@ static const uint8_t *read_identifier(const struct reader *r, const uint8_t *p,
 
     if (!stands(p, end, TAG_IDENTIFIER))
         return unexpected(r, p, end, open);
-    n = short_contents(p, end, 16);
+    n = short_contents(p, end, PLAIN_MAX_IDENTIFIER);
     if (n == 0)
         return bad_primitive(r, p, end);
     at = p + 2;
@@ -387,7 +387,7 @@ static inline const uint8_t *read_transaction(const struct reader *r, const uint
 
     if (!stands(p, end, tag))
         return unexpected(r, p, end, open);
-    n = short_contents(p, end, 4);
+    n = short_contents(p, end, PLAIN_MAX_ID);
     if (n == 0)
         return bad_primitive(r, p, end);
     *to = span(r, p + 2, p + 2 + n);
@@ -468,7 +468,7 @@ static const uint8_t *read_result(const struct reader *r, const uint8_t *p,
 
     if (!stands(p, end, TAG_RESULT))
         return unexpected(r, p, end, open);
-    p = read_held_number(r, p, end, 1, &d->result);
+    p = read_held_number(r, p, end, PLAIN_MAX_RESULT, &d->result);
     if (p == NULL)
         return NULL;
     if (!stands(p, end, TAG_DIAGNOSTIC))
@@ -479,7 +479,7 @@ static const uint8_t *read_result(const struct reader *r, const uint8_t *p,
     if (!stands(c.at, c.end, TAG_USER) && !stands(c.at, c.end, TAG_PROVIDER))
         return unexpected(r, c.at, c.end, c.open);
     d->source = *c.at;
-    p = read_held_number(r, c.at, c.end, 2, &d->diagnostic);
+    p = read_held_number(r, c.at, c.end, PLAIN_MAX_DIAGNOSTIC, &d->diagnostic);
     if (p == NULL)
         return NULL;
     return finish(r, p, c.end, c.open, ONE_MORE);
@@ -507,7 +507,7 @@ static const uint8_t *read_pdu(const struct reader *r, const uint8_t *p,
     if (d->kind == PLAIN_DIALOGUE_ABORT) {
         if (!stands(p, c.end, TAG_SOURCE))
             return unexpected(r, p, c.end, c.open);
-        p = read_octet(r, p, c.end, 1, &d->source);
+        p = read_octet(r, p, c.end, PLAIN_MAX_SOURCE, &d->source);
     } else {
         p = read_context(r, p, c.end, c.open);
         if (p != NULL && d->kind == PLAIN_DIALOGUE_RESPONSE)
@@ -593,7 +593,7 @@ static const uint8_t *read_code(const struct reader *r, const uint8_t *p,
         row->code_kind = PLAIN_CODE_GLOBAL;
         return read_identifier(r, p, end, open, &row->code.global);
     }
-    n = short_contents(p, end, 4);
+    n = short_contents(p, end, PLAIN_MAX_LOCAL_CODE);
     if (n == 0)
         return bad_primitive(r, p, end);
     if (n > 1 && ((p[2] == 0x00 && p[3] < 0x80) || (p[2] == 0xFF && p[3] >= 0x80)))
@@ -649,7 +649,7 @@ static const uint8_t *read_return(const struct reader *r, const uint8_t *p,
 static const uint8_t *read_problem(const struct reader *r, const uint8_t *p,
                                    const uint8_t *end, bool open, struct plain_row *row)
 {
-    static const uint8_t most[4] = { 2, 7, 2, 4 };
+    static const uint8_t most[4] = PLAIN_MAX_PROBLEMS;
 
     if (p == end || *p < 0x80 || *p > 0x83)
         return unexpected(r, p, end, open);
@@ -869,7 +869,7 @@ static const uint8_t *read_parts(const struct reader *r, const uint8_t *end)
             other = ONE_MORE;
     } else if (out->kind == PLAIN_ABORT && stands(p, c.end, TAG_CAUSE)) {
         out->dialogue.kind = PLAIN_DIALOGUE_CAUSE;
-        p = read_octet(r, p, c.end, 4, &out->dialogue.cause);
+        p = read_octet(r, p, c.end, PLAIN_MAX_CAUSE, &out->dialogue.cause);
         if (p == NULL)
             return answer_message(r);
         other = ONE_MORE;

@@ -8,7 +8,21 @@
 #include <stddef.h>
 #include <stdint.h>
 
-enum { PLAIN_MAX_MESSAGE = 255, PLAIN_MAX_COMPONENTS = 16 };
+/* The numbers of the rules, for reader and writer. */
+enum { PLAIN_MAX_MESSAGE = 255, PLAIN_MAX_COMPONENTS = 16, PLAIN_MAX_LEVEL = 16 };
+
+/* Octets of a transaction ID, a local code and an identifier. */
+enum { PLAIN_MAX_ID = 4, PLAIN_MAX_LOCAL_CODE = 4, PLAIN_MAX_IDENTIFIER = 16 };
+
+/* Problems of a Reject: general, of an invoke, of a return result, of a return error. */
+#define PLAIN_MAX_PROBLEMS { 2, 7, 2, 4 }
+
+enum {
+    PLAIN_MAX_CAUSE = 4,          /* P-Abort cause */
+    PLAIN_MAX_RESULT = 1,         /* of a dialogue response */
+    PLAIN_MAX_DIAGNOSTIC = 2,     /* by user and by provider */
+    PLAIN_MAX_SOURCE = 1          /* of a dialogue abort */
+};
 
 struct plain_span {
     uint8_t place;

@@ -10,7 +10,7 @@
 
 enum { PAST_MATERIAL = 21, MALFORMED = 22, OUT_OF_RANGE = 23, WRONG_PART = 24, NO_ROOM = 25 };
 
-enum { CONSTRUCTOR = 0x20, EXTENDED = 0x1F, MAX_LEVEL = 16 };
+enum { CONSTRUCTOR = 0x20, EXTENDED = 0x1F };
 
 static const uint8_t structured_name[9] = { 0x06, 7, 0x00, 0x11, 0x86, 0x05, 0x01, 0x01, 0x01 };
 static const uint8_t unstructured_name[9] = { 0x06, 7, 0x00, 0x11, 0x86, 0x05, 0x01, 0x02, 0x01 };
@@ -104,26 +104,27 @@ static unsigned measure_dialogue(struct writer *w, bool *wrong)
         return 0;
     case LAYOUT_CAUSE:
         *wrong = r[40] != 0 || r[0] != PLAIN_ABORT;
-        number_in_range(w, r[41], 4);
+        number_in_range(w, r[41], PLAIN_MAX_CAUSE);
         return 3;
     case LAYOUT_REQUEST:
     case LAYOUT_UNI:
-        size = 4 + place_short(w, r + 24, 16);
+        size = 4 + place_short(w, r + 24, PLAIN_MAX_IDENTIFIER);
         break;
     case LAYOUT_RESPONSE:
         *wrong = r[42] != 0xA1 && r[42] != 0xA2;
-        number_in_range(w, r[41], 1);
-        number_in_range(w, r[43], 2);
-        size = 4 + place_short(w, r + 24, 16) + 5 + 7;
+        number_in_range(w, r[41], PLAIN_MAX_RESULT);
+        number_in_range(w, r[43], PLAIN_MAX_DIAGNOSTIC);
+        size = 4 + place_short(w, r + 24, PLAIN_MAX_IDENTIFIER) + 5 + 7;
         break;
     case LAYOUT_ABORT:
-        number_in_range(w, r[41], 1);
+        number_in_range(w, r[41], PLAIN_MAX_SOURCE);
         size = 3;
         break;
     case LAYOUT_ELEMENT:
     case LAYOUT_OCTETS:
         *wrong = r[40] != 0;
-        w->external = 2 + place_short(w, r + 24, 16) + element(capped(place_span(w, r + 32).len));
+        w->external = 2 + place_short(w, r + 24, PLAIN_MAX_IDENTIFIER)
+                      + element(capped(place_span(w, r + 32).len));
         w->dialogue = element(w->external);
         return element(w->dialogue);
     default:
@@ -146,7 +147,7 @@ static inline unsigned measure_code(struct writer *w, const uint8_t *row)
 {
     if (row[5] == 0x02)
         return 2 + code_octets(get4(row + 8));
-    return 2 + place_short(w, row + 8, 16);
+    return 2 + place_short(w, row + 8, PLAIN_MAX_IDENTIFIER);
 }
 
 static inline unsigned measure_parameter(struct writer *w, const uint8_t *row)
@@ -157,7 +158,7 @@ static inline unsigned measure_parameter(struct writer *w, const uint8_t *row)
 /* Row k: false for 24. */
 static inline bool measure_row(struct writer *w, unsigned k, const uint8_t *row)
 {
-    static const uint8_t most_problem[4] = { 2, 7, 2, 4 };
+    static const uint8_t most_problem[4] = PLAIN_MAX_PROBLEMS;
     bool is_code = row[5] == 0x02 || row[5] == 0x06;
     unsigned size = 3;
 
@@ -220,9 +221,9 @@ static int measure(struct writer *w)
     if ((kind == PLAIN_UNIDIRECTIONAL && count == 0) || (kind == PLAIN_ABORT && count != 0))
         return WRONG_PART;
     if (needs_orig)
-        size += 2 + place_short(w, r + 8, 4);
+        size += 2 + place_short(w, r + 8, PLAIN_MAX_ID);
     if (needs_dest)
-        size += 2 + place_short(w, r + 16, 4);
+        size += 2 + place_short(w, r + 16, PLAIN_MAX_ID);
     size += measure_dialogue(w, &wrong);
     if (wrong)
         return WRONG_PART;
@@ -264,7 +265,7 @@ static const uint8_t *walk_element(const uint8_t *p, const uint8_t *end, int lev
     uint8_t first;
     size_t n;
 
-    if (p == end || level > MAX_LEVEL)
+    if (p == end || level > PLAIN_MAX_LEVEL)
         return NULL;
     first = *p++;
     if ((first & EXTENDED) == EXTENDED) {
