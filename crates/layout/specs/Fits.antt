@@ -1,10 +1,10 @@
 -- Which records the octets of docs/LAYOUT.md can hold: numbers of four octets, IDs of one, local codes of four. By their types all of the code's do, but for
 -- the count, which may be larger there; of what was read it is at most 16. Assumes nothing: these are definitions.
-use Prim.Native.Nat.{ℕ, _≤_}
+use Prim.Native.Nat.{_≤_}
 use mathlib.Core.{Path._≡_, Bool.true}
 use lib.{ListN.length, ListN.take}
 use Rattle.base.specs.{Number.topOf, Number.holds, Value.Every}
-use Rattle.tcap.specs.declared.{Span.Span, OptionalSpan.OptionalSpan, OptionalOrig.OptionalOrig, OptionalDest.OptionalDest, InvokeId.InvokeId, LinkedId.LinkedId, Code.Code, Problem.Problem, Returned.Returned, ComponentKind.ComponentKind, Row.Row, Dialogue.Dialogue, Record.Record}
+use Rattle.tcap.specs.declared.{Span.Span, OptionalSpan.OptionalSpan, OptionalOrig.OptionalOrig, OptionalDest.OptionalDest, InvokeId.InvokeId, LinkedId.LinkedId, Code.Code, Returned.Returned, ComponentKind.ComponentKind, Row.Row, Dialogue.Dialogue, Record.Record}
 use Rattle.layout.specs.Layout.{mostRows}
 
 abbrev pub SpanFits : Span → Type 0

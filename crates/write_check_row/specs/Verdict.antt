@@ -1,12 +1,13 @@
 -- Why a record may not be written over the material beside it: document 01, "Writing", each number over the whole record before the next.
 -- Assumes nothing: these are definitions.
-use Prim.Native.Nat.{ℕ, _+_, _-_}
+use Prim.Native.Nat.{ℕ, _+_}
 use mathlib.Core.{Bool.Bool, Bool.true, Bool.false, Bool.not, Bool._&&_, List.List, List.[], List._∷_}
 use lib.{ListN.length, ListN.take, ListN.drop, Dec.leb, Dec.eqb}
 use Rattle.base.specs.{Value.same}
-use Rattle.primitive.specs.{Primitive.identifierOk}
+use Rattle.primitive.specs.{Primitive.identifierOk, Primitive.mostIdentifierOctets}
 use Rattle.element.specs.{declared.Walk.Walk, Answers.elementWalk, Answers.seriesWalk}
 use Rattle.tcap.specs.{declared.Span.Span, declared.OptionalSpan.OptionalSpan, declared.OptionalOrig.OptionalOrig, declared.OptionalDest.OptionalDest, declared.InvokeId.InvokeId, declared.Code.Code, declared.Problem.Problem, declared.Diagnostic.Diagnostic, declared.Returned.Returned, declared.ComponentKind.ComponentKind, declared.Row.Row, declared.Dialogue.Dialogue, declared.MessageKind.MessageKind, declared.Record.Record, Meaning.structured, Meaning.unstructured, WellFormed.mostComponents, WellFormed.the93, WellFormed.leftAt}
+use Rattle.tcap.specs.WellFormed.{mostTransactionIdOctets, mostGeneralProblem, mostInvokeProblem, mostResultProblem, mostErrorProblem, mostCause, mostResult, mostUserDiagnostic, mostProviderDiagnostic, mostAbortSource}
 
 -- every row that counts; with a count above 16 that is all 16
 unfoldable pub every : (Row → Bool) → List Row → Bool
@@ -64,12 +65,11 @@ allParts r = partsFit (r .kind) (origThere (r .orig)) (destThere (r .dest)) (cau
 unfoldable pub ranges : ℕ → ℕ → ℕ → Bool
 ranges a b n = leb a n && leb n b
 
--- an ID has 1 to 4 octets, an identifier 1 to 16
 abbrev pub idRanges : Span → Bool
-idRanges s = ranges 1 4 (s .len)
+idRanges s = ranges 1 mostTransactionIdOctets (s .len)
 
 abbrev pub nameRanges : Span → Bool
-nameRanges s = ranges 1 16 (s .len)
+nameRanges s = ranges 1 mostIdentifierOctets (s .len)
 
 unfoldable pub origRanges : OptionalOrig → Bool
 origRanges OptionalOrig.NoOrig = true
@@ -85,10 +85,10 @@ codeRanges (Code.Local z) = true
 codeRanges (Code.Global s) = nameRanges s
 
 unfoldable pub problemRanges : Problem → Bool
-problemRanges (Problem.General n) = leb n 2
-problemRanges (Problem.OfInvoke n) = leb n 7
-problemRanges (Problem.OfResult n) = leb n 2
-problemRanges (Problem.OfError n) = leb n 4
+problemRanges (Problem.General n) = leb n mostGeneralProblem
+problemRanges (Problem.OfInvoke n) = leb n mostInvokeProblem
+problemRanges (Problem.OfResult n) = leb n mostResultProblem
+problemRanges (Problem.OfError n) = leb n mostErrorProblem
 
 unfoldable pub returnedRanges : Returned → Bool
 returnedRanges Returned.Bare = true
@@ -102,15 +102,15 @@ rowRanges (ComponentKind.ReturnError c p) = codeRanges c
 rowRanges (ComponentKind.Reject q) = problemRanges q
 
 unfoldable pub sourceRanges : Diagnostic → Bool
-sourceRanges (Diagnostic.ByUser n) = leb n 2
-sourceRanges (Diagnostic.ByProvider n) = leb n 2
+sourceRanges (Diagnostic.ByUser n) = leb n mostUserDiagnostic
+sourceRanges (Diagnostic.ByProvider n) = leb n mostProviderDiagnostic
 
 unfoldable pub dialogueRanges : Dialogue → Bool
 dialogueRanges Dialogue.NoDialogue = true
-dialogueRanges (Dialogue.Cause n) = leb n 4
+dialogueRanges (Dialogue.Cause n) = leb n mostCause
 dialogueRanges (Dialogue.Request n u) = nameRanges n
-dialogueRanges (Dialogue.Response n r s u) = nameRanges n && (leb r 1 && sourceRanges s)
-dialogueRanges (Dialogue.DialogueAbort r u) = leb r 1
+dialogueRanges (Dialogue.Response n r s u) = nameRanges n && (leb r mostResult && sourceRanges s)
+dialogueRanges (Dialogue.DialogueAbort r u) = leb r mostAbortSource
 dialogueRanges (Dialogue.Unidialogue n u) = nameRanges n
 dialogueRanges (Dialogue.OutsideElement n e) = nameRanges n
 dialogueRanges (Dialogue.OutsideOctets n c) = nameRanges n

@@ -8,15 +8,14 @@ ghost use lib.ListN.{length};
 ghost use Rattle.write_check_row.specs.Verdict.{lies, isElement, isSeries, octetsIn};
 ghost use Rattle.write_check_row.specs.Judged.{sizeCap, joined, wrapped, octetJudged, octetsJudged, sizedJudged, nameJudged, elementJudged, seriesJudged};
 use base::piece;
+use primitive::MOST_IDENTIFIER_OCTETS;
 use primitive::identifier_ok;
+use tcap::MOST_OCTETS;
 use tcap::Span;
 use walk::whole_at;
 
-// The most octets that a message may have.
-pub const MOST_OCTETS: usize = 255;
-
-// Any size above that.
-const SIZE_CAP: usize = 256;
+// Any size above the most octets that a message may have.
+const SIZE_CAP: usize = MOST_OCTETS + 1;
 
 // A part that may be written, with its size, capped; or the worst that is wrong: 4 for 24, 3 for 23, 2 for 21, 1 for 22.
 pub enum Judged {
@@ -114,10 +113,10 @@ pub fn octets_judged(span: Span, material: &[u8]) -> Judged
 }
 
 // 1 to `most` octets: a transaction ID.
-pub fn sized_judged(span: Span, most: u32, material: &[u8]) -> Judged
+pub fn sized_judged(span: Span, most: usize, material: &[u8]) -> Judged
     ensures { λ r. ⌜ r ≡ sizedJudged (now (material .entry)) most span ⌝ }
 {
-    let len = span.len;
+    let len = span.len as usize;
     if len < 1 {
         return Judged::Bad(3);
     }
@@ -131,7 +130,7 @@ pub fn sized_judged(span: Span, most: u32, material: &[u8]) -> Judged
 pub fn name_judged(span: Span, material: &[u8]) -> Judged
     ensures { λ r. ⌜ r ≡ nameJudged (now (material .entry)) span ⌝ }
 {
-    match sized_judged(span, 16, material) {
+    match sized_judged(span, MOST_IDENTIFIER_OCTETS, material) {
         Judged::Bad(k) => Judged::Bad(k),
         Judged::Fine(n) => {
             if identifier_ok(octets_of(span, material)) {

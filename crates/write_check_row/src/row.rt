@@ -16,6 +16,12 @@ use crate::octet_judged;
 use base::after;
 use primitive::integer_size;
 use primitive::signed;
+use tcap::LEFT_AT_4;
+use tcap::LEFT_AT_5;
+use tcap::MOST_ERROR_PROBLEM;
+use tcap::MOST_GENERAL_PROBLEM;
+use tcap::MOST_INVOKE_PROBLEM;
+use tcap::MOST_RESULT_PROBLEM;
 use unpack::number::number_at;
 use unpack::number::span_at;
 
@@ -44,7 +50,7 @@ fn parameter_judged(part: &[u8], material: &[u8]) -> Judged
     }
     if part[6] == 1 {
         let parameter = span_at(part, 16);
-        return element_judged(parameter, material, 13);
+        return element_judged(parameter, material, LEFT_AT_4);
     }
     Judged::Bad(4)
 }
@@ -74,23 +80,23 @@ fn returned_judged(part: &[u8], material: &[u8]) -> Judged
     }
     let code = code_judged(part, material);
     let parameter = span_at(part, 16);
-    around(both(code, element_judged(parameter, material, 12)))
+    around(both(code, element_judged(parameter, material, LEFT_AT_5)))
 }
 
 fn problem_judged(tag: u8, number: u8) -> Judged
     ensures { λ r. ⌜ r ≡ listed (isProblemTag tag) (problemJudged (problemIn tag number)) ⌝ }
 {
     if tag == 0x80 {
-        return octet_judged(number, 2);
+        return octet_judged(number, MOST_GENERAL_PROBLEM);
     }
     if tag == 0x81 {
-        return octet_judged(number, 7);
+        return octet_judged(number, MOST_INVOKE_PROBLEM);
     }
     if tag == 0x82 {
-        return octet_judged(number, 2);
+        return octet_judged(number, MOST_RESULT_PROBLEM);
     }
     if tag == 0x83 {
-        return octet_judged(number, 4);
+        return octet_judged(number, MOST_ERROR_PROBLEM);
     }
     Judged::Bad(4)
 }

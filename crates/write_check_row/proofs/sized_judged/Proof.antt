@@ -23,6 +23,7 @@ pub sized-judged-spec : {M : Type 1} → statement M
 sized-judged-spec =
     tie.close
     (tie.spec
+    (λ c. search needs)
     returns
     returns-2
     (λ c κs. search needs)
