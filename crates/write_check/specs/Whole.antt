@@ -4,7 +4,7 @@ use Prim.Native.Nat.{ℕ}
 use mathlib.Core.{Bool.Bool, Bool.true, Bool.not, Bool.cond, Bool._&&_, List.List}
 use lib.{ListN.length, Dec.leb, Dec.eqb}
 use Rattle.element.specs.{Form.then, Form.around}
-use Rattle.tcap.specs.{declared.Span.Span, declared.OptionalSpan.OptionalSpan, declared.OptionalOrig.OptionalOrig, declared.OptionalDest.OptionalDest, declared.Diagnostic.Diagnostic, declared.Row.Row, declared.Dialogue.Dialogue, declared.MessageKind.MessageKind, Meaning.octet, Meaning.contextForm, Meaning.sourceForm, WellFormed.mostComponents}
+use Rattle.tcap.specs.{declared.Span.Span, declared.OptionalSpan.OptionalSpan, declared.OptionalOrig.OptionalOrig, declared.OptionalDest.OptionalDest, declared.Diagnostic.Diagnostic, declared.Row.Row, declared.Dialogue.Dialogue, declared.MessageKind.MessageKind, Meaning.octet, Meaning.contextForm, Meaning.sourceForm, WellFormed.mostComponents, WellFormed.mostResult}
 use Rattle.write_check_row.specs.{declared.Judged.Judged, Verdict.origThere, Verdict.destThere, Verdict.causeThere, Verdict.partsFit, Verdict.nameRanges, Verdict.origRanges, Verdict.destRanges, Verdict.sourceRanges, Verdict.dialogueRanges, Verdict.lies, Verdict.optionLies, Verdict.origLies, Verdict.destLies, Verdict.dialogueLies, Verdict.octetsIn, Verdict.nameShaped, Verdict.infoShaped, Verdict.outsideShaped, Verdict.dialogueShaped, Forms.infoForm, Forms.dialogueForm, Forms.origForm, Forms.destForm, Forms.rowsForm, Judged.rankOf, Judged.judged, Judged.joined, Judged.wrapped, Judged.sizeOf, Judged.rowsRank}
 
 -- 6B around 28 around a name and what it holds
@@ -65,7 +65,7 @@ module _ (m : List ℕ) where
 
   -- result, diagnostic and information of a response
   abbrev pub answerJudged : ℕ → Diagnostic → OptionalSpan → Judged
-  answerJudged r s u = judged (rankOf true (leb r 1 && sourceRanges s) (optionLies (length m) u) (infoShaped m u)) (sizeOf (then (around 0xA2 (octet 0x02 r)) (then (around 0xA3 (sourceForm s)) (infoForm m u))))
+  answerJudged r s u = judged (rankOf true (leb r mostResult && sourceRanges s) (optionLies (length m) u) (infoShaped m u)) (sizeOf (then (around 0xA2 (octet 0x02 r)) (then (around 0xA3 (sourceForm s)) (infoForm m u))))
 
   abbrev pub dialogueJudged : Dialogue → Judged
   dialogueJudged d = judged (rankOf true (dialogueRanges d) (dialogueLies (length m) d) (dialogueShaped m d)) (sizeOf (dialogueForm m d))

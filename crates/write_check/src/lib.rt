@@ -5,6 +5,15 @@ ghost use Rattle.write_check_row.specs.Verdict.{origThere, destThere, causeTher
 ghost use Rattle.write_check.specs.Whole.{externalJudged, pduJudged, numberJudged, sourceJudged, origFits, destFits, restFits, partsJudged, infoJudged, contextJudged, outsideJudged, answerJudged, dialogueJudged, origJudged, destJudged, portionOf, behindJudged, messageJudged};
 use tcap::Diagnostic;
 use tcap::Dialogue;
+use tcap::LEFT_AT_5;
+use tcap::LEFT_AT_7;
+use tcap::MOST_ABORT_SOURCE;
+use tcap::MOST_CAUSE;
+use tcap::MOST_COMPONENTS;
+use tcap::MOST_PROVIDER_DIAGNOSTIC;
+use tcap::MOST_RESULT;
+use tcap::MOST_TRANSACTION_ID_OCTETS;
+use tcap::MOST_USER_DIAGNOSTIC;
 use tcap::MessageKind;
 use tcap::OptionalDest;
 use tcap::OptionalOrig;
@@ -28,7 +37,7 @@ fn info_judged(info: OptionalSpan, material: &[u8]) -> Judged
 {
     match info {
         OptionalSpan::Absent => Judged::Fine(0),
-        OptionalSpan::Present(span) => around(series_judged(span, material, 10)),
+        OptionalSpan::Present(span) => around(series_judged(span, material, LEFT_AT_7)),
     }
 }
 
@@ -73,8 +82,8 @@ fn source_judged(diagnostic: Diagnostic) -> Judged
     ensures { λ r. ⌜ r ≡ sourceJudged diagnostic ⌝ }
 {
     match diagnostic {
-        Diagnostic::ByUser(n) => around(number_judged(n, 2)),
-        Diagnostic::ByProvider(n) => around(number_judged(n, 2)),
+        Diagnostic::ByUser(n) => around(number_judged(n, MOST_USER_DIAGNOSTIC)),
+        Diagnostic::ByProvider(n) => around(number_judged(n, MOST_PROVIDER_DIAGNOSTIC)),
     }
 }
 
@@ -97,7 +106,7 @@ fn answer_judged(result: u8, diagnostic: Diagnostic, info: OptionalSpan, materia
     ensures { λ r. ⌜ r ≡ answerJudged (now (material .entry)) result diagnostic info ⌝ }
 {
     let diagnosed = both(source_judged(diagnostic), info_judged(info, material));
-    both(number_judged(result, 1), diagnosed)
+    both(number_judged(result, MOST_RESULT), diagnosed)
 }
 
 fn response_judged(
@@ -116,14 +125,14 @@ fn response_judged(
 fn abort_judged(source: u8, info: OptionalSpan, material: &[u8]) -> Judged
     ensures { λ r. ⌜ r ≡ dialogueJudged (now (material .entry)) (Dialogue.DialogueAbort source info) ⌝ }
 {
-    pdu_judged(both(octet_judged(source, 1), info_judged(info, material)))
+    pdu_judged(both(octet_judged(source, MOST_ABORT_SOURCE), info_judged(info, material)))
 }
 
 // A0 around one element, which stands at level 5.
 fn outside_element_judged(name: Span, element: Span, material: &[u8]) -> Judged
     ensures { λ r. ⌜ r ≡ dialogueJudged (now (material .entry)) (Dialogue.OutsideElement name element) ⌝ }
 {
-    let held = around(element_judged(element, material, 12));
+    let held = around(element_judged(element, material, LEFT_AT_5));
     external_judged(outside_judged(name, material), held)
 }
 
@@ -140,7 +149,7 @@ fn dialogue_judged(dialogue: Dialogue, material: &[u8]) -> Judged
 {
     match dialogue {
         Dialogue::NoDialogue => Judged::Fine(0),
-        Dialogue::Cause(n) => octet_judged(n, 4),
+        Dialogue::Cause(n) => octet_judged(n, MOST_CAUSE),
         Dialogue::Request { name, info } => request_judged(name, info, material),
         Dialogue::Response {
             name,
@@ -159,7 +168,7 @@ fn dialogue_judged(dialogue: Dialogue, material: &[u8]) -> Judged
     }
 }
 
-// 48 and 1 to 4 octets.
+// 48 and an ID.
 fn orig_judged(orig: OptionalOrig, material: &[u8]) -> Judged
     ensures { λ r. ⌜ r ≡ origJudged (now (material .entry)) orig ⌝ }
 {
@@ -167,12 +176,12 @@ fn orig_judged(orig: OptionalOrig, material: &[u8]) -> Judged
         OptionalOrig::NoOrig => Judged::Fine(0),
         OptionalOrig::Orig(id) => {
             let octets = id.0.octets;
-            around(sized_judged(octets, 4, material))
+            around(sized_judged(octets, MOST_TRANSACTION_ID_OCTETS, material))
         }
     }
 }
 
-// 49 and 1 to 4 octets.
+// 49 and an ID.
 fn dest_judged(dest: OptionalDest, material: &[u8]) -> Judged
     ensures { λ r. ⌜ r ≡ destJudged (now (material .entry)) dest ⌝ }
 {
@@ -180,7 +189,7 @@ fn dest_judged(dest: OptionalDest, material: &[u8]) -> Judged
         OptionalDest::NoDest => Judged::Fine(0),
         OptionalDest::Dest(id) => {
             let octets = id.0.octets;
-            around(sized_judged(octets, 4, material))
+            around(sized_judged(octets, MOST_TRANSACTION_ID_OCTETS, material))
         }
     }
 }
@@ -307,7 +316,7 @@ fn parts_judged(
     if !rest_fits(kind, dialogue, count) {
         return Judged::Bad(4);
     }
-    if count > 16 {
+    if count > MOST_COMPONENTS {
         return Judged::Bad(3);
     }
     Judged::Fine(0)
