@@ -22,7 +22,7 @@ use Rattle.element.proofs.Heads.{LengthIs, length-sound}
 use Rattle.element.proofs.Reading.{definite-size, indefinite-size}
 use Rattle.element.proofs.Views.{span-length}
 use Rattle.tcap.specs.declared.Problem.{Problem}
-use Rattle.tcap.specs.WellFormed.{idOk}
+use Rattle.tcap.specs.WellFormed.{mostTransactionIdOctets, mostGeneralProblem, mostInvokeProblem, mostResultProblem, mostErrorProblem, idOk}
 use Rattle.tcap.specs.Productions.{octetItem, idItem, idOrNullItem, problemItem}
 use Rattle.read_place.specs.Places.{Far, Near, until, finite, part, base, faultPlace, lengthPlace, Placed, front, Reads, Leads, standsOf, entryPlace, badPlace, countOf, badContents}
 use Rattle.read_place.proofs.Answers.{far}
@@ -106,53 +106,53 @@ module _ (m : List ℕ) (at stop r : ℕ) (h : until stop ≤ length m) (b : Boo
 
 module _ (m : List ℕ) (at stop r : ℕ) (h : until stop ≤ length m) where
   module _ (b : Bool) (is : b ≡ standsOf m at stop 129) (t : b ≡ true) where
-    pub problem-invoke : Reads (octetItem 129 7) m at stop r → Reads problemItem m at stop r
+    pub problem-invoke : Reads (octetItem 129 mostInvokeProblem) m at stop r → Reads problemItem m at stop r
     problem-invoke e =
-        second-of (mapItem Problem.General (octetItem 128 2)) _ m at stop r (λ a s z. ap (λ (q : ℕ). eqb q 128) (stands-only m at stop 129 h (sym is ∙ t) a s z))
-        (first-of (mapItem Problem.OfInvoke (octetItem 129 7)) _ m at stop r (λ a s z. ap (λ (q : ℕ). eqb q 130 || eqb q 131) (stands-only m at stop 129 h (sym is ∙ t) a s z)) (reads-map Problem.OfInvoke (octetItem 129 7) m at stop r e))
+        second-of _ _ m at stop r (λ a s z. ap (λ (q : ℕ). eqb q 128) (stands-only m at stop 129 h (sym is ∙ t) a s z))
+        (first-of _ _ m at stop r (λ a s z. ap (λ (q : ℕ). eqb q 130 || eqb q 131) (stands-only m at stop 129 h (sym is ∙ t) a s z)) (reads-map Problem.OfInvoke _ m at stop r e))
 
   module _ (b : Bool) (is : b ≡ standsOf m at stop 130) (t : b ≡ true) where
-    pub problem-result : Reads (octetItem 130 2) m at stop r → Reads problemItem m at stop r
+    pub problem-result : Reads (octetItem 130 mostResultProblem) m at stop r → Reads problemItem m at stop r
     problem-result e =
-        second-of (mapItem Problem.General (octetItem 128 2)) _ m at stop r (λ a s z. ap (λ (q : ℕ). eqb q 128) (stands-only m at stop 130 h (sym is ∙ t) a s z))
-        (second-of (mapItem Problem.OfInvoke (octetItem 129 7)) _ m at stop r (λ a s z. ap (λ (q : ℕ). eqb q 129) (stands-only m at stop 130 h (sym is ∙ t) a s z))
-        (first-of (mapItem Problem.OfResult (octetItem 130 2)) _ m at stop r (λ a s z. ap (λ (q : ℕ). eqb q 131) (stands-only m at stop 130 h (sym is ∙ t) a s z)) (reads-map Problem.OfResult (octetItem 130 2) m at stop r e)))
+        second-of _ _ m at stop r (λ a s z. ap (λ (q : ℕ). eqb q 128) (stands-only m at stop 130 h (sym is ∙ t) a s z))
+        (second-of _ _ m at stop r (λ a s z. ap (λ (q : ℕ). eqb q 129) (stands-only m at stop 130 h (sym is ∙ t) a s z))
+        (first-of _ _ m at stop r (λ a s z. ap (λ (q : ℕ). eqb q 131) (stands-only m at stop 130 h (sym is ∙ t) a s z)) (reads-map Problem.OfResult _ m at stop r e)))
 
   module _ (b : Bool) (is : b ≡ standsOf m at stop 131) (t : b ≡ true) where
-    pub problem-error : Reads (octetItem 131 4) m at stop r → Reads problemItem m at stop r
+    pub problem-error : Reads (octetItem 131 mostErrorProblem) m at stop r → Reads problemItem m at stop r
     problem-error e =
-        second-of (mapItem Problem.General (octetItem 128 2)) _ m at stop r (λ a s z. ap (λ (q : ℕ). eqb q 128) (stands-only m at stop 131 h (sym is ∙ t) a s z))
-        (second-of (mapItem Problem.OfInvoke (octetItem 129 7)) _ m at stop r (λ a s z. ap (λ (q : ℕ). eqb q 129) (stands-only m at stop 131 h (sym is ∙ t) a s z))
-        (second-of (mapItem Problem.OfResult (octetItem 130 2)) _ m at stop r (λ a s z. ap (λ (q : ℕ). eqb q 130) (stands-only m at stop 131 h (sym is ∙ t) a s z)) (reads-map Problem.OfError (octetItem 131 4) m at stop r e)))
+        second-of _ _ m at stop r (λ a s z. ap (λ (q : ℕ). eqb q 128) (stands-only m at stop 131 h (sym is ∙ t) a s z))
+        (second-of _ _ m at stop r (λ a s z. ap (λ (q : ℕ). eqb q 129) (stands-only m at stop 131 h (sym is ∙ t) a s z))
+        (second-of _ _ m at stop r (λ a s z. ap (λ (q : ℕ). eqb q 130) (stands-only m at stop 131 h (sym is ∙ t) a s z)) (reads-map Problem.OfError _ m at stop r e)))
 
   module _ (b c d : Bool) (one : b ≡ standsOf m at stop 129) (two : c ≡ standsOf m at stop 130) (three : d ≡ standsOf m at stop 131) (not-one : b ≡ false) (not-two : c ≡ false) (not-three : d ≡ false) where
     none-of : (a s : ℕ) → frontOf 1 (part m at stop) ≡ TagRead.Tag a s → (eqb a 129 || (eqb a 130 || eqb a 131)) ≡ false
     none-of a s z = rw (stands-other m at stop 129 h (sym one ∙ not-one) a s z, stands-other m at stop 130 h (sym two ∙ not-two) a s z, stands-other m at stop 131 h (sym three ∙ not-three) a s z)
 
-    pub problem-general : Reads (octetItem 128 2) m at stop r → Reads problemItem m at stop r
-    problem-general e = first-of (mapItem Problem.General (octetItem 128 2)) _ m at stop r none-of (reads-map Problem.General (octetItem 128 2) m at stop r e)
+    pub problem-general : Reads (octetItem 128 mostGeneralProblem) m at stop r → Reads problemItem m at stop r
+    problem-general e = first-of _ _ m at stop r none-of (reads-map Problem.General _ m at stop r e)
 
 -- A transaction ID
 
-pub transaction-sized : (c : List ℕ) → idOk c ≡ true → (1 ≤ length c) × (length c ≤ 4)
+pub transaction-sized : (c : List ℕ) → idOk c ≡ true → (1 ≤ length c) × (length c ≤ mostTransactionIdOctets)
 unfolding idOk
-transaction-sized c e = go (leb 1 (length c)) (leb (length c) 4) refl refl e
+transaction-sized c e = go (leb 1 (length c)) (leb (length c) mostTransactionIdOctets) refl refl e
   where
-    go : (a b : Bool) → leb 1 (length c) ≡ a → leb (length c) 4 ≡ b → (a && b) ≡ true → (1 ≤ length c) × (length c ≤ 4)
-    go true true p q e = (leb-true 1 (length c) p, leb-true (length c) 4 q)
+    go : (a b : Bool) → leb 1 (length c) ≡ a → leb (length c) mostTransactionIdOctets ≡ b → (a && b) ≡ true → (1 ≤ length c) × (length c ≤ mostTransactionIdOctets)
+    go true true p q e = (leb-true 1 (length c) p, leb-true (length c) mostTransactionIdOctets q)
     go true false p q e = absurd (false≢true e)
     go false b p q e = absurd (false≢true e)
 
-transaction-fits : (c : List ℕ) → 1 ≤ length c → length c ≤ 4 → idOk c ≡ true
+transaction-fits : (c : List ℕ) → 1 ≤ length c → length c ≤ mostTransactionIdOctets → idOk c ≡ true
 unfolding idOk
-transaction-fits c p q = rw (le-leb 1 (length c) p, le-leb (length c) 4 q)
+transaction-fits c p q = rw (le-leb 1 (length c) p, le-leb (length c) mostTransactionIdOctets q)
 
-module _ (m : List ℕ) (at stop tag n : ℕ) (g : at ≤ until stop) (h : until stop ≤ length m) (leads : Leads tag) (kind : tag / 32 % 2 ≡ 0) (is : n ≡ countOf (until stop) at (getD m at 0) (getD m (at + 1) 0) tag 4) where
+module _ (m : List ℕ) (at stop tag n : ℕ) (g : at ≤ until stop) (h : until stop ≤ length m) (leads : Leads tag) (kind : tag / 32 % 2 ≡ 0) (is : n ≡ countOf (until stop) at (getD m at 0) (getD m (at + 1) 0) tag mostTransactionIdOctets) where
   pub transaction-none : n ≡ 0 → (r : ℕ) → r ≡ badPlace m at stop tag → Reads (leafItem tag idOk) m at stop r
-  transaction-none z r e = leaf-none m at stop tag 4 n idOk g h leads (plain tag kind) (omega arith) is z transaction-sized r e
+  transaction-none z r e = leaf-none m at stop tag _ n idOk g h leads (plain tag kind) (omega arith) is z transaction-sized r e
 
   pub transaction-good : (n ≡ 0 → ⊥) → Reads (leafItem tag idOk) m at stop (at + 2 + n)
   transaction-good there =
-      let i = counted m at (until stop) tag 4 n is there in
+      let i = counted m at (until stop) tag _ n is there in
       let all : length (take n (drop (at + 2) m)) ≡ n = length-take-le n (drop (at + 2) m) (omega (arith, length-drop (at + 2) m, i .room, h)) in
-      leaf-good m at stop tag 4 n idOk g h leads (plain tag kind) (omega arith) is there (transaction-fits (take n (drop (at + 2) m)) (omega (arith, all, there)) (omega (arith, all, i .few)))
+      leaf-good m at stop tag _ n idOk g h leads (plain tag kind) (omega arith) is there (transaction-fits (take n (drop (at + 2) m)) (omega (arith, all, there)) (omega (arith, all, i .few)))

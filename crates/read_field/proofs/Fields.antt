@@ -16,7 +16,7 @@ use Rattle.read_place.proofs.Items.{stands-only, stands-other, counted, leaf-go
 use lib.IntN.{ℤ}
 use lib.Seq.{drop-cons}
 use Rattle.base.specs.Value.{Every, same}
-use Rattle.primitive.specs.Primitive.{identifierOk, numbers, integerOk, integerOctets, signedOf}
+use Rattle.primitive.specs.Primitive.{mostIntegerOctets, mostIdentifierOctets, identifierOk, numbers, integerOk, integerOctets, signedOf}
 use Rattle.primitive.specs.Answers.{integerOf}
 use Rattle.primitive.proofs.Integers.{fewest-range}
 use Rattle.primitive.specs.declared.IntegerRead.{IntegerRead}
@@ -31,19 +31,19 @@ between-sized most c x e =
 
 module _ (m : List ℕ) (at stop n : ℕ) (g : at ≤ until stop) (h : until stop ≤ length m) where
   -- an object identifier
-  module _ (is : n ≡ countOf (until stop) at (getD m at 0) (getD m (at + 1) 0) 6 16) where
+  module _ (is : n ≡ countOf (until stop) at (getD m at 0) (getD m (at + 1) 0) 6 mostIdentifierOctets) where
     pub name-none : n ≡ 0 → (r : ℕ) → r ≡ badPlace m at stop 6 → Reads nameItem m at stop r
     unfolding identifierOk constructorOf
-    name-none z r e = leaf-none m at stop 6 16 n identifierOk g h (omega arith, omega arith, omega arith) refl (omega arith) is z (λ c e. between-sized 16 c (numbers c true) e) r e
+    name-none z r e = leaf-none m at stop 6 _ n identifierOk g h (omega arith, omega arith, omega arith) refl (omega arith) is z (λ c e. between-sized _ c (numbers c true) e) r e
 
     module _ (there : n ≡ 0 → ⊥) (xs : List ℕ) (b : Bool) (xs-is : xs ≡ take n (drop (at + 2) m)) (told : b ≡ identifierOk xs) where
       pub name-good : b ≡ true → Reads nameItem m at stop (at + 2 + n)
       unfolding constructorOf
-      name-good t = leaf-good m at stop 6 16 n identifierOk g h (omega arith, omega arith, omega arith) refl (omega arith) is there (rw xs-is at (sym told ∙ t))
+      name-good t = leaf-good m at stop 6 _ n identifierOk g h (omega arith, omega arith, omega arith) refl (omega arith) is there (rw xs-is at (sym told ∙ t))
 
       pub name-bad : b ≡ false → Reads nameItem m at stop (badContents + at)
       unfolding constructorOf
-      name-bad t = leaf-bad m at stop 6 16 n identifierOk g h (omega arith, omega arith, omega arith) refl (omega arith) is there (rw xs-is at (sym told ∙ t))
+      name-bad t = leaf-bad m at stop 6 _ n identifierOk g h (omega arith, omega arith, omega arith) refl (omega arith) is there (rw xs-is at (sym told ∙ t))
 
 pub count-room : (m : List ℕ) (at end tag most n : ℕ) → n ≡ countOf end at (getD m at 0) (getD m (at + 1) 0) tag most → (n ≡ 0 → ⊥) → (at + 2 + n ≤ end) × (n ≤ most)
 count-room m at end tag most n is there = let i = counted m at end tag most n is there in (i .room, i .few)
@@ -121,34 +121,34 @@ by-wrong : (b : Bool) (z : ℤ) → cond b (IntegerRead.Value z) IntegerRead.Wro
 by-wrong true z e = let q : _≡_ {A = ℕ} 0 1 = cc in absurd (omega arith)
 by-wrong false z e = refl
 
-module _ (m : List ℕ) (at stop n : ℕ) (g : at ≤ until stop) (h : until stop ≤ length m) (is : n ≡ countOf (until stop) at (getD m at 0) (getD m (at + 1) 0) 2 4) where
-  pub local-none : n ≡ 0 → (r : ℕ) → r ≡ badPlace m at stop 2 → Reads (integerItem 2 4) m at stop r
-  local-none z r e = placed-item (level 1) FaultKind.Another (λ v. signedOf (v .1)) (leafItem 2 (integerOk 4)) (finite stop) at (part m at stop) (until stop) r
-      (leaf-none m at stop 2 4 n (integerOk 4) g h (omega arith, omega arith, omega arith) (plain 2 (omega arith)) (omega arith) is z (integer-sized 4) r e)
+module _ (m : List ℕ) (at stop n : ℕ) (g : at ≤ until stop) (h : until stop ≤ length m) (is : n ≡ countOf (until stop) at (getD m at 0) (getD m (at + 1) 0) 2 mostIntegerOctets) where
+  pub local-none : n ≡ 0 → (r : ℕ) → r ≡ badPlace m at stop 2 → Reads (integerItem 2 mostIntegerOctets) m at stop r
+  local-none z r e = placed-item (level 1) FaultKind.Another (λ v. signedOf (v .1)) (leafItem 2 (integerOk mostIntegerOctets)) (finite stop) at (part m at stop) (until stop) r
+      (leaf-none m at stop 2 _ n (integerOk _) g h (omega arith, omega arith, omega arith) (plain 2 (omega arith)) (omega arith) is z (integer-sized _) r e)
 
-  module _ (there : n ≡ 0 → ⊥) (xs : List ℕ) (i : IntegerRead) (xs-is : xs ≡ take n (drop (at + 2) m)) (told : i ≡ integerOf 4 xs) where
-    pub local-good : (v : ℤ) → i ≡ IntegerRead.Value v → Reads (integerItem 2 4) m at stop (at + 2 + n)
+  module _ (there : n ≡ 0 → ⊥) (xs : List ℕ) (i : IntegerRead) (xs-is : xs ≡ take n (drop (at + 2) m)) (told : i ≡ integerOf mostIntegerOctets xs) where
+    pub local-good : (v : ℤ) → i ≡ IntegerRead.Value v → Reads (integerItem 2 mostIntegerOctets) m at stop (at + 2 + n)
     unfolding integerOf
-    local-good v t = placed-item (level 1) FaultKind.Another (λ v. signedOf (v .1)) (leafItem 2 (integerOk 4)) (finite stop) at (part m at stop) (until stop) (at + 2 + n)
-        (leaf-good m at stop 2 4 n (integerOk 4) g h (omega arith, omega arith, omega arith) (plain 2 (omega arith)) (omega arith) is there (rw xs-is at (by-value (integerOk 4 xs) (signedOf xs) v (sym told ∙ t))))
+    local-good v t = placed-item (level 1) FaultKind.Another (λ v. signedOf (v .1)) (leafItem 2 (integerOk mostIntegerOctets)) (finite stop) at (part m at stop) (until stop) (at + 2 + n)
+        (leaf-good m at stop 2 _ n (integerOk _) g h (omega arith, omega arith, omega arith) (plain 2 (omega arith)) (omega arith) is there (rw xs-is at (by-value (integerOk mostIntegerOctets xs) (signedOf xs) v (sym told ∙ t))))
 
-    pub local-bad : i ≡ IntegerRead.Wrong → Reads (integerItem 2 4) m at stop (badContents + at)
+    pub local-bad : i ≡ IntegerRead.Wrong → Reads (integerItem 2 mostIntegerOctets) m at stop (badContents + at)
     unfolding integerOf
-    local-bad t = placed-item (level 1) FaultKind.Another (λ v. signedOf (v .1)) (leafItem 2 (integerOk 4)) (finite stop) at (part m at stop) (until stop) (badContents + at)
-        (leaf-bad m at stop 2 4 n (integerOk 4) g h (omega arith, omega arith, omega arith) (plain 2 (omega arith)) (omega arith) is there (rw xs-is at (by-wrong (integerOk 4 xs) (signedOf xs) (sym told ∙ t))))
+    local-bad t = placed-item (level 1) FaultKind.Another (λ v. signedOf (v .1)) (leafItem 2 (integerOk mostIntegerOctets)) (finite stop) at (part m at stop) (until stop) (badContents + at)
+        (leaf-bad m at stop 2 _ n (integerOk _) g h (omega arith, omega arith, omega arith) (plain 2 (omega arith)) (omega arith) is there (rw xs-is at (by-wrong (integerOk mostIntegerOctets xs) (signedOf xs) (sym told ∙ t))))
 
 -- a code: global if that tag stands here, otherwise local
 module _ (m : List ℕ) (at stop r : ℕ) (h : until stop ≤ length m) (b : Bool) (is : b ≡ standsOf m at stop 6) where
   pub code-global : b ≡ true → Reads nameItem m at stop r → Reads codeItem m at stop r
   code-global t e =
-      rw (or-right (level 1) FaultKind.Another (mapItem local (integerItem 2 4)) (mapItem global nameItem) (finite stop) at (part m at stop) refl (λ a s z. ne-eqb a 2 (λ q. omega (arith, q, stands-only m at stop 6 h (sym is ∙ t) a s z))))
+      rw (or-right (level 1) FaultKind.Another (mapItem local (integerItem 2 mostIntegerOctets)) (mapItem global nameItem) (finite stop) at (part m at stop) refl (λ a s z. ne-eqb a 2 (λ q. omega (arith, q, stands-only m at stop 6 h (sym is ∙ t) a s z))))
       (placed-item (level 1) FaultKind.Another global nameItem (finite stop) at (part m at stop) (until stop) r e)
 
-  pub code-local : b ≡ false → Reads (integerItem 2 4) m at stop r → Reads codeItem m at stop r
+  pub code-local : b ≡ false → Reads (integerItem 2 mostIntegerOctets) m at stop r → Reads codeItem m at stop r
   code-local t e =
-      rw (or-left (level 1) FaultKind.Another (mapItem local (integerItem 2 4)) (mapItem global nameItem) (finite stop) at (part m at stop) refl (λ a s z. stands-other m at stop 6 h (sym is ∙ t) a s z))
-      (placed-item (level 1) FaultKind.Another local (integerItem 2 4) (finite stop) at (part m at stop) (until stop) r e)
+      rw (or-left (level 1) FaultKind.Another (mapItem local (integerItem 2 mostIntegerOctets)) (mapItem global nameItem) (finite stop) at (part m at stop) refl (λ a s z. stands-other m at stop 6 h (sym is ∙ t) a s z))
+      (placed-item (level 1) FaultKind.Another local (integerItem 2 mostIntegerOctets) (finite stop) at (part m at stop) (until stop) r e)
 
-pub name-sized : (c : List ℕ) → identifierOk c ≡ true → (1 ≤ length c) × (length c ≤ 16)
+pub name-sized : (c : List ℕ) → identifierOk c ≡ true → (1 ≤ length c) × (length c ≤ mostIdentifierOctets)
 unfolding identifierOk
-name-sized c e = between-sized 16 c (numbers c true) e
+name-sized c e = between-sized _ c (numbers c true) e

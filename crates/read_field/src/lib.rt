@@ -8,18 +8,20 @@ ghost use Rattle.tcap.specs.WellFormed.{idOk};
 ghost use Rattle.tcap.specs.Productions.{octetItem, nameItem};
 ghost use Rattle.element.specs.Parts.{leafItem, integerItem};
 use base::piece;
+use primitive::MOST_IDENTIFIER_OCTETS;
 use read_place::BAD_CONTENTS;
 use read_place::FAULT;
 use read_place::bad_field;
 use read_place::count_at;
 use read_place::field_asked;
+use tcap::MOST_TRANSACTION_ID_OCTETS;
 
 // An object identifier.
 pub fn name_at(m: &[u8], at: usize, stop: usize) -> usize
     requires { ⌜ Ready (now m) at stop ⌝ }
     ensures { λ r. ⌜ Reads nameItem (now (m .entry)) at stop r ⌝ }
 {
-    let n = count_at(m, at, stop, 0x06, 16);
+    let n = count_at(m, at, stop, 0x06, MOST_IDENTIFIER_OCTETS);
     if n == 0 {
         return bad_field(m, at, stop, 0x06);
     }
@@ -76,7 +78,7 @@ pub fn transaction_id_at(m: &[u8], at: usize, stop: usize, tag: u8) -> usize
     requires { ⌜ Ready (now m) at stop × Leads tag × (tag / 32 % 2 ≡ 0) ⌝ }
     ensures { λ r. ⌜ Reads (leafItem tag idOk) (now (m .entry)) at stop r ⌝ }
 {
-    let n = count_at(m, at, stop, tag, 4);
+    let n = count_at(m, at, stop, tag, MOST_TRANSACTION_ID_OCTETS);
     if n == 0 {
         return bad_field(m, at, stop, tag);
     }

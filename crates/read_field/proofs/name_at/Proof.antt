@@ -13,7 +13,7 @@ piece-requires : tie.Need-piece-requires
 piece-requires c κs = search count-more
 
 add-result-2 : tie.Need-add-result-2
-add-result-2 c = let h = count-room (now (c .before .before .before .before .before .before .args .m)) _ _ 6 16 _ (c .before .before .before .before .count-at .ensures) (c .before .before .before .if1 .left) in omega (arith, h)
+add-result-2 c = let h = count-room (now (c .before .before .before .before .before .before .args .m)) _ _ 6 _ _ (c .before .before .before .before .count-at .ensures) (c .before .before .before .if1 .left) in omega (arith, h)
 
 returns-2 : tie.Need-returns-2
 returns-2 c = search name-good

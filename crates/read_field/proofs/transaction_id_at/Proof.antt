@@ -11,7 +11,7 @@ returns : tie.Need-returns
 returns c = search transaction-none
 
 add-result-2 : tie.Need-add-result-2
-add-result-2 c = let h = count-room (now (c .before .before .before .args .m)) _ _ _ 4 _ (c .before .count-at .ensures) (c .if1 .left) in omega (arith, h)
+add-result-2 c = let h = count-room (now (c .before .before .before .args .m)) _ _ _ _ _ (c .before .count-at .ensures) (c .if1 .left) in omega (arith, h)
 
 returns-2 : tie.Need-returns-2
 returns-2 c = search transaction-good
