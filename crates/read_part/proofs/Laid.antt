@@ -13,7 +13,7 @@ use borrow.Author.Tests.{ne-eqb, leb-true}
 use Rattle.base.specs.Number.{numberFrom, octetsIn, topOf, bitsAt}
 use Rattle.base.specs.Value.{same}
 use Rattle.base.proofs.Numbers.{bits-signed}
-use Rattle.primitive.specs.Primitive.{identifierOk, integerOk, signedOf}
+use Rattle.primitive.specs.Primitive.{mostIntegerOctets, mostIdentifierOctets, identifierOk, integerOk, signedOf}
 use Rattle.primitive.specs.Answers.{integerOf}
 use Rattle.primitive.specs.declared.IntegerRead.{IntegerRead}
 use Rattle.element.specs.declared.FaultKind.{FaultKind}
@@ -28,6 +28,7 @@ use Rattle.element.proofs.Asking.{Then, fact, the-fact, then-next, then-blamed,
 use Rattle.element.proofs.Views.{span-take, span-length}
 use Rattle.tcap.specs.declared.Problem.{Problem}
 use Rattle.tcap.specs.Meaning.{local, global}
+use Rattle.tcap.specs.WellFormed.{mostGeneralProblem, mostInvokeProblem, mostResultProblem, mostErrorProblem}
 use Rattle.tcap.specs.Productions.{single?, octetItem, idItem, nameItem, codeItem, idOrNullItem, problemItem}
 use Rattle.read_place.specs.Places.{Far, Near, until, finite, part, front, Placed, Reads, Finishes, Leads, Walked, standsOf, countOf, entryPlace, badPlace, base, endedOf, unfinishedOf, behindOf, nothing, missing, cutOff}
 use Rattle.read_place.specs.Leaves.{Left, Leaves, LeavesAll, untold}
@@ -184,19 +185,19 @@ value-is : (b : Bool) (z v : ℤ) → cond b (IntegerRead.Value z) IntegerRead.W
 value-is true z v e = cc
 value-is false z v e = let q : _≡_ {A = ℕ} 0 1 = cc in absurd (omega arith)
 
-module _ (m : List ℕ) (at stop n : ℕ) (g : at ≤ until stop) (h : until stop ≤ length m) (is : n ≡ countOf (until stop) at (getD m at 0) (getD m (at + 1) 0) 2 4) (there : n ≡ 0 → ⊥)
-    (xs : List ℕ) (i : IntegerRead) (xs-is : xs ≡ take n (drop (at + 2) m)) (told : i ≡ integerOf 4 xs) (v : ℤ) (t : i ≡ IntegerRead.Value v) where
+module _ (m : List ℕ) (at stop n : ℕ) (g : at ≤ until stop) (h : until stop ≤ length m) (is : n ≡ countOf (until stop) at (getD m at 0) (getD m (at + 1) 0) 2 mostIntegerOctets) (there : n ≡ 0 → ⊥)
+    (xs : List ℕ) (i : IntegerRead) (xs-is : xs ≡ take n (drop (at + 2) m)) (told : i ≡ integerOf mostIntegerOctets xs) (v : ℤ) (t : i ≡ IntegerRead.Value v) where
   value-here : v ≡ signedOf (take n (drop (at + 2) m))
   unfolding integerOf
-  value-here = sym (value-is (integerOk 4 xs) (signedOf xs) v (sym told ∙ t)) ∙ ap signedOf xs-is
+  value-here = sym (value-is (integerOk mostIntegerOctets xs) (signedOf xs) v (sym told ∙ t)) ∙ ap signedOf xs-is
 
-  pub local-left : (old new : List ℕ) (number : ℕ) → number ≡ bitsAt 4294967295 v → new ≡ sets (set old 5 2) 8 (octetsIn 4 number) → Leaves layCode untold (mapItem local (integerItem 2 4)) m at stop old new
+  pub local-left : (old new : List ℕ) (number : ℕ) → number ≡ bitsAt 4294967295 v → new ≡ sets (set old 5 2) 8 (octetsIn 4 number) → Leaves layCode untold (mapItem local (integerItem 2 mostIntegerOctets)) m at stop old new
   unfolding layCode topOf
   local-left old new number bits laid =
-      let room = counted m at (until stop) 2 4 n is there .room in
+      let room = counted m at (until stop) 2 _ n is there .room in
       let size : at + 2 + n - at - 2 ≡ n = omega arith in
-      leaves-map local (integerItem 2 4) (λ z. layCode (local z)) layCode m at stop old new (λ a. refl)
-      (few-left (λ v. signedOf (v .1)) 2 4 (integerOk 4) (omega arith, omega arith, omega arith) (omega arith) (integer-sized 4) m at stop (at + 2 + n) h (local-good m at stop n g h is there xs i xs-is told v t) (omega (arith, room)) (λ z. layCode (local z)) old new
+      leaves-map local (integerItem 2 mostIntegerOctets) (λ z. layCode (local z)) layCode m at stop old new (λ a. refl)
+      (few-left (λ v. signedOf (v .1)) 2 mostIntegerOctets (integerOk mostIntegerOctets) (omega arith, omega arith, omega arith) (omega arith) (integer-sized _) m at stop (at + 2 + n) h (local-good m at stop n g h is there xs i xs-is told v t) (omega (arith, room)) (λ z. layCode (local z)) old new
       (λ z q. let same-value : v ≡ z = value-here ∙ sym (q ∙ rw size) in laid ∙ ap (λ (b : ℕ). sets (set old 5 2) 8 (octetsIn 4 b)) (bits ∙ ap (bitsAt 4294967295) same-value)))
 
 pub global-left : (m : List ℕ) (at stop r : ℕ) → until stop ≤ length m → Reads nameItem m at stop r → Near r → (old new : List ℕ) → new ≡ layText 8 (at + 2) (r - at - 2) (set old 5 6) → Leaves layCode untold (mapItem global nameItem) m at stop old new
@@ -204,19 +205,19 @@ unfolding layCode
 global-left m at stop r h e near old new laid =
     let leads : Leads 6 = (omega arith, omega arith, omega arith) in
     let there = reads-map global nameItem m at stop r e in
-    let s = few-size global 6 16 identifierOk leads (omega arith) name-sized m at stop r h there near in
+    let s = few-size global 6 mostIdentifierOctets identifierOk leads (omega arith) name-sized m at stop r h there near in
     let long : length (take (r - at - 2) (drop (at + 2) m)) ≡ r - at - 2 = length-take-le (r - at - 2) (drop (at + 2) m) (omega (arith, s, h, length-drop (at + 2) m)) in
-    few-left global 6 16 identifierOk leads (omega arith) name-sized m at stop r h there near layCode old new (λ b q. laid ∙ rw (q, long))
+    few-left global 6 mostIdentifierOctets identifierOk leads (omega arith) name-sized m at stop r h there near layCode old new (λ b q. laid ∙ rw (q, long))
 
 pub name-sizes : (m : List ℕ) (at stop r : ℕ) → until stop ≤ length m → Reads nameItem m at stop r → Near r → (at + 3 ≤ r) × (r ≤ until stop)
-name-sizes m at stop r h e near = let s = few-size global 6 16 identifierOk (omega arith, omega arith, omega arith) (omega arith) name-sized m at stop r h (reads-map global nameItem m at stop r e) near in (s .0, s .1)
+name-sizes m at stop r h e near = let s = few-size global 6 mostIdentifierOctets identifierOk (omega arith, omega arith, omega arith) (omega arith) name-sized m at stop r h (reads-map global nameItem m at stop r e) near in (s .0, s .1)
 
 module _ (m : List ℕ) (at stop : ℕ) (h : until stop ≤ length m) (b : Bool) (is : b ≡ standsOf m at stop 6) (old new : List ℕ) where
   pub code-left-global : b ≡ true → Leaves layCode untold (mapItem global nameItem) m at stop old new → Leaves layCode untold codeItem m at stop old new
-  code-left-global t e = leaves-second (mapItem local (integerItem 2 4)) (mapItem global nameItem) layCode m at stop old new (λ a s z. ne-eqb a 2 (λ q. omega (arith, q, stands-only m at stop 6 h (sym is ∙ t) a s z))) e
+  code-left-global t e = leaves-second _ _ layCode m at stop old new (λ a s z. ne-eqb a 2 (λ q. omega (arith, q, stands-only m at stop 6 h (sym is ∙ t) a s z))) e
 
-  pub code-left-local : b ≡ false → Leaves layCode untold (mapItem local (integerItem 2 4)) m at stop old new → Leaves layCode untold codeItem m at stop old new
-  code-left-local t e = leaves-first (mapItem local (integerItem 2 4)) (mapItem global nameItem) layCode m at stop old new (λ a s z. stands-other m at stop 6 h (sym is ∙ t) a s z) e
+  pub code-left-local : b ≡ false → Leaves layCode untold (mapItem local (integerItem 2 mostIntegerOctets)) m at stop old new → Leaves layCode untold codeItem m at stop old new
+  code-left-local t e = leaves-first _ _ layCode m at stop old new (λ a s z. stands-other m at stop 6 h (sym is ∙ t) a s z) e
 
 -- The invoke ID of a Reject
 
@@ -245,33 +246,33 @@ module _ (m : List ℕ) (at stop : ℕ) (h : until stop ≤ length m) (old new :
   problem-map f tag most same e = leaves-map f (octetItem tag most) (layOctet tag) layProblem m at stop old new same e
 
   module _ (b : Bool) (t : b ≡ true) where
-    pub invoke-problem-left : b ≡ standsOf m at stop 129 → Leaves (layOctet 129) untold (octetItem 129 7) m at stop old new → Problems problemItem
+    pub invoke-problem-left : b ≡ standsOf m at stop 129 → Leaves (layOctet 129) untold (octetItem 129 mostInvokeProblem) m at stop old new → Problems problemItem
     unfolding layProblem
     invoke-problem-left is e =
-        leaves-second (mapItem Problem.General (octetItem 128 2)) _ layProblem m at stop old new (not-here 129 (sym is ∙ t) (λ q. eqb q 128) refl)
-        (leaves-first (mapItem Problem.OfInvoke (octetItem 129 7)) _ layProblem m at stop old new (not-here 129 (sym is ∙ t) (λ q. eqb q 130 || eqb q 131) refl) (problem-map Problem.OfInvoke 129 7 (λ n. refl) e))
+        leaves-second _ _ layProblem m at stop old new (not-here 129 (sym is ∙ t) (λ q. eqb q 128) refl)
+        (leaves-first _ _ layProblem m at stop old new (not-here 129 (sym is ∙ t) (λ q. eqb q 130 || eqb q 131) refl) (problem-map Problem.OfInvoke 129 _ (λ n. refl) e))
 
-    pub result-problem-left : b ≡ standsOf m at stop 130 → Leaves (layOctet 130) untold (octetItem 130 2) m at stop old new → Problems problemItem
+    pub result-problem-left : b ≡ standsOf m at stop 130 → Leaves (layOctet 130) untold (octetItem 130 mostResultProblem) m at stop old new → Problems problemItem
     unfolding layProblem
     result-problem-left is e =
-        leaves-second (mapItem Problem.General (octetItem 128 2)) _ layProblem m at stop old new (not-here 130 (sym is ∙ t) (λ q. eqb q 128) refl)
-        (leaves-second (mapItem Problem.OfInvoke (octetItem 129 7)) _ layProblem m at stop old new (not-here 130 (sym is ∙ t) (λ q. eqb q 129) refl)
-        (leaves-first (mapItem Problem.OfResult (octetItem 130 2)) _ layProblem m at stop old new (not-here 130 (sym is ∙ t) (λ q. eqb q 131) refl) (problem-map Problem.OfResult 130 2 (λ n. refl) e)))
+        leaves-second _ _ layProblem m at stop old new (not-here 130 (sym is ∙ t) (λ q. eqb q 128) refl)
+        (leaves-second _ _ layProblem m at stop old new (not-here 130 (sym is ∙ t) (λ q. eqb q 129) refl)
+        (leaves-first _ _ layProblem m at stop old new (not-here 130 (sym is ∙ t) (λ q. eqb q 131) refl) (problem-map Problem.OfResult 130 _ (λ n. refl) e)))
 
-    pub error-problem-left : b ≡ standsOf m at stop 131 → Leaves (layOctet 131) untold (octetItem 131 4) m at stop old new → Problems problemItem
+    pub error-problem-left : b ≡ standsOf m at stop 131 → Leaves (layOctet 131) untold (octetItem 131 mostErrorProblem) m at stop old new → Problems problemItem
     unfolding layProblem
     error-problem-left is e =
-        leaves-second (mapItem Problem.General (octetItem 128 2)) _ layProblem m at stop old new (not-here 131 (sym is ∙ t) (λ q. eqb q 128) refl)
-        (leaves-second (mapItem Problem.OfInvoke (octetItem 129 7)) _ layProblem m at stop old new (not-here 131 (sym is ∙ t) (λ q. eqb q 129) refl)
-        (leaves-second (mapItem Problem.OfResult (octetItem 130 2)) _ layProblem m at stop old new (not-here 131 (sym is ∙ t) (λ q. eqb q 130) refl) (problem-map Problem.OfError 131 4 (λ n. refl) e)))
+        leaves-second _ _ layProblem m at stop old new (not-here 131 (sym is ∙ t) (λ q. eqb q 128) refl)
+        (leaves-second _ _ layProblem m at stop old new (not-here 131 (sym is ∙ t) (λ q. eqb q 129) refl)
+        (leaves-second _ _ layProblem m at stop old new (not-here 131 (sym is ∙ t) (λ q. eqb q 130) refl) (problem-map Problem.OfError 131 _ (λ n. refl) e)))
 
   module _ (b c d : Bool) (one : b ≡ standsOf m at stop 129) (two : c ≡ standsOf m at stop 130) (three : d ≡ standsOf m at stop 131) (not-one : b ≡ false) (not-two : c ≡ false) (not-three : d ≡ false) where
     none-of : (a s : ℕ) → frontOf 1 (part m at stop) ≡ TagRead.Tag a s → (eqb a 129 || (eqb a 130 || eqb a 131)) ≡ false
     none-of a s z = rw (stands-other m at stop 129 h (sym one ∙ not-one) a s z, stands-other m at stop 130 h (sym two ∙ not-two) a s z, stands-other m at stop 131 h (sym three ∙ not-three) a s z)
 
-    pub general-problem-left : Leaves (layOctet 128) untold (octetItem 128 2) m at stop old new → Problems problemItem
+    pub general-problem-left : Leaves (layOctet 128) untold (octetItem 128 mostGeneralProblem) m at stop old new → Problems problemItem
     unfolding layProblem
-    general-problem-left e = leaves-first (mapItem Problem.General (octetItem 128 2)) _ layProblem m at stop old new none-of (problem-map Problem.General 128 2 (λ n. refl) e)
+    general-problem-left e = leaves-first _ _ layProblem m at stop old new none-of (problem-map Problem.General 128 _ (λ n. refl) e)
 
 -- A parameter
 

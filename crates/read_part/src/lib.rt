@@ -7,11 +7,13 @@ ghost use Rattle.base.specs.Number.{octetsIn};
 ghost use Rattle.read_place.specs.Places.{Leads, Reads, Finishes, Ready};
 ghost use Rattle.read_place.specs.Leaves.{Leaves, LeavesAll, untold};
 ghost use Rattle.read_place.specs.Laying.{layId, layRejectId, layCode, layProblem};
+ghost use Rattle.primitive.specs.Primitive.{mostIntegerOctets};
 ghost use Rattle.read_part.specs.Parts.{layOctet, parameterBody, layHeld};
 ghost use Rattle.tcap.specs.Meaning.{local, global};
 ghost use Rattle.tcap.specs.Productions.{octetItem, idItem, idOrNullItem, problemItem, nameItem, codeItem};
 ghost use Rattle.element.specs.Parts.{integerItem, mapItem};
 use base::piece;
+use primitive::MOST_INTEGER_OCTETS;
 use primitive::bits;
 use read_field::name_at;
 use read_field::null_at;
@@ -31,6 +33,10 @@ use read_place::put_text;
 use read_place::stands;
 use read_place::unfinished;
 use read_place::walk_element;
+use tcap::MOST_ERROR_PROBLEM;
+use tcap::MOST_GENERAL_PROBLEM;
+use tcap::MOST_INVOKE_PROBLEM;
+use tcap::MOST_RESULT_PROBLEM;
 
 // A number of four octets, most significant first.
 fn put_number(out: &mut [u8], o: usize, n: u32)
@@ -61,14 +67,14 @@ pub fn id_at(m: &[u8], at: usize, stop: usize, row: &mut [u8]) -> usize
 // A local code.
 fn local_at(m: &[u8], at: usize, stop: usize, row: &mut [u8]) -> usize
     requires { ⌜ Ready (now m) at stop × (length (now row) ≡ 24) ⌝ }
-    ensures { λ r. ⌜ Reads (integerItem 0x02 4) (now (m .entry)) at stop r ⌝ }
-    ensures { λ r. ⌜ Leaves layCode untold (mapItem local (integerItem 0x02 4)) (now (m .entry)) at stop (now (row .entry)) (now (row .exit)) ⌝ }
+    ensures { λ r. ⌜ Reads (integerItem 0x02 mostIntegerOctets) (now (m .entry)) at stop r ⌝ }
+    ensures { λ r. ⌜ Leaves layCode untold (mapItem local (integerItem 0x02 mostIntegerOctets)) (now (m .entry)) at stop (now (row .entry)) (now (row .exit)) ⌝ }
 {
-    let n = count_at(m, at, stop, 0x02, 4);
+    let n = count_at(m, at, stop, 0x02, MOST_INTEGER_OCTETS);
     if n == 0 {
         return bad_field(m, at, stop, 0x02);
     }
-    match primitive::integer_at(piece(m, at + 2, n), 4) {
+    match primitive::integer_at(piece(m, at + 2, n), MOST_INTEGER_OCTETS) {
         primitive::IntegerRead::Wrong => BAD_CONTENTS + at,
         primitive::IntegerRead::Value(value) => {
             row[5] = 0x02;
@@ -170,13 +176,13 @@ pub fn problem_at(m: &[u8], at: usize, stop: usize, row: &mut [u8]) -> usize
     ensures { λ r. ⌜ Leaves layProblem untold problemItem (now (m .entry)) at stop (now (row .entry)) (now (row .exit)) ⌝ }
 {
     if stands(m, at, stop, 0x81) {
-        return problem_of(m, at, stop, 0x81, 7, row);
+        return problem_of(m, at, stop, 0x81, MOST_INVOKE_PROBLEM, row);
     }
     if stands(m, at, stop, 0x82) {
-        return problem_of(m, at, stop, 0x82, 2, row);
+        return problem_of(m, at, stop, 0x82, MOST_RESULT_PROBLEM, row);
     }
     if stands(m, at, stop, 0x83) {
-        return problem_of(m, at, stop, 0x83, 4, row);
+        return problem_of(m, at, stop, 0x83, MOST_ERROR_PROBLEM, row);
     }
-    problem_of(m, at, stop, 0x80, 2, row)
+    problem_of(m, at, stop, 0x80, MOST_GENERAL_PROBLEM, row)
 }

@@ -24,7 +24,7 @@ put-number-requires : tie.Need-put-number-requires
 put-number-requires c κs = simp length-set (omega arith)
 
 add-result-3 : tie.Need-add-result-3
-add-result-3 c = let h = count-room (now (c .before .before .before .before .before .before .before .before .before .before .before .before .before .before .args .m)) _ _ 2 4 _ (c .before .before .before .before .before .before .before .before .before .before .before .count-at .ensures) (c .before .before .before .before .before .before .before .before .before .before .if1 .left) in omega (arith, h)
+add-result-3 c = let h = count-room (now (c .before .before .before .before .before .before .before .before .before .before .before .before .before .before .args .m)) _ _ 2 _ _ (c .before .before .before .before .before .before .before .before .before .before .before .count-at .ensures) (c .before .before .before .before .before .before .before .before .before .before .if1 .left) in omega (arith, h)
 
 returns-2 : tie.Need-returns-2
 returns-2 c = fault-named _ _ _ _ _ _ _ _ _ (search local-bad) (omega arith)
