@@ -10,10 +10,10 @@ use lib.Dec.{leb, eqb}
 use borrow.Author.Tests.{eqb-true, eqb-false, leb-true, leb-false, le-leb, not-true, not-false}
 use Rattle.base.specs.Number.{holds}
 use Rattle.base.specs.Value.{Every, same}
-use Rattle.primitive.specs.Primitive.{identifierOk}
+use Rattle.primitive.specs.Primitive.{identifierOk, mostIdentifierOctets}
 use Rattle.tcap.specs.Meaning.{structured, unstructured}
 use Rattle.tcap.specs.declared.{OptionalSpan.OptionalSpan, OptionalOrig.OptionalOrig, OptionalDest.OptionalDest, InvokeId.InvokeId, LinkedId.LinkedId, Code.Code, Problem.Problem, Diagnostic.Diagnostic, Returned.Returned, ComponentKind.ComponentKind, Row.Row, Dialogue.Dialogue, MessageKind.MessageKind, Record.Record}
-use Rattle.tcap.specs.WellFormed.{mostComponents, the93, leftAt}
+use Rattle.tcap.specs.WellFormed.{mostComponents, mostTransactionIdOctets, the93, leftAt}
 use Rattle.layout.specs.Fits.{IdFits, LinkedFits}
 use Rattle.write_check_row.specs.Verdict.{every, counted, origThere, destThere, causeThere, partsFit, idThere, rowPartsFit, allParts, ranges, origRanges, destRanges, codeRanges, problemRanges, returnedRanges, rowRanges, sourceRanges, dialogueRanges, allRanges, lies, optionLies, origLies, destLies, codeLies, returnedLies, rowLies, dialogueLies, allLie, isElement, isSeries, octetsIn, parameterShaped, infoShaped, codeShaped, returnedShaped, rowShaped, dialogueShaped, allShaped}
 use Rattle.writer.specs.Writing.{CodeTyped, ReturnedTyped, KindTyped, RowTyped, RecordTyped}
@@ -67,9 +67,9 @@ fits (signed k z) = true
 fits (string w s) = true
 
 unfoldable lengthIn : Wanted → ℕ → Bool
-lengthIn transaction n = ranges 1 4 n
-lengthIn identifier n = ranges 1 16 n
-lengthIn outside n = ranges 1 16 n
+lengthIn transaction n = ranges 1 mostTransactionIdOctets n
+lengthIn identifier n = ranges 1 mostIdentifierOctets n
+lengthIn outside n = ranges 1 mostIdentifierOctets n
 lengthIn (element l) n = true
 lengthIn series n = true
 lengthIn anything n = true
@@ -124,9 +124,9 @@ between-tells a b n = both (leb a n) (leb n b) (most-tells a n) (most-tells n b)
 
 length-tells : (w : Wanted) (n : ℕ) → Tells (lengthIn w n) (LengthOff w n)
 unfolding lengthIn LengthOff
-length-tells transaction n = between-tells 1 4 n
-length-tells identifier n = between-tells 1 16 n
-length-tells outside n = between-tells 1 16 n
+length-tells transaction n = between-tells 1 _ n
+length-tells identifier n = between-tells 1 _ n
+length-tells outside n = between-tells 1 _ n
 length-tells (element l) n = never-wrong
 length-tells series n = never-wrong
 length-tells anything n = never-wrong

@@ -11,7 +11,7 @@ use borrow.Author.Tests.{leb-true, eqb-true, eq-eqb, not-true}
 use Rattle.base.specs.Number.{topOf, holds}
 use Rattle.base.specs.Value.{Every, Maybe, same}
 use Rattle.element.specs.declared.{Walk.Walk}
-use Rattle.primitive.specs.Primitive.{between, numbers, identifierOk}
+use Rattle.primitive.specs.Primitive.{between, mostIdentifierOctets, numbers, identifierOk}
 use Rattle.element.specs.Element.{Element, SeriesOf}
 use Rattle.element.proofs.Whole.{element-walk-is, series-walk-is}
 use Rattle.tcap.specs.declared.{Span.Span, OptionalSpan.OptionalSpan, OptionalOrig.OptionalOrig, OptionalDest.OptionalDest, InvokeId.InvokeId, LinkedId.LinkedId, Code.Code, Problem.Problem, Diagnostic.Diagnostic, Returned.Returned, ComponentKind.ComponentKind, Row.Row, Dialogue.Dialogue}
@@ -104,7 +104,7 @@ module _ (m : List ℕ) where
 
   name-is : (s : Span) → lies (length m) s ≡ true → Tested (identifierOk (octetsIn m s) ≡ true) (Unit {0}) (nameRanges s) (nameShaped m s)
   unfolding ranges identifierOk
-  name-is s h = record { fine = λ f r k. k; told = λ o. (tt, rw (length-in s h) at (both-true (between 1 16 (octetsIn m s)) (numbers (octetsIn m s) true) o .0), o) }
+  name-is s h = record { fine = λ f r k. k; told = λ o. (tt, rw (length-in s h) at (both-true (between 1 mostIdentifierOctets (octetsIn m s)) (numbers (octetsIn m s) true) o .0), o) }
 
   outside-is : (s : Span) → lies (length m) s ≡ true → Tested (Outside (octetsIn m s)) (Unit {0}) (nameRanges s) (outsideShaped m s)
   outside-is s h =

@@ -4,9 +4,10 @@ use Prim.Native.Nat.{ℕ, _+_, _<_}
 use mathlib.Core.{Path._≡_, Logic._⊎_, Bool.Bool, Bool.true, Bool.false, Bool.not, List.List, List.[], List._∷_, List._++_}
 use lib.{ListN.length, ListN.take, ListN.drop, Dec.eqb, IntN.ℤ}
 use Rattle.base.specs.{Number.holds}
-use Rattle.primitive.specs.{Primitive.identifierOk, Primitive.mostIntegerOctets}
+use Rattle.primitive.specs.{Primitive.identifierOk, Primitive.mostIntegerOctets, Primitive.mostIdentifierOctets}
 use Rattle.element.specs.{Element.Element, Element.SeriesOf}
 use Rattle.tcap.specs.{declared.Span.Span, declared.OptionalSpan.OptionalSpan, declared.OptionalOrig.OptionalOrig, declared.OptionalDest.OptionalDest, declared.InvokeId.InvokeId, declared.LinkedId.LinkedId, declared.Code.Code, declared.Problem.Problem, declared.Diagnostic.Diagnostic, declared.Returned.Returned, declared.ComponentKind.ComponentKind, declared.Row.Row, declared.Dialogue.Dialogue, declared.MessageKind.MessageKind, declared.Record.Record, WellFormed.mostComponents, WellFormed.the93, WellFormed.leftAt, WellFormed.Outside}
+use Rattle.tcap.specs.WellFormed.{mostTransactionIdOctets, mostGeneralProblem, mostInvokeProblem, mostResultProblem, mostErrorProblem, mostCause, mostResult, mostUserDiagnostic, mostProviderDiagnostic, mostAbortSource}
 
 -- what a kind must have, may have, may not have
 pub data Need : Type 0 where
@@ -53,17 +54,17 @@ optionParts w OptionalSpan.Absent = []
 optionParts w (OptionalSpan.Present s) = string w s ∷ []
 
 unfoldable pub sourcePart : Diagnostic → Part
-sourcePart (Diagnostic.ByUser n) = number n 2
-sourcePart (Diagnostic.ByProvider n) = number n 2
+sourcePart (Diagnostic.ByUser n) = number n mostUserDiagnostic
+sourcePart (Diagnostic.ByProvider n) = number n mostProviderDiagnostic
 
 -- the cause stands in its place
 unfoldable pub dialogueParts : Need → Dialogue → List Part
 dialogueParts c Dialogue.NoDialogue = there c false ∷ []
-dialogueParts c (Dialogue.Cause n) = there c true ∷ number n 4 ∷ []
+dialogueParts c (Dialogue.Cause n) = there c true ∷ number n mostCause ∷ []
 dialogueParts c (Dialogue.Request n u) = there c false ∷ string identifier n ∷ optionParts series u
 dialogueParts c (Dialogue.Unidialogue n u) = there c false ∷ string identifier n ∷ optionParts series u
-dialogueParts c (Dialogue.Response n r s u) = there c false ∷ string identifier n ∷ number r 1 ∷ sourcePart s ∷ optionParts series u
-dialogueParts c (Dialogue.DialogueAbort r u) = there c false ∷ number r 1 ∷ optionParts series u
+dialogueParts c (Dialogue.Response n r s u) = there c false ∷ string identifier n ∷ number r mostResult ∷ sourcePart s ∷ optionParts series u
+dialogueParts c (Dialogue.DialogueAbort r u) = there c false ∷ number r mostAbortSource ∷ optionParts series u
 dialogueParts c (Dialogue.OutsideElement n e) = there c false ∷ string outside n ∷ string (element 5) e ∷ []
 dialogueParts c (Dialogue.OutsideOctets n s) = there c false ∷ string outside n ∷ string anything s ∷ []
 
@@ -85,10 +86,10 @@ returnedParts Returned.Bare = []
 returnedParts (Returned.Both c p) = codePart c ∷ string (element 5) p ∷ []
 
 unfoldable pub problemPart : Problem → Part
-problemPart (Problem.General n) = number n 2
-problemPart (Problem.OfInvoke n) = number n 7
-problemPart (Problem.OfResult n) = number n 2
-problemPart (Problem.OfError n) = number n 4
+problemPart (Problem.General n) = number n mostGeneralProblem
+problemPart (Problem.OfInvoke n) = number n mostInvokeProblem
+problemPart (Problem.OfResult n) = number n mostResultProblem
+problemPart (Problem.OfError n) = number n mostErrorProblem
 
 -- null is for a Reject alone
 unfoldable pub rowParts : InvokeId → ComponentKind → List Part
@@ -124,11 +125,11 @@ Misfit (number n most) = ⊥
 Misfit (signed k z) = ⊥
 Misfit (string w s) = ⊥
 
--- an ID has 1 to 4 octets, an identifier 1 to 16; other strings have no bound of their own
+-- an ID and an identifier have a bound, and are not empty; other strings have no bound of their own
 unfoldable pub LengthOff : Wanted → ℕ → Type 0
-LengthOff transaction n = (n < 1) ⊎ (4 < n)
-LengthOff identifier n = (n < 1) ⊎ (16 < n)
-LengthOff outside n = (n < 1) ⊎ (16 < n)
+LengthOff transaction n = (n < 1) ⊎ (mostTransactionIdOctets < n)
+LengthOff identifier n = (n < 1) ⊎ (mostIdentifierOctets < n)
+LengthOff outside n = (n < 1) ⊎ (mostIdentifierOctets < n)
 LengthOff (element l) n = ⊥
 LengthOff series n = ⊥
 LengthOff anything n = ⊥

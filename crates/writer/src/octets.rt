@@ -5,6 +5,7 @@ ghost use Rattle.writer.specs.Octets.{writingOctets, leavesOctets};
 use crate::WriteFault;
 use crate::Written;
 use crate::fault_at;
+use tcap::MOST_OCTETS;
 use unpack::head::dest_in;
 use unpack::head::dialogue_in;
 use unpack::head::is_head;
@@ -13,7 +14,6 @@ use unpack::head::orig_in;
 use unpack::number::number_at;
 use unpack::rows_looked;
 use write_check_row::Judged;
-use write_check_row::MOST_OCTETS;
 use write_check_row::row::rows_judged;
 use write_put::put_message;
 
