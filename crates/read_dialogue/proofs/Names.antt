@@ -18,7 +18,7 @@ use Rattle.element.specs.Parts.{Item, level, leafContents, leafItem, aroundItem
 use Rattle.element.specs.Walk.{walkItem}
 use Rattle.element.proofs.Asking.{the-fact}
 use Rattle.element.proofs.Reading.{definite-size, indefinite-size}
-use Rattle.primitive.specs.Primitive.{identifierOk, numbers}
+use Rattle.primitive.specs.Primitive.{mostIdentifierOctets, identifierOk, numbers}
 use Rattle.tcap.specs.Meaning.{Dialogue, single, octets, structured, unstructured}
 use Rattle.tcap.specs.Names.{kindOf, nameKind}
 use Rattle.tcap.specs.WellFormed.{the93}
@@ -110,7 +110,7 @@ module _ (m : List ℕ) (at stop r : ℕ) (e : Reads nameItem m at stop r) where
 
   pub name-room : Near r → at + 2 ≤ r
   name-room f =
-      let z = placed-got _ at (until stop) r _ e f (value-leaf 6 16 identifierOk (omega arith, omega arith, omega arith) (omega arith) name-sized at (part m at stop) (level 1) (finite stop)) in
+      let z = placed-got _ at (until stop) r _ e f (value-leaf 6 mostIdentifierOctets identifierOk (omega arith, omega arith, omega arith) (omega arith) name-sized at (part m at stop) (level 1) (finite stop)) in
       omega (arith, z .2 .0)
 
 -- a name of n octets
@@ -119,7 +119,7 @@ module _ (m : List ℕ) (at stop n : ℕ) (e : Reads nameItem m at stop (at + 2 
   -- they stand behind its tag and length
   octets-are : (a : Text) (k : ℕ) → ask (front (level 13) FaultKind.Another nameItem) (finite stop) at (part m at stop) ≡ got a k → at + 2 + n ≡ at + k → a .1 ≡ take n (drop (at + 2) m)
   octets-are a k i z =
-      let s = the-fact (rw i at (value-leaf 6 16 identifierOk (omega arith, omega arith, omega arith) (omega arith) name-sized at (part m at stop) (level 13) (finite stop))) in
+      let s = the-fact (rw i at (value-leaf 6 mostIdentifierOctets identifierOk (omega arith, omega arith, omega arith) (omega arith) name-sized at (part m at stop) (level 13) (finite stop))) in
       let l = placed-near _ at (until stop) (at + 2 + n) e near in
       let size : k - 2 ≡ n = omega (arith, z) in
       ap (λ (v : Text). v .1) (s .1) ∙ span-take m at (until stop) 2 (k - 2) (omega (arith, z, l, s .0)) h ∙ ap (λ (j : ℕ). take j (drop (at + 2) m)) size
@@ -159,10 +159,10 @@ pub name-other : (m : List ℕ) (at n k : ℕ) (xs : List ℕ) → xs ≡ take n
 name-other m at n k xs xs-is told z = ap nameKind (sym xs-is) ∙ sym told ∙ z
 
 module _ (m : List ℕ) (at stop n : ℕ) (ready : Ready m at stop) where
-  pub name-lacks : n ≡ countOf (until stop) at (getD m at 0) (getD m (at + 1) 0) 6 16 → n ≡ 0 → (r : ℕ) → r ≡ badPlace m at stop 6 → Finishes (externalBody the93) m at stop r
+  pub name-lacks : n ≡ countOf (until stop) at (getD m at 0) (getD m (at + 1) 0) 6 mostIdentifierOctets → n ≡ 0 → (r : ℕ) → r ≡ badPlace m at stop 6 → Finishes (externalBody the93) m at stop r
   name-lacks is z r e = external-far m at stop r (name-none m at stop n (ready .0 .0) (ready .0 .1) is z r e) (bad-far m at stop 6 r e)
 
-  pub name-counted : n ≡ countOf (until stop) at (getD m at 0) (getD m (at + 1) 0) 6 16 → (n ≡ 0 → ⊥) → NameCounted m at stop n
+  pub name-counted : n ≡ countOf (until stop) at (getD m at 0) (getD m (at + 1) 0) 6 mostIdentifierOctets → (n ≡ 0 → ⊥) → NameCounted m at stop n
   name-counted is some = (is, positive n some)
     where
       positive : (k : ℕ) → (k ≡ 0 → ⊥) → 1 ≤ k
@@ -174,7 +174,7 @@ module _ (m : List ℕ) (at stop n : ℕ) (ready : Ready m at stop) where
     there z = omega (arith, z, counted .1)
 
     pub name-to : at + 2 + n ≤ until stop
-    name-to = count-room m at (until stop) 6 16 n (counted .0) there .0
+    name-to = count-room m at (until stop) 6 mostIdentifierOctets n (counted .0) there .0
 
     pub name-near : Near (at + 2 + n)
     name-near = omega (arith, name-to)

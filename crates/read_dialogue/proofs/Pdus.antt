@@ -20,7 +20,7 @@ use Rattle.element.specs.Parts.{Item, level, aroundItem, mapItem, thenBody, onl
 use Rattle.element.specs.Answers.{lengthSize}
 use Rattle.tcap.specs.declared.Diagnostic.{Diagnostic}
 use Rattle.tcap.specs.Meaning.{version, request, unidialogue, response, aborted}
-use Rattle.tcap.specs.WellFormed.{the93}
+use Rattle.tcap.specs.WellFormed.{mostResult, mostUserDiagnostic, mostProviderDiagnostic, mostAbortSource, the93}
 use Rattle.tcap.specs.Productions.{octetItem, nameItem, versionBody, contextItem, infoBody, numberItem, sourceItem, askedItem, answeredItem, abortedItem}
 use Rattle.read_place.specs.Places.{Far, Near, until, finite, part, front, Placed, nothing, Reads, Finishes, Leads, standsOf, entryPlace, badPlace, countOf, badContents}
 use Rattle.read_place.proofs.Answers.{Keeps}
@@ -166,52 +166,52 @@ module _ {B : Type 0} (y : Body B) (m : List ℕ) (at stop r : ℕ) (g : at ≤ 
 
 -- What stands behind the context of a response
 
-module _ (m : List ℕ) (at stop r : ℕ) (e : Reads (numberIn 162 1) m at stop r) where
-  result-lifted : Placed at (until stop) (ask (front (level 11) FaultKind.Another (numberItem the93 162 7 1)) (finite stop) at (part m at stop)) r
-  result-lifted = placed-where (numberItem the93 162 7 1) FaultKind.Another (level 11) (λ f. refl) (finite stop) at (part m at stop) (until stop) r refl (at-level 10 refl (octetItem 2 1) 162 m at stop r e)
+module _ (m : List ℕ) (at stop r : ℕ) (e : Reads (numberIn 162 mostResult) m at stop r) where
+  result-lifted : Placed at (until stop) (ask (front (level 11) FaultKind.Another (numberItem the93 162 7 mostResult)) (finite stop) at (part m at stop)) r
+  result-lifted = placed-where (numberItem the93 162 7 mostResult) FaultKind.Another (level 11) (λ f. refl) (finite stop) at (part m at stop) (until stop) r refl (at-level 10 refl (octetItem 2 mostResult) 162 m at stop r e)
 
   abbrev then-source : Body (Diagnostic × Option Text)
   then-source = thenBody (level 11) (sourceItem the93) (infoBody the93)
 
   pub accepted-result : Far r → Finishes acceptedBody m at stop r
-  accepted-result f = then-far (level 11) (numberItem the93 162 7 1) m at stop r result-lifted then-source f
+  accepted-result f = then-far (level 11) (numberItem the93 162 7 mostResult) m at stop r result-lifted then-source f
 
   module _ (near : Near r) (s : ℕ) (d : Reads (sourceItem the93) m r stop s) where
     source-lifted : Placed r (until stop) (ask (front (level 11) FaultKind.Another (sourceItem the93)) (finite stop) r (part m r stop)) s
     source-lifted = placed-where (sourceItem the93) FaultKind.Another (level 11) (λ f. refl) (finite stop) r (part m r stop) (until stop) s refl d
 
     pub accepted-source : Far s → Finishes acceptedBody m at stop s
-    accepted-source f = then-near (level 11) (numberItem the93 162 7 1) m at stop r result-lifted then-source s near (then-far (level 11) (sourceItem the93) m r stop s source-lifted (infoBody the93) f)
+    accepted-source f = then-near (level 11) (numberItem the93 162 7 mostResult) m at stop r result-lifted then-source s near (then-far (level 11) (sourceItem the93) m r stop s source-lifted (infoBody the93) f)
 
     pub accepted-near : Near s → (q : ℕ) → Finishes (infoBody the93) m s stop q → Finishes acceptedBody m at stop q
-    accepted-near f q z = then-near (level 11) (numberItem the93 162 7 1) m at stop r result-lifted then-source q near (then-near (level 11) (sourceItem the93) m r stop s source-lifted (infoBody the93) q f z)
+    accepted-near f q z = then-near (level 11) (numberItem the93 162 7 mostResult) m at stop r result-lifted then-source q near (then-near (level 11) (sourceItem the93) m r stop s source-lifted (infoBody the93) q f z)
 
 -- An abort
 
-module _ (m : List ℕ) (at stop r : ℕ) (e : Reads (octetItem 128 1) m at stop r) where
-  abort-lifted : Placed at (until stop) (ask (front (level 11) FaultKind.Another (octetItem 128 1)) (finite stop) at (part m at stop)) r
-  abort-lifted = placed-where (octetItem 128 1) FaultKind.Another (level 11) (λ f. refl) (finite stop) at (part m at stop) (until stop) r refl e
+module _ (m : List ℕ) (at stop r : ℕ) (e : Reads (octetItem 128 mostAbortSource) m at stop r) where
+  abort-lifted : Placed at (until stop) (ask (front (level 11) FaultKind.Another (octetItem 128 mostAbortSource)) (finite stop) at (part m at stop)) r
+  abort-lifted = placed-where (octetItem 128 mostAbortSource) FaultKind.Another (level 11) (λ f. refl) (finite stop) at (part m at stop) (until stop) r refl e
 
   pub aborted-far : Far r → Finishes abortedBody m at stop r
-  aborted-far f = then-far (level 11) (octetItem 128 1) m at stop r abort-lifted (infoBody the93) f
+  aborted-far f = then-far (level 11) (octetItem 128 mostAbortSource) m at stop r abort-lifted (infoBody the93) f
 
   pub aborted-near : Near r → (s : ℕ) → Finishes (infoBody the93) m r stop s → Finishes abortedBody m at stop s
-  aborted-near f s q = then-near (level 11) (octetItem 128 1) m at stop r abort-lifted (infoBody the93) s f q
+  aborted-near f s q = then-near (level 11) (octetItem 128 mostAbortSource) m at stop r abort-lifted (infoBody the93) s f q
 
 -- A diagnostic
 
 module _ (m : List ℕ) (at stop r : ℕ) (h : until stop ≤ length m) (b : Bool) (is : b ≡ standsOf m at stop 161) where
   abbrev by-user : Item Diagnostic
-  by-user = mapItem Diagnostic.ByUser (numberItem the93 161 8 2)
+  by-user = mapItem Diagnostic.ByUser (numberItem the93 161 8 mostUserDiagnostic)
 
   abbrev by-provider : Item Diagnostic
-  by-provider = mapItem Diagnostic.ByProvider (numberItem the93 162 8 2)
+  by-provider = mapItem Diagnostic.ByProvider (numberItem the93 162 8 mostProviderDiagnostic)
 
-  pub diagnostic-user : b ≡ true → Reads (numberIn 161 2) m at stop r → Reads diagnosticItem m at stop r
-  diagnostic-user t e = first-of by-user by-provider m at stop r (λ a s z. ap (λ (q : ℕ). eqb q 162) (stands-only m at stop 161 h (sym is ∙ t) a s z)) (reads-map Diagnostic.ByUser (numberItem the93 161 8 2) m at stop r (at-level 9 refl (octetItem 2 2) 161 m at stop r e))
+  pub diagnostic-user : b ≡ true → Reads (numberIn 161 mostUserDiagnostic) m at stop r → Reads diagnosticItem m at stop r
+  diagnostic-user t e = first-of by-user by-provider m at stop r (λ a s z. ap (λ (q : ℕ). eqb q 162) (stands-only m at stop 161 h (sym is ∙ t) a s z)) (reads-map Diagnostic.ByUser (numberItem the93 161 8 mostUserDiagnostic) m at stop r (at-level 9 refl (octetItem 2 mostUserDiagnostic) 161 m at stop r e))
 
-  pub diagnostic-provider : b ≡ false → Reads (numberIn 162 2) m at stop r → Reads diagnosticItem m at stop r
-  diagnostic-provider t e = second-of by-user by-provider m at stop r (λ a s z. stands-other m at stop 161 h (sym is ∙ t) a s z) (reads-map Diagnostic.ByProvider (numberItem the93 162 8 2) m at stop r (at-level 9 refl (octetItem 2 2) 162 m at stop r e))
+  pub diagnostic-provider : b ≡ false → Reads (numberIn 162 mostProviderDiagnostic) m at stop r → Reads diagnosticItem m at stop r
+  diagnostic-provider t e = second-of by-user by-provider m at stop r (λ a s z. stands-other m at stop 161 h (sym is ∙ t) a s z) (reads-map Diagnostic.ByProvider (numberItem the93 162 8 mostProviderDiagnostic) m at stop r (at-level 9 refl (octetItem 2 mostProviderDiagnostic) 162 m at stop r e))
 
 -- Constructors around one element
 

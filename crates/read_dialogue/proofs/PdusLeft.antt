@@ -18,7 +18,7 @@ use Rattle.element.proofs.Asking.{fact, then-next}
 use Rattle.element.specs.Answers.{lengthSize}
 use Rattle.tcap.specs.declared.Diagnostic.{Diagnostic}
 use Rattle.tcap.specs.Meaning.{Dialogue, request, unidialogue, response, aborted}
-use Rattle.tcap.specs.WellFormed.{the93}
+use Rattle.tcap.specs.WellFormed.{mostResult, mostUserDiagnostic, mostProviderDiagnostic, mostAbortSource, the93}
 use Rattle.tcap.specs.Productions.{single?, octetItem, nameItem, versionBody, contextItem, infoBody, numberItem, sourceItem, askedItem, answeredItem, abortedItem}
 use Rattle.read_place.specs.Places.{Near, until, finite, part, front, Closing, Shut, Reads, Finishes, Leads, endedOf, standsOf, entryPlace}
 use Rattle.read_place.specs.Laying.{layText, layName, layInfo, layDiagnostic, layDialogue}
@@ -121,22 +121,22 @@ module _ (m : List ℕ) (st inner r most : ℕ) (to : until inner ≤ length m) 
 
 module _ (m : List ℕ) (at stop : ℕ) (h : until stop ≤ length m) (b : Bool) (is : b ≡ standsOf m at stop 161) (old new : List ℕ) where
   abbrev by-user : Item Diagnostic
-  by-user = mapItem Diagnostic.ByUser (numberItem the93 161 8 2)
+  by-user = mapItem Diagnostic.ByUser (numberItem the93 161 8 mostUserDiagnostic)
 
   abbrev by-provider : Item Diagnostic
-  by-provider = mapItem Diagnostic.ByProvider (numberItem the93 162 8 2)
+  by-provider = mapItem Diagnostic.ByProvider (numberItem the93 162 8 mostProviderDiagnostic)
 
-  pub user-left : b ≡ true → Leaves (layNumber 43) untold (numberIn 161 2) m at stop (set old 42 161) new → Leaves layDiagnostic untold diagnosticItem m at stop old new
+  pub user-left : b ≡ true → Leaves (layNumber 43) untold (numberIn 161 mostUserDiagnostic) m at stop (set old 42 161) new → Leaves layDiagnostic untold diagnosticItem m at stop old new
   unfolding layDiagnostic
   user-left t e =
       leaves-first m at stop by-user by-provider layDiagnostic old new (λ a s z. ap (λ (q : ℕ). eqb q 162) (stands-only m at stop 161 h (sym is ∙ t) a s z))
-      (leaves-map m at stop Diagnostic.ByUser (numberItem the93 161 8 2) (layNumber 43) layDiagnostic old (set old 42 161) new (λ n. refl) (rw (← (level-ask 9 refl (octetItem 2 2) 161 m at stop)) e))
+      (leaves-map m at stop Diagnostic.ByUser (numberItem the93 161 8 mostUserDiagnostic) (layNumber 43) layDiagnostic old (set old 42 161) new (λ n. refl) (rw (← (level-ask 9 refl (octetItem 2 mostUserDiagnostic) 161 m at stop)) e))
 
-  pub provider-left : b ≡ false → Leaves (layNumber 43) untold (numberIn 162 2) m at stop (set old 42 162) new → Leaves layDiagnostic untold diagnosticItem m at stop old new
+  pub provider-left : b ≡ false → Leaves (layNumber 43) untold (numberIn 162 mostProviderDiagnostic) m at stop (set old 42 162) new → Leaves layDiagnostic untold diagnosticItem m at stop old new
   unfolding layDiagnostic
   provider-left t e =
       leaves-second m at stop by-user by-provider layDiagnostic old new (λ a s z. stands-other m at stop 161 h (sym is ∙ t) a s z)
-      (leaves-map m at stop Diagnostic.ByProvider (numberItem the93 162 8 2) (layNumber 43) layDiagnostic old (set old 42 162) new (λ n. refl) (rw (← (level-ask 9 refl (octetItem 2 2) 162 m at stop)) e))
+      (leaves-map m at stop Diagnostic.ByProvider (numberItem the93 162 8 mostProviderDiagnostic) (layNumber 43) layDiagnostic old (set old 42 162) new (λ n. refl) (rw (← (level-ask 9 refl (octetItem 2 mostProviderDiagnostic) 162 m at stop)) e))
 
 -- The contents of the PDUs
 
@@ -155,27 +155,27 @@ module _ (m : List ℕ) (at stop r : ℕ) (g : at ≤ until stop) (h : until sto
   pub answered-left : LeavesAll layResult untold acceptedBody m s stop mid new → LeavesAll layAnswered untold answeredBody m at stop old new
   answered-left z = named-left acceptedBody layResult m at stop r g h e near s c found old mid new q z
 
-module _ (m : List ℕ) (at stop r : ℕ) (e : Reads (numberIn 162 1) m at stop r) (near : Near r) (s : ℕ) (d : Reads (sourceItem the93) m r stop s) (found : Near s) (old mid past new : List ℕ) where
-  result-ask : ask (front (level 1) FaultKind.Another (numberIn 162 1)) (finite stop) at (part m at stop) ≡ ask (front (level 1) FaultKind.Another (numberItem the93 162 7 1)) (finite stop) at (part m at stop)
-  result-ask = level-ask 10 refl (octetItem 2 1) 162 m at stop
+module _ (m : List ℕ) (at stop r : ℕ) (e : Reads (numberIn 162 mostResult) m at stop r) (near : Near r) (s : ℕ) (d : Reads (sourceItem the93) m r stop s) (found : Near s) (old mid past new : List ℕ) where
+  result-ask : ask (front (level 1) FaultKind.Another (numberIn 162 mostResult)) (finite stop) at (part m at stop) ≡ ask (front (level 1) FaultKind.Another (numberItem the93 162 7 mostResult)) (finite stop) at (part m at stop)
+  result-ask = level-ask 10 refl (octetItem 2 mostResult) 162 m at stop
 
-  pub accepted-left : Leaves (layNumber 41) untold (numberIn 162 1) m at stop old mid → Leaves layDiagnostic untold (sourceItem the93) m r stop mid past → LeavesAll layInfo untold (infoBody the93) m s stop past new → LeavesAll layResult untold acceptedBody m at stop old new
+  pub accepted-left : Leaves (layNumber 41) untold (numberIn 162 mostResult) m at stop old mid → Leaves layDiagnostic untold (sourceItem the93) m r stop mid past → LeavesAll layInfo untold (infoBody the93) m s stop past new → LeavesAll layResult untold acceptedBody m at stop old new
   accepted-left x q z =
-      then-left untold (level 11) (numberItem the93 162 7 1) m at stop r (placed-where (numberItem the93 162 7 1) FaultKind.Another (level 11) (λ f. refl) (finite stop) at (part m at stop) (until stop) r refl (rw (← result-ask) e)) (layNumber 41) old
+      then-left untold (level 11) (numberItem the93 162 7 mostResult) m at stop r (placed-where (numberItem the93 162 7 mostResult) FaultKind.Another (level 11) (λ f. refl) (finite stop) at (part m at stop) (until stop) r refl (rw (← result-ask) e)) (layNumber 41) old
       (thenBody (level 11) (sourceItem the93) (infoBody the93)) (λ v l. layInfo (v .1) (layDiagnostic (v .0) l)) mid new near
-      (left-where untold (layNumber 41) (numberItem the93 162 7 1) FaultKind.Another (level 11) (λ f l t. tt) (finite stop) at (part m at stop) old mid refl (rw (← result-ask) x))
+      (left-where untold (layNumber 41) (numberItem the93 162 7 mostResult) FaultKind.Another (level 11) (λ f l t. tt) (finite stop) at (part m at stop) old mid refl (rw (← result-ask) x))
       (then-left untold (level 11) (sourceItem the93) m r stop s (placed-where (sourceItem the93) FaultKind.Another (level 11) (λ f. refl) (finite stop) r (part m r stop) (until stop) s refl d) layDiagnostic mid (infoBody the93) layInfo past new found
       (left-where untold layDiagnostic (sourceItem the93) FaultKind.Another (level 11) (λ f l t. tt) (finite stop) r (part m r stop) mid past refl q) z)
 
-module _ (m : List ℕ) (at stop r : ℕ) (h : until stop ≤ length m) (e : Reads (octetItem 128 1) m at stop r) (near : Near r) where
+module _ (m : List ℕ) (at stop r : ℕ) (h : until stop ≤ length m) (e : Reads (octetItem 128 mostAbortSource) m at stop r) (near : Near r) where
   pub aborted-in : at + 2 < length m
-  aborted-in = omega (arith, octet-behind m at stop r 128 1 (omega arith, omega arith, omega arith) e near, h, reads-within (octetItem 128 1) m at stop r e near)
+  aborted-in = omega (arith, octet-behind m at stop r 128 mostAbortSource (omega arith, omega arith, omega arith) e near, h, reads-within (octetItem 128 mostAbortSource) m at stop r e near)
 
   pub aborted-left : (old new : List ℕ) → LeavesAll layInfo untold (infoBody the93) m r stop (set old 41 (getD m (at + 2) 0)) new → LeavesAll layAborted untold abortedBody m at stop old new
   aborted-left old new z =
-      then-left untold (level 11) (octetItem 128 1) m at stop r (placed-where (octetItem 128 1) FaultKind.Another (level 11) (λ f. refl) (finite stop) at (part m at stop) (until stop) r refl e) (layNumber 41) old (infoBody the93) layInfo (set old 41 (getD m (at + 2) 0)) new near
-      (left-where untold (layNumber 41) (octetItem 128 1) FaultKind.Another (level 11) (λ f l t. tt) (finite stop) at (part m at stop) old (set old 41 (getD m (at + 2) 0)) refl
-      (value-left (layNumber 41) _ (getD m (at + 2) 0) old _ (octet-gives m at stop r h near 128 1 (omega arith, omega arith, omega arith) e) refl)) z
+      then-left untold (level 11) (octetItem 128 mostAbortSource) m at stop r (placed-where (octetItem 128 mostAbortSource) FaultKind.Another (level 11) (λ f. refl) (finite stop) at (part m at stop) (until stop) r refl e) (layNumber 41) old (infoBody the93) layInfo (set old 41 (getD m (at + 2) 0)) new near
+      (left-where untold (layNumber 41) (octetItem 128 mostAbortSource) FaultKind.Another (level 11) (λ f l t. tt) (finite stop) at (part m at stop) old (set old 41 (getD m (at + 2) 0)) refl
+      (value-left (layNumber 41) _ (getD m (at + 2) 0) old _ (octet-gives m at stop r h near 128 mostAbortSource (omega arith, omega arith, omega arith) e) refl)) z
 
 -- The PDUs
 

@@ -20,7 +20,7 @@ use Rattle.element.specs.Parts.{Item, Where, level, leafContents, leafItem, ins
 use Rattle.element.specs.Walk.{walkItem}
 use Rattle.element.proofs.Asking.{Then, fact, void, then-next, then-blamed}
 use Rattle.element.proofs.Reading.{definite-size, indefinite-size}
-use Rattle.primitive.specs.Primitive.{identifierOk}
+use Rattle.primitive.specs.Primitive.{mostIdentifierOctets, identifierOk}
 use Rattle.tcap.specs.Meaning.{single, octets}
 use Rattle.tcap.specs.WellFormed.{the93}
 use Rattle.tcap.specs.Productions.{single?, octetItem, nameItem, contextItem, infoBody, heldItem}
@@ -52,7 +52,7 @@ module _ (m : List ℕ) (at stop r : ℕ) (h : until stop ≤ length m) (near : 
       let k : r - at - 2 ≡ r - (at + 2) = omega arith in q .1 ∙ rw (span-take m at (until stop) 2 (r - at - 2) (omega (arith, l, q .0)) h, k))
 
   pub name-gives : Reads nameItem m at stop r → Gives nameItem m at stop (textAt m (at + 2) r)
-  name-gives e = leaf-gives 6 16 identifierOk (omega arith, omega arith, omega arith) (omega arith) name-sized e
+  name-gives e = leaf-gives 6 mostIdentifierOctets identifierOk (omega arith, omega arith, omega arith) (omega arith) name-sized e
 
   pub octet-gives : (tag most : ℕ) → Leads tag → Reads (octetItem tag most) m at stop r → Gives (octetItem tag most) m at stop (getD m (at + 2) 0)
   octet-gives tag most leads e =

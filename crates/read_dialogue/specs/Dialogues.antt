@@ -4,8 +4,9 @@ use Prim.Native.Nat.{ℕ, _+_, _-_, _≤_}
 use mathlib.Core.{Path._≡_, Bool.Bool, Bool.true, Bool.false, Bool.cond, List.List, List.[], Option.Option, Option.some}
 use lib.{ListN.getD, ListN.take, ListN.drop, ListN.set}
 use Rattle.base.specs.Value.{same}
+use Rattle.primitive.specs.Primitive.{mostIdentifierOctets}
 use Rattle.element.specs.{declared.FaultKind.FaultKind, declared.EndRead.EndRead, Fault.Text, Ask.Body, Parts.Item, Parts.level, Parts.leafItem, Parts.aroundItem, Parts.mapItem, Parts.orItem, Parts.thenBody, Parts.onlyBody, Parts.seriesBody, Walk.walkTagItem}
-use Rattle.tcap.specs.{declared.Diagnostic.Diagnostic, Meaning.Dialogue, Meaning.request, Meaning.unidialogue, Meaning.response, Meaning.aborted, Meaning.single, Meaning.octets, Meaning.version, WellFormed.the93, Productions.octetItem, Productions.levelAt, Productions.versionBody, Productions.contextItem, Productions.infoBody, Productions.numberItem, Productions.sourceItem, Productions.askedItem, Productions.answeredItem, Productions.abortedItem, Productions.heldItem}
+use Rattle.tcap.specs.{WellFormed.mostResult, WellFormed.mostUserDiagnostic, WellFormed.mostProviderDiagnostic, WellFormed.mostAbortSource, declared.Diagnostic.Diagnostic, Meaning.Dialogue, Meaning.request, Meaning.unidialogue, Meaning.response, Meaning.aborted, Meaning.single, Meaning.octets, Meaning.version, WellFormed.the93, Productions.octetItem, Productions.levelAt, Productions.versionBody, Productions.contextItem, Productions.infoBody, Productions.numberItem, Productions.sourceItem, Productions.askedItem, Productions.answeredItem, Productions.abortedItem, Productions.heldItem}
 use Rattle.read_place.specs.Places.{until, finite, countOf, standsOf, Reads}
 use Rattle.read_place.specs.Laying.{laySpan, layName, layInfo, layDiagnostic}
 use Rattle.read_place.specs.Leaves.{Leaves, untold}
@@ -30,29 +31,29 @@ abbrev pub numberIn : ℕ → ℕ → Item ℕ
 numberIn tag most = aroundItem tag (onlyBody (level 1) (octetItem 0x02 most))
 
 abbrev pub diagnosticItem : Item Diagnostic
-diagnosticItem = orItem (mapItem Diagnostic.ByUser (numberItem the93 0xA1 8 2)) (mapItem Diagnostic.ByProvider (numberItem the93 0xA2 8 2))
+diagnosticItem = orItem (mapItem Diagnostic.ByUser (numberItem the93 0xA1 8 mostUserDiagnostic)) (mapItem Diagnostic.ByProvider (numberItem the93 0xA2 8 mostProviderDiagnostic))
 
 -- the contents of 60, 61 and 64
 abbrev pub askedBody : Body (Text × Option Text)
 askedBody = versionBody (thenBody (levelAt the93 6) (contextItem the93) (infoBody the93))
 
 abbrev pub acceptedBody : Body (ℕ × (Diagnostic × Option Text))
-acceptedBody = thenBody (levelAt the93 6) (numberItem the93 0xA2 7 1) (thenBody (levelAt the93 6) (sourceItem the93) (infoBody the93))
+acceptedBody = thenBody (levelAt the93 6) (numberItem the93 0xA2 7 mostResult) (thenBody (levelAt the93 6) (sourceItem the93) (infoBody the93))
 
 abbrev pub answeredBody : Body (Text × (ℕ × (Diagnostic × Option Text)))
 answeredBody = versionBody (thenBody (levelAt the93 6) (contextItem the93) acceptedBody)
 
 abbrev pub abortedBody : Body (ℕ × Option Text)
-abortedBody = thenBody (levelAt the93 6) (octetItem 0x80 1) (infoBody the93)
+abortedBody = thenBody (levelAt the93 6) (octetItem 0x80 mostAbortSource) (infoBody the93)
 
 -- the PDU of the structured dialogue, or of the unstructured
 unfoldable pub pduItem : Bool → Item (Dialogue Text)
 pduItem true = orItem (askedItem the93 request) (orItem (answeredItem the93) (abortedItem the93))
 pduItem false = askedItem the93 unidialogue
 
--- how many octets a name here would have: 1 to 16
+-- how many octets a name here would have
 abbrev pub NameCounted : List ℕ → ℕ → ℕ → ℕ → Type 0
-NameCounted m at stop n = (n ≡ countOf (until stop) at (getD m at 0) (getD m (at + 1) 0) 0x06 16) × (1 ≤ n)
+NameCounted m at stop n = (n ≡ countOf (until stop) at (getD m at 0) (getD m (at + 1) 0) 0x06 mostIdentifierOctets) × (1 ≤ n)
 
 -- what stands behind another name, whatever that was
 unfoldable pub Holds : List ℕ → ℕ → ℕ → ℕ → Type 0

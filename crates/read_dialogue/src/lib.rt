@@ -15,14 +15,13 @@ ghost use Rattle.tcap.specs.WellFormed.{the93};
 ghost use Rattle.tcap.specs.Productions.{levelAt, contextItem, sourceItem, infoBody, parameterItem, externalBody, dialogueItem};
 ghost use Rattle.read_dialogue.specs.Dialogues.{externalsBody, versionItem, Passes, numberIn, diagnosticItem, askedBody, acceptedBody, answeredBody, abortedBody, pduItem, Holds, NameCounted, ownerMark, contentsEnd, layNumber, layAsked, layResult, layAnswered, layAborted, Lays};
 use base::piece;
+use primitive::MOST_IDENTIFIER_OCTETS;
 use read_field::name_at;
 use read_field::small_at;
 use read_place::ANOTHER;
 use read_place::BAD_CONTENTS;
 use read_place::CUT_OFF;
 use read_place::FAULT;
-use read_place::LEFT_AT_5;
-use read_place::LEFT_AT_7;
 use read_place::MISSING;
 use read_place::OF_DIALOGUE;
 use read_place::OF_PORTION;
@@ -41,6 +40,12 @@ use read_place::start_of;
 use read_place::unfinished;
 use read_place::walk_any;
 use read_place::wrong_at;
+use tcap::LEFT_AT_5;
+use tcap::LEFT_AT_7;
+use tcap::MOST_ABORT_SOURCE;
+use tcap::MOST_PROVIDER_DIAGNOSTIC;
+use tcap::MOST_RESULT;
+use tcap::MOST_USER_DIAGNOSTIC;
 use tcap::name_kind;
 
 // The elements in BE, each 28, to the end of its contents.
@@ -176,10 +181,10 @@ fn diagnostic_at(m: &[u8], at: usize, stop: usize, out: &mut [u8]) -> usize
 {
     if stands(m, at, stop, 0xA1) {
         out[42] = 0xA1;
-        return number_at(m, at, stop, 0xA1, 2, 43, out);
+        return number_at(m, at, stop, 0xA1, MOST_USER_DIAGNOSTIC, 43, out);
     }
     out[42] = 0xA2;
-    number_at(m, at, stop, 0xA2, 2, 43, out)
+    number_at(m, at, stop, 0xA2, MOST_PROVIDER_DIAGNOSTIC, 43, out)
 }
 
 // A3 around a diagnostic.
@@ -222,7 +227,7 @@ fn accepted_at(m: &[u8], at: usize, stop: usize, out: &mut [u8]) -> usize
     ensures { λ r. ⌜ Finishes acceptedBody (now (m .entry)) at stop r ⌝ }
     ensures { λ r. ⌜ LeavesAll layResult untold acceptedBody (now (m .entry)) at stop (now (out .entry)) (now (out .exit)) ⌝ }
 {
-    let r = number_at(m, at, stop, 0xA2, 1, 41, out);
+    let r = number_at(m, at, stop, 0xA2, MOST_RESULT, 41, out);
     if r >= FAULT {
         return r;
     }
@@ -256,7 +261,7 @@ fn aborted_at(m: &[u8], at: usize, stop: usize, out: &mut [u8]) -> usize
     ensures { λ r. ⌜ Finishes abortedBody (now (m .entry)) at stop r ⌝ }
     ensures { λ r. ⌜ LeavesAll layAborted untold abortedBody (now (m .entry)) at stop (now (out .entry)) (now (out .exit)) ⌝ }
 {
-    let r = small_at(m, at, stop, 0x80, 1);
+    let r = small_at(m, at, stop, 0x80, MOST_ABORT_SOURCE);
     if r >= FAULT {
         return r;
     }
@@ -410,7 +415,7 @@ fn external_at(m: &[u8], at: usize, stop: usize, out: &mut [u8]) -> usize
     ensures { λ r. ⌜ Finishes (externalBody the93) (now (m .entry)) at stop r ⌝ }
     ensures { λ r. ⌜ LeavesAll layDialogue untold (externalBody the93) (now (m .entry)) at stop (now (out .entry)) (now (out .exit)) ⌝ }
 {
-    let n = count_at(m, at, stop, 0x06, 16);
+    let n = count_at(m, at, stop, 0x06, MOST_IDENTIFIER_OCTETS);
     if n == 0 {
         return bad_field(m, at, stop, 0x06);
     }

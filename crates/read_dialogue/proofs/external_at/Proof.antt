@@ -20,7 +20,7 @@ outside-at-requires : tie.Need-outside-at-requires
 outside-at-requires c κs = search (needs, name-counted, name-other)
 
 add-known-at-2 : tie.Need-add-known-at-2
-add-known-at-2 c = let h = count-room (now (c .before .before .before .before .before .before .before .args .m)) _ _ 6 16 _ (c .before .before .before .before .count-at .ensures) (c .before .before .before .if1 .left) in omega (arith, h)
+add-known-at-2 c = let h = count-room (now (c .before .before .before .before .before .before .before .args .m)) _ _ 6 _ _ (c .before .before .before .before .count-at .ensures) (c .before .before .before .if1 .left) in omega (arith, h)
 
 known-at-requires : tie.Need-known-at-requires
 known-at-requires c κs = search (needs, name-to, name-counted)
