@@ -1,7 +1,7 @@
 -- What the readers of a component answer and lay out, as their contracts cite it; the definition of reading rests on none of it.
 -- Assumes nothing: these are definitions.
 use Prim.Native.Nat.{ℕ}
-use mathlib.Core.{Bool.Bool, Bool.true, Bool.false, Bool.cond, List.List, Option.Option}
+use mathlib.Core.{Bool.Bool, Bool.false, Bool.cond, List.List, Option.Option}
 use lib.{Dec.eqb, IntN.ℤ}
 use Rattle.element.specs.{declared.FaultKind.FaultKind, Fault.Text, Fault.withInvokeId, Ask.Body, Ask.ask, Parts.level, Parts.integerItem, Parts.bindBody, Parts.thenBody, Parts.onlyBody, Parts.lastBody, Parts.optBody}
 use Rattle.tcap.specs.{declared.Problem.Problem, Meaning.Code, Meaning.Component, Meaning.last, Meaning.notLast, WellFormed.the93, Productions.idItem, Productions.idOrNullItem, Productions.problemItem, Productions.codeItem, Productions.noted, Productions.levelAt, Productions.bothItem, Productions.invokeBody, Productions.resultBody, Productions.errorBody, Productions.rejectBody, Productions.componentItem}

@@ -17,8 +17,6 @@ use read_part::parameter_at;
 use read_part::problem_at;
 use read_part::reject_id_at;
 use read_place::FAULT;
-use read_place::LEFT_AT_4;
-use read_place::LEFT_AT_5;
 use read_place::OPEN;
 use read_place::UNKNOWN_COMPONENT;
 use read_place::behind;
@@ -29,6 +27,8 @@ use read_place::length_at;
 use read_place::stands;
 use read_place::start_of;
 use read_place::wrong_at;
+use tcap::LEFT_AT_4;
+use tcap::LEFT_AT_5;
 
 // A code and a parameter, which must stand or may be missing.
 fn coded_at(m: &[u8], at: usize, stop: usize, left: usize, must: bool, row: &mut [u8]) -> usize
