@@ -53,13 +53,6 @@ pub const OF_DIALOGUE: u8 = 1;
 
 pub const OF_COMPONENT: u8 = 2;
 
-// Levels left, of 16, for an element at level 4, 5 and 7.
-pub const LEFT_AT_4: usize = 13;
-
-pub const LEFT_AT_5: usize = 12;
-
-pub const LEFT_AT_7: usize = 10;
-
 // Whether contents end here.
 pub fn ended(m: &[u8], at: usize, stop: usize) -> bool
     requires { ⌜ Ready (now m) at stop ⌝ }
