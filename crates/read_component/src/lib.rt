@@ -22,6 +22,7 @@ use read_place::start_of;
 use read_place::unfinished;
 use read_row::component_at;
 use read_row::is_component;
+use tcap::MOST_COMPONENTS;
 
 // The invoke ID that goes with a fault of the component here: 256 and its octet, or 0.
 fn known_id(m: &[u8], at: usize, stop: usize) -> usize
@@ -79,7 +80,7 @@ pub fn rows_at(m: &[u8], from: usize, stop: usize, out: &mut [u8]) -> usize
             out[0] = OF_PORTION;
             return CUT_OFF + at;
         }
-        if k == 16 {
+        if k == MOST_COMPONENTS {
             out[0] = OF_PORTION;
             return SEVENTEENTH + at;
         }
