@@ -14,7 +14,7 @@ use Rattle.element.specs.Ask.{Got, got, bad, next, blamed, Head, Body, ask}
 use Rattle.element.specs.Parts.{Item, level, leafItem, mapItem, place}
 use Rattle.element.proofs.Asking.{Then, fact, then-next}
 use Rattle.tcap.specs.Meaning.{cause, says}
-use Rattle.tcap.specs.WellFormed.{the93, idOk}
+use Rattle.tcap.specs.WellFormed.{mostCause, mostTransactionIdOctets, the93, idOk}
 use Rattle.tcap.specs.Productions.{single?, octetItem, dialogueItem}
 use Rattle.element.proofs.Views.{span-length, span-get}
 use Rattle.read_place.specs.Places.{Far, Near, until, finite, part, front, Reads, Finishes, Leads, standsOf}
@@ -96,53 +96,53 @@ finishes-as b m at stop r s e z = rw z e
 module _ (tag : ℕ) (m : List ℕ) (at stop r : ℕ) (e : Reads (idItem tag) m at stop r) where
   module _ (flag o : ℕ) (old new : List ℕ) where
     pub id-told : Far r → length old ≡ 428 → new ≡ set old 0 0 → Leaves (layIdAt flag o) Blames (idItem tag) m at stop old new
-    id-told far long z = leaf-told (idItem tag) (λ v. v) 4 m at stop r e (plain-leaf tag idOk (finite stop) at (part m at stop)) far (layIdAt flag o) old new long z
+    id-told far long z = leaf-told (idItem tag) (λ v. v) mostTransactionIdOctets m at stop r e (plain-leaf tag idOk (finite stop) at (part m at stop)) far (layIdAt flag o) old new long z
 
     pub id-laid : Leads tag → Near r → until stop ≤ length m → new ≡ layText o (at + 2) (r - at - 2) (set old flag 1) → Leaves (layIdAt flag o) Blames (idItem tag) m at stop old new
     id-laid leads near h z =
-        let known = value-leaf tag 4 idOk leads (omega arith) transaction-sized at (part m at stop) (level 1) (finite stop) in
-        leaf-left (idItem tag) (λ v. v) 4 m at stop r e known near (layIdAt flag o) old new
-        (z ∙ ap (λ (n : ℕ). layText o (at + 2) n (set old flag 1)) (sym (leaf-length (idItem tag) (λ v. v) 4 m at stop r e known near h)))
+        let known = value-leaf tag mostTransactionIdOctets idOk leads (omega arith) transaction-sized at (part m at stop) (level 1) (finite stop) in
+        leaf-left (idItem tag) (λ v. v) mostTransactionIdOctets m at stop r e known near (layIdAt flag o) old new
+        (z ∙ ap (λ (n : ℕ). layText o (at + 2) n (set old flag 1)) (sym (leaf-length (idItem tag) (λ v. v) mostTransactionIdOctets m at stop r e known near h)))
 
   -- how many octets they have
   pub id-room : Leads tag → Near r → at + 3 ≤ r
-  id-room leads near = leaf-room (idItem tag) (λ v. v) 4 m at stop r e (value-leaf tag 4 idOk leads (omega arith) transaction-sized at (part m at stop) (level 1) (finite stop)) near
+  id-room leads near = leaf-room (idItem tag) (λ v. v) mostTransactionIdOctets m at stop r e (value-leaf tag mostTransactionIdOctets idOk leads (omega arith) transaction-sized at (part m at stop) (level 1) (finite stop)) near
 
 -- A cause, or 6B
 
 abbrev octetIn : Text → ℕ
 octetIn v = getD (v .1) 0 0
 
-module _ (m : List ℕ) (at stop r : ℕ) (e : Reads (octetItem 74 4) m at stop r) where
-  cause-known : Then (Its (octetItem 74 4) octetIn 1 m at stop r) (leaf (octetItem 74 4) octetIn 1 m at stop r)
+module _ (m : List ℕ) (at stop r : ℕ) (e : Reads (octetItem 74 mostCause) m at stop r) where
+  cause-known : Then (Its (octetItem 74 mostCause) octetIn 1 m at stop r) (leaf (octetItem 74 mostCause) octetIn 1 m at stop r)
   cause-known =
-      rw (item-map octetIn (leafItem 74 (single? 4)) (finite stop) at (part m at stop))
-      (then-next (value-leaf 74 1 (single? 4) (omega arith, omega arith, omega arith) (omega arith) (single-sized 4) at (part m at stop) (level 1) (finite stop)) (λ v n q. fact (q .0, ap octetIn (q .1), q .2)))
+      rw (item-map octetIn (leafItem 74 (single? mostCause)) (finite stop) at (part m at stop))
+      (then-next (value-leaf 74 1 (single? mostCause) (omega arith, omega arith, omega arith) (omega arith) (single-sized mostCause) at (part m at stop) (level 1) (finite stop)) (λ v n q. fact (q .0, ap octetIn (q .1), q .2)))
 
-  cause-plain : Belongs portion (leaf (octetItem 74 4) octetIn 1 m at stop r)
-  cause-plain = rw (item-map octetIn (leafItem 74 (single? 4)) (finite stop) at (part m at stop)) (plain-map octetIn _ (plain-leaf 74 (single? 4) (finite stop) at (part m at stop)))
+  cause-plain : Belongs portion (leaf (octetItem 74 mostCause) octetIn 1 m at stop r)
+  cause-plain = rw (item-map octetIn (leafItem 74 (single? mostCause)) (finite stop) at (part m at stop)) (plain-map octetIn _ (plain-leaf 74 (single? mostCause) (finite stop) at (part m at stop)))
 
   pub cause-room : Near r → until stop ≤ length m → at + 2 < length m
-  cause-room near h = let i = placed-near _ at (until stop) r e near in omega (arith, h, i, leaf-room (octetItem 74 4) octetIn 1 m at stop r e cause-known near)
+  cause-room near h = let i = placed-near _ at (until stop) r e near in omega (arith, h, i, leaf-room (octetItem 74 mostCause) octetIn 1 m at stop r e cause-known near)
 
 module _ (m : List ℕ) (at stop r : ℕ) (h : until stop ≤ length m) (b : Bool) (is : b ≡ standsOf m at stop 107) where
   abbrev layCause : ℕ → List ℕ → List ℕ
   layCause n l = set (set l 3 1) 41 n
 
-  module _ (t : b ≡ false) (e : Reads (octetItem 74 4) m at stop r) (old new : List ℕ) where
-    by-cause : Leaves layCause Blames (octetItem 74 4) m at stop old new → Leaves layEnding Blames endingItem m at stop old new
+  module _ (t : b ≡ false) (e : Reads (octetItem 74 mostCause) m at stop r) (old new : List ℕ) where
+    by-cause : Leaves layCause Blames (octetItem 74 mostCause) m at stop old new → Leaves layEnding Blames endingItem m at stop old new
     unfolding layEnding
     by-cause q =
-        rw (or-left (level 1) FaultKind.Another (mapItem cause (octetItem 74 4)) (mapItem says (dialogueItem the93)) (finite stop) at (part m at stop) refl (λ a s z. stands-other m at stop 107 h (sym is ∙ t) a s z))
-        (leaves-map cause (octetItem 74 4) layCause layEnding m at stop old new (λ n. refl) q)
+        rw (or-left (level 1) FaultKind.Another (mapItem cause (octetItem 74 mostCause)) (mapItem says (dialogueItem the93)) (finite stop) at (part m at stop) refl (λ a s z. stands-other m at stop 107 h (sym is ∙ t) a s z))
+        (leaves-map cause (octetItem 74 mostCause) layCause layEnding m at stop old new (λ n. refl) q)
 
     pub cause-told : Far r → length old ≡ 428 → new ≡ set old 0 0 → Leaves layEnding Blames endingItem m at stop old new
-    cause-told far long z = by-cause (leaf-told (octetItem 74 4) octetIn 1 m at stop r e (cause-plain m at stop r e) far layCause old new long z)
+    cause-told far long z = by-cause (leaf-told (octetItem 74 mostCause) octetIn 1 m at stop r e (cause-plain m at stop r e) far layCause old new long z)
 
     pub cause-laid : Near r → new ≡ set (set old 3 1) 41 (getD m (at + 2) 0) → Leaves layEnding Blames endingItem m at stop old new
     cause-laid near z =
-        by-cause (leaf-left (octetItem 74 4) octetIn 1 m at stop r e (cause-known m at stop r e) near layCause old new
-        (z ∙ ap (layCause′ old) (sym (leaf-octet (octetItem 74 4) octetIn 1 m at stop r e (cause-known m at stop r e) near h))))
+        by-cause (leaf-left (octetItem 74 mostCause) octetIn 1 m at stop r e (cause-known m at stop r e) near layCause old new
+        (z ∙ ap (layCause′ old) (sym (leaf-octet (octetItem 74 mostCause) octetIn 1 m at stop r e (cause-known m at stop r e) near h))))
       where
         layCause′ : List ℕ → ℕ → List ℕ
         layCause′ l n = layCause n l
@@ -150,5 +150,5 @@ module _ (m : List ℕ) (at stop r : ℕ) (h : until stop ≤ length m) (b : Boo
   pub says-laid : b ≡ true → (old new : List ℕ) → Leaves layDialogue Blames (dialogueItem the93) m at stop old new → Leaves layEnding Blames endingItem m at stop old new
   unfolding layEnding
   says-laid t old new q =
-      rw (or-right (level 1) FaultKind.Another (mapItem cause (octetItem 74 4)) (mapItem says (dialogueItem the93)) (finite stop) at (part m at stop) refl (λ a s z. ap (λ (q : ℕ). eqb q 74) (stands-only m at stop 107 h (sym is ∙ t) a s z)))
+      rw (or-right (level 1) FaultKind.Another (mapItem cause (octetItem 74 mostCause)) (mapItem says (dialogueItem the93)) (finite stop) at (part m at stop) refl (λ a s z. ap (λ (q : ℕ). eqb q 74) (stands-only m at stop 107 h (sym is ∙ t) a s z)))
       (leaves-map says (dialogueItem the93) layDialogue layEnding m at stop old new (λ d. refl) q)

@@ -15,7 +15,7 @@ use Rattle.element.specs.Ask.{Body, ask}
 use Rattle.element.specs.Parts.{Item, level, mapItem, bindBody, thenBody, onlyBody, lastBody, optBody, mapBody}
 use Rattle.element.specs.Answers.{lengthSize}
 use Rattle.tcap.specs.Meaning.{Originating, orig, Destination, dest, Component, Dialogue, Message, cause, says, silent, unidirectional, begin, finish, continue, abort}
-use Rattle.tcap.specs.WellFormed.{the93}
+use Rattle.tcap.specs.WellFormed.{mostCause, the93}
 use Rattle.tcap.specs.Productions.{octetItem, origItem, destItem, carried, componentsItem, dialogueItem, tailBody, uniBody, beginBody, endBody, continueBody, abortBody}
 use Rattle.read_place.specs.Places.{Far, Near, until, finite, part, faultPlace, front, Placed, nothing, Reads, Finishes, endedOf, behindOf, standsOf, entryPlace}
 use Rattle.read_place.proofs.Answers.{Keeps}
@@ -155,7 +155,7 @@ module _ (m : List ℕ) (at stop r : ℕ) (e : Reads (idItem 73) m at stop r) wh
 
 module _ (m : List ℕ) (at stop r : ℕ) (h : until stop ≤ length m) (b : Bool) (is : b ≡ standsOf m at stop 107) where
   pub ending-says : b ≡ true → Reads (dialogueItem the93) m at stop r → Reads endingItem m at stop r
-  ending-says t e = second-of (mapItem cause (octetItem 74 4)) (mapItem says (dialogueItem the93)) m at stop r (λ a s z. ap (λ (q : ℕ). eqb q 74) (stands-only m at stop 107 h (sym is ∙ t) a s z)) (reads-map says (dialogueItem the93) m at stop r e)
+  ending-says t e = second-of (mapItem cause (octetItem 74 mostCause)) (mapItem says (dialogueItem the93)) m at stop r (λ a s z. ap (λ (q : ℕ). eqb q 74) (stands-only m at stop 107 h (sym is ∙ t) a s z)) (reads-map says (dialogueItem the93) m at stop r e)
 
-  pub ending-cause : b ≡ false → Reads (octetItem 74 4) m at stop r → Reads endingItem m at stop r
-  ending-cause t e = first-of (mapItem cause (octetItem 74 4)) (mapItem says (dialogueItem the93)) m at stop r (λ a s z. stands-other m at stop 107 h (sym is ∙ t) a s z) (reads-map cause (octetItem 74 4) m at stop r e)
+  pub ending-cause : b ≡ false → Reads (octetItem 74 mostCause) m at stop r → Reads endingItem m at stop r
+  ending-cause t e = first-of (mapItem cause (octetItem 74 mostCause)) (mapItem says (dialogueItem the93)) m at stop r (λ a s z. stands-other m at stop 107 h (sym is ∙ t) a s z) (reads-map cause (octetItem 74 mostCause) m at stop r e)

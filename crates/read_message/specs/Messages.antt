@@ -4,7 +4,7 @@ use Prim.Native.Nat.{ℕ}
 use mathlib.Core.{Path._≡_, Bool.Bool, Bool.true, Bool.false, Bool.cond, List.List, Option.Option, Option.none, Option.some}
 use lib.{ListN.length, ListN.set, Dec.eqb}
 use Rattle.element.specs.{Fault.Text, Ask.Got, Ask.Body, Parts.Item, Parts.lastBody, Parts.leafItem, Parts.mapItem, Parts.orItem}
-use Rattle.tcap.specs.{Meaning.Ending, Meaning.cause, Meaning.says, Meaning.Component, Meaning.Dialogue, Meaning.Message, WellFormed.the93, WellFormed.idOk, Productions.octetItem, Productions.levelAt, Productions.componentsItem, Productions.dialogueItem, Productions.uniBody, Productions.beginBody, Productions.endBody, Productions.continueBody, Productions.abortBody}
+use Rattle.tcap.specs.{WellFormed.mostCause, Meaning.Ending, Meaning.cause, Meaning.says, Meaning.Component, Meaning.Dialogue, Meaning.Message, WellFormed.the93, WellFormed.idOk, Productions.octetItem, Productions.levelAt, Productions.componentsItem, Productions.dialogueItem, Productions.uniBody, Productions.beginBody, Productions.endBody, Productions.continueBody, Productions.abortBody}
 use Rattle.read_place.specs.{Places.Placed, Places.standsOf, Leaves.Leaves, Laying.laySpan, Laying.layComponents, Laying.layDialogue, Laying.layPortion, Laying.layEnding, Blames.Blames}
 
 -- an ID by its tag, and what it is laid out as: the octet that says that it stands, its place and its length
@@ -20,7 +20,7 @@ componentsBody = lastBody (levelAt the93 2) (componentsItem the93)
 
 -- what an Abort ends with, if anything: 4A or 6B
 abbrev pub endingItem : Item (Ending Text)
-endingItem = orItem (mapItem cause (octetItem 0x4A 4)) (mapItem says (dialogueItem the93))
+endingItem = orItem (mapItem cause (octetItem 0x4A mostCause)) (mapItem says (dialogueItem the93))
 
 -- the contents of a message by its tag
 unfoldable pub bodyOf : ℕ → Body (Message Text)

@@ -30,6 +30,8 @@ use read_place::length_at;
 use read_place::put_text;
 use read_place::stands;
 use read_place::start_of;
+use tcap::MOST_CAUSE;
+use tcap::MOST_OCTETS;
 
 // A fault of the transaction portion, told so.
 fn portion_fault(out: &mut [u8], r: usize) -> usize
@@ -187,7 +189,7 @@ fn ending_at(m: &[u8], at: usize, stop: usize, out: &mut [u8]) -> usize
     if stands(m, at, stop, 0x6B) {
         return dialogue_at(m, at, stop, out);
     }
-    let r = small_at(m, at, stop, 0x4A, 4);
+    let r = small_at(m, at, stop, 0x4A, MOST_CAUSE);
     if r >= FAULT {
         return portion_fault(out, r);
     }
@@ -301,8 +303,8 @@ pub fn message_at(m: &[u8], out: &mut [u8]) -> usize
     ensures { λ _. ⌜ Left layAccepted Blames (locatedUpTo the93 (now (m .entry))) (now (out .entry)) (now (out .exit)) ⌝ }
 {
     let len = m.len();
-    if len > 255 {
-        return portion_fault(out, OVERLONG + 255);
+    if len > MOST_OCTETS {
+        return portion_fault(out, OVERLONG + MOST_OCTETS);
     }
     if len == 0 {
         return portion_fault(out, CUT_OFF);
