@@ -21,7 +21,7 @@ use Rattle.element.specs.Parts.{Item, Where, level, firstOf, leafContents, leaf
 use Rattle.element.specs.Walk.{walkPick, walkContents, anyTag, elementOf}
 use Rattle.tcap.specs.declared.{Problem.Problem, Diagnostic.Diagnostic}
 use Rattle.tcap.specs.Meaning.{dest, Code, local, global, Component, invoke, last, notLast, error, reject, Dialogue, request, unidialogue, response, aborted, single, octets, structured, unstructured, version, cause, says}
-use Rattle.tcap.specs.WellFormed.{Rules, mostComponents, leftAt, idOk}
+use Rattle.tcap.specs.WellFormed.{mostCause, Rules, mostComponents, leftAt, idOk}
 use Rattle.tcap.specs.Productions.{single?, octetItem, idItem, nameItem, codeItem, problemItem, destItem, noted, versionBody, levelAt, parameterItem, codeBody, resultBody, rejectBody, componentItem, componentAt, componentsItem, infoBody, contextItem, askedItem, numberItem, sourceItem, answeredItem, abortedItem, heldItem, externalBody, inside6B, dialogueItem, tailBody}
 use Rattle.tcap.proofs.Places.{origOf}
 
@@ -212,8 +212,8 @@ code-bare = or-bare (map-bare local (integer-bare 0x02 mostIntegerOctets)) (map-
 
 problem-bare : BareItem problemItem
 problem-bare =
-    or-bare (map-bare Problem.General (octet-bare 0x80 2))
-    (or-bare (map-bare Problem.OfInvoke (octet-bare 0x81 7)) (or-bare (map-bare Problem.OfResult (octet-bare 0x82 2)) (map-bare Problem.OfError (octet-bare 0x83 4))))
+    or-bare (map-bare Problem.General (octet-bare 0x80 _))
+    (or-bare (map-bare Problem.OfInvoke (octet-bare 0x81 _)) (or-bare (map-bare Problem.OfResult (octet-bare 0x82 _)) (map-bare Problem.OfError (octet-bare 0x83 _))))
 
 version-bare : {A : Type 0} {b : Body A} → Bare b → Bare (versionBody b)
 version-bare s = named-bare (λ v. v .1) (opt-bare (leaf-bare 0x80 (same version)) s)
@@ -263,16 +263,16 @@ module _ (rules : Rules) where
   number-bare t n most = around-bare t (only-bare (levelAt rules n) (λ f e. e) (octet-bare 0x02 most))
 
   source-bare : BareItem (sourceItem rules)
-  source-bare = around-bare 0xA3 (only-bare (levelAt rules 7) (λ f e. e) (or-bare (map-bare Diagnostic.ByUser (number-bare 0xA1 8 2)) (map-bare Diagnostic.ByProvider (number-bare 0xA2 8 2))))
+  source-bare = around-bare 0xA3 (only-bare (levelAt rules 7) (λ f e. e) (or-bare (map-bare Diagnostic.ByUser (number-bare 0xA1 8 _)) (map-bare Diagnostic.ByProvider (number-bare 0xA2 8 _))))
 
   answered-bare : BareItem (answeredItem rules)
   answered-bare =
       around-bare 0x61
       (named-bare (λ v. response (v .0) (v .1 .0) (v .1 .1 .0) (v .1 .1 .1))
-      (version-bare (then-bare (leftAt rules 6) context-bare (then-bare (leftAt rules 6) (number-bare 0xA2 7 1) (then-bare (leftAt rules 6) source-bare info-bare)))))
+      (version-bare (then-bare (leftAt rules 6) context-bare (then-bare (leftAt rules 6) (number-bare 0xA2 7 _) (then-bare (leftAt rules 6) source-bare info-bare)))))
 
   aborted-bare : BareItem (abortedItem rules)
-  aborted-bare = around-bare 0x64 (named-bare (λ v. aborted (v .0) (v .1)) (then-bare (leftAt rules 6) (octet-bare 0x80 1) info-bare))
+  aborted-bare = around-bare 0x64 (named-bare (λ v. aborted (v .0) (v .1)) (then-bare (leftAt rules 6) (octet-bare 0x80 _) info-bare))
 
   held-bare : (n : Text) (s u : Bool) → BareItem (heldItem rules n s u)
   held-bare n true u = around-bare 0xA0 (only-bare (levelAt rules 5) (λ f e. e) (or-bare (asked-bare request) (or-bare answered-bare aborted-bare)))
@@ -299,5 +299,5 @@ module _ (rules : Rules) where
   pub end-bare : Bare (thenBody (levelAt rules 2) destItem (tailBody rules))
   end-bare = then-bare (leftAt rules 2) (map-bare dest (leaf-bare 0x49 idOk)) tail-bare
 
-  pub abort-bare : Bare (thenBody (levelAt rules 2) destItem (lastBody (levelAt rules 2) (orItem (mapItem cause (octetItem 0x4A 4)) (mapItem says (dialogueItem rules)))))
-  abort-bare = then-bare (leftAt rules 2) (map-bare dest (leaf-bare 0x49 idOk)) (last-bare (leftAt rules 2) (or-bare (map-bare cause (octet-bare 0x4A 4)) (map-bare says dialogue-bare)))
+  pub abort-bare : Bare (thenBody (levelAt rules 2) destItem (lastBody (levelAt rules 2) (orItem (mapItem cause (octetItem 0x4A mostCause)) (mapItem says (dialogueItem rules)))))
+  abort-bare = then-bare (leftAt rules 2) (map-bare dest (leaf-bare 0x49 idOk)) (last-bare (leftAt rules 2) (or-bare (map-bare cause (octet-bare 0x4A _)) (map-bare says dialogue-bare)))

@@ -24,7 +24,7 @@ use Rattle.element.proofs.Reading.{definite-size}
 use Rattle.element.proofs.Views.{span-length, span-take}
 use Rattle.tcap.specs.declared.OptionalOrig.{OptionalOrig}
 use Rattle.tcap.specs.Meaning.{Originating, orig, Message, unidirectional, begin, finish, continue, abort, silent}
-use Rattle.tcap.specs.WellFormed.{the93, idOk}
+use Rattle.tcap.specs.WellFormed.{mostTransactionIdOctets, the93, idOk}
 use Rattle.tcap.specs.Productions.{origItem, destItem, carried, tailBody, uniBody, beginBody, endBody, continueBody, abortBody, messageItem}
 use Rattle.tcap.specs.Record.{origField}
 use Rattle.tcap.specs.Reading.{learnt, idFirst, unknownTag, unknownBody, textOf, unknownOrig, readFirst, locatedUpTo}
@@ -111,7 +111,7 @@ module _ {B : Type 0} (f : Originating Text × B → Message Text) (y : Originat
 id-value : (p : ℕ) (part : List ℕ) (d : Bool) → Then (λ o n. (3 ≤ n) × (o ≡ orig (p + 2, take (n - 2) (drop 2 part)))) (ask (front (level 15) FaultKind.Another origItem) d p part)
 id-value p part d =
     ask-sound (λ o n. (3 ≤ n) × (o ≡ orig (p + 2, take (n - 2) (drop 2 part)))) (front (level 15) FaultKind.Another origItem) d p part (λ v e f. let z : _≡_ {A = ℕ} 0 1 = cc in absurd (omega arith))
-    (λ h i m. then-blamed (λ f. f) (then-next (leaf-stood 0x48 4 idOk (omega arith, omega arith, omega arith) (omega arith) transaction-sized p part h i m) (λ v n q. fact (q .0, ap orig (q .1)))))
+    (λ h i m. then-blamed (λ f. f) (then-next (leaf-stood 0x48 mostTransactionIdOctets idOk (omega arith, omega arith, omega arith) (omega arith) transaction-sized p part h i m) (λ v n q. fact (q .0, ap orig (q .1)))))
 
 module _ (m : List ℕ) (st inner r : ℕ) (h : until inner ≤ length m) (e : Reads (leafItem 0x48 idOk) m st inner r) where
   abbrev here-id : Got (Originating Text)

@@ -23,6 +23,7 @@ use read_place::start_of;
 use tcap::Answer;
 use tcap::Ground;
 use tcap::InvokeId;
+use tcap::MOST_OCTETS;
 use tcap::OptionalOrig;
 use tcap::OrigTransactionId;
 use tcap::Refusal;
@@ -160,7 +161,7 @@ fn orig_of(m: &[u8]) -> OptionalOrig
     ensures { λ r. ⌜ OrigTold r (locatedUpTo the93 (now (m .entry))) ⌝ }
 {
     let len = m.len();
-    if len > 255 {
+    if len > MOST_OCTETS {
         return OptionalOrig::NoOrig;
     }
     if len == 0 {
