@@ -7,8 +7,7 @@
 # (without any: the plain reader). Each is counted once with -O2 and once with
 # -O3 for those of them that are sources. The count is the difference between a
 # run of n and one of 2n rounds, less the same for a run_reader() that only
-# returns. Counted by valgrind's callgrind; with ICOUNT=PATH of the built
-# plug-in icount.so, by qemu-x86_64.
+# returns (counter.sh).
 #
 # CC (gcc), CFLAGS (-Wall -Wextra -std=c99), LEVELS (-O2 -O3), LIBS (none),
 # ROUNDS (10) may be set.
@@ -19,6 +18,7 @@ if [ $# -lt 1 ]; then
     exit 2
 fi
 here=$(cd "$(dirname "$0")" && pwd)
+root=$(dirname "$here")
 vectors=$1
 shift
 if [ $# -eq 0 ]; then
@@ -31,39 +31,9 @@ libs=${LIBS:-}
 rounds=${ROUNDS:-10}
 tmp=$(mktemp -d)
 trap 'rm -rf "$tmp"' EXIT
+. "$here/counter.sh"
 
 python3 "$here/messages.py" "$vectors" "$tmp/messages" >/dev/null
-
-# instructions PROGRAM ROUNDS [CLASS]: the instructions of one whole run.
-# The number of rounds has always eight digits, so that taking it in costs the
-# same in both runs.
-instructions() {
-    program=$1
-    times=$(printf '%08d' "$2")
-    shift 2
-    if [ -n "${ICOUNT:-}" ]; then
-        qemu-x86_64 -plugin "$ICOUNT" "$program" "$tmp/messages" "$times" "$@" \
-            2>"$tmp/log" >"$tmp/round" || true
-        sed -n 's/^instructions //p' "$tmp/log"
-    else
-        valgrind --tool=callgrind --callgrind-out-file=/dev/null \
-            "$program" "$tmp/messages" "$times" "$@" 2>"$tmp/log" >"$tmp/round" || true
-        sed -n 's/^==.*Collected : //p' "$tmp/log"
-    fi
-}
-
-# difference PROGRAM [CLASS]: the instructions of $rounds rounds.
-difference() {
-    program=$1
-    shift
-    once=$(instructions "$program" "$rounds" "$@")
-    twice=$(instructions "$program" $((2 * rounds)) "$@")
-    if [ -z "$once" ] || [ -z "$twice" ]; then
-        cat "$tmp/log" >&2
-        exit 1
-    fi
-    echo $((twice - once))
-}
 
 # The loop is built once, so that it is the same under every reader.
 $cc $cflags -O2 -c -o "$tmp/loop.o" "$here/count_loop.c"
@@ -79,9 +49,9 @@ for level in $levels; do
         else
             arguments=$class
         fi
-        none=$(difference "$tmp/none" $arguments)
-        reader=$(difference "$tmp/reader" $arguments)
-        read -r count _ octets _ refused _ <"$tmp/round"
+        none=$(difference "$rounds" "$tmp/none" "$tmp/messages" $arguments)
+        reader=$(difference "$rounds" "$tmp/reader" "$tmp/messages" $arguments)
+        read -r count _ octets _ refused _ <"$tmp/printed"
         awk -v class=$class -v count="$count" -v octets="$octets" -v refused="$refused" \
             -v none="$none" -v reader="$reader" -v rounds="$rounds" 'BEGIN {
             if (count == 0) {

@@ -10,6 +10,7 @@
  * READ, WRITE, STEER, READ_UNITDATA and WRITE_UNITDATA name the functions; with
  * NOTHING they only return. */
 #include "cases.h"
+#include "classes.h"
 
 #ifdef NOTHING
 static uint64_t nothing_read(const uint8_t *a, size_t n, uint8_t *b, size_t m)
@@ -68,17 +69,6 @@ enum { MAX_CASES = 100000, ROOM = 65536 };
 
 static struct one_case cases[MAX_CASES];
 static uint8_t room[ROOM];
-
-static long nearest_class(size_t len)
-{
-    static const long classes[4] = { 20, 60, 120, 250 };
-    long best = classes[0];
-
-    for (int i = 1; i < 4; i++)
-        if (labs(classes[i] - (long)len) < labs(best - (long)len))
-            best = classes[i];
-    return best;
-}
 
 int main(int argc, char **argv)
 {

@@ -7,8 +7,7 @@
 # CASES is a case file (tests/c/cases.h); of it the calls are taken whose message
 # is readable or was written, by the message's length. A count is the difference
 # between a run of n and one of 2n rounds, less the same for functions that only
-# return, over n and the calls. Counted by qemu-x86_64 with the plug-in icount.c,
-# or on an x86-64 machine without that by valgrind.
+# return, over n and the calls (counter.sh).
 #
 # ROUNDS (4), LEVELS (-O2 -O3) of plain C and CALLS may be set.
 set -eu
@@ -25,6 +24,7 @@ rounds=${ROUNDS:-4}
 levels=${LEVELS:--O2 -O3}
 tmp=$(mktemp -d)
 trap 'rm -rf "$tmp"' EXIT
+. "$here/counter.sh"
 
 build() {
     sh "$root/tools/cc.sh" cc -std=c99 -Wall -Wextra -I"$root/include" -I"$here" -I"$root/tests/c" "$@"
@@ -47,47 +47,6 @@ for level in $levels; do
     programs="$programs plain$level"
 done
 
-# Which counter is there?
-counter=none
-if command -v qemu-x86_64 >/dev/null && ${HOSTCC:-cc} -O2 -shared -fPIC -o "$tmp/icount.so" "$here/icount.c" &&
-    sh "$root/tools/cc.sh" count "$tmp/icount.so" "$tmp/nothing" 2>&1 | grep -q '^instructions'; then
-    counter=plugin
-elif command -v valgrind >/dev/null && [ "$(uname -m)" = x86_64 ]; then
-    counter=valgrind
-else
-    echo "neither qemu-x86_64 with plug-ins nor an x86-64 valgrind" >&2
-    exit 2
-fi
-
-# instructions PROGRAM ROUNDS CALL [CLASS]: of one whole run. The number of rounds
-# has always eight digits, so that taking it in costs the same in both runs.
-instructions() {
-    program=$1
-    times=$(printf '%08d' "$2")
-    shift 2
-    if [ $counter = plugin ]; then
-        sh "$root/tools/cc.sh" count "$tmp/icount.so" "$program" "$cases" "$times" "$@" 2>"$tmp/log" >"$tmp/round" || true
-        sed -n 's/^instructions //p' "$tmp/log"
-    else
-        valgrind --tool=callgrind --callgrind-out-file=/dev/null \
-            "$program" "$cases" "$times" "$@" 2>"$tmp/log" >"$tmp/round" || true
-        sed -n 's/^==.*Collected : //p' "$tmp/log"
-    fi
-}
-
-# difference PROGRAM CALL [CLASS]: the instructions of $rounds rounds.
-difference() {
-    program=$1
-    shift
-    once=$(instructions "$program" "$rounds" "$@")
-    twice=$(instructions "$program" $((2 * rounds)) "$@")
-    if [ -z "$once" ] || [ -z "$twice" ]; then
-        cat "$tmp/log" >&2
-        exit 1
-    fi
-    echo $((twice - once))
-}
-
 printf '%-8s %6s %7s %7s' call octets calls mean
 for program in $programs; do
     printf ' %10s' "$program"
@@ -100,12 +59,12 @@ for call in ${CALLS:-r:read w:write s:steer u:ud-read v:ud-write}; do
         else
             arguments="${call%%:*} $class"
         fi
-        none=$(difference "$tmp/nothing" $arguments)
+        none=$(difference "$rounds" "$tmp/nothing" "$cases" $arguments)
         set --
         differ=0
         for program in $programs; do
-            set -- "$@" "$(difference "$tmp/$program" $arguments)"
-            read -r count _ octets _ wrong _ <"$tmp/round"
+            set -- "$@" "$(difference "$rounds" "$tmp/$program" "$cases" $arguments)"
+            read -r count _ octets _ wrong _ <"$tmp/printed"
             differ=$((differ + wrong))
         done
         awk -v call="${call##*:}" -v class=$class -v count="$count" -v octets="$octets" -v differ=$differ \

@@ -11,6 +11,8 @@
 #include <stdio.h>
 #include <stdlib.h>
 
+#include "classes.h"
+
 int run_reader(const uint8_t *msg, size_t len);
 
 enum { MAX_MESSAGES = 20000, MAX_OCTETS = 4000000 };
@@ -23,17 +25,6 @@ static struct {
 
 /* Volatile, so that the calls can be neither merged nor left out. */
 static int (*volatile reader)(const uint8_t *, size_t) = run_reader;
-
-static long nearest_class(size_t len)
-{
-    static const long classes[4] = { 20, 60, 120, 250 };
-    long best = classes[0];
-
-    for (int i = 1; i < 4; i++)
-        if (labs(classes[i] - (long)len) < labs(best - (long)len))
-            best = classes[i];
-    return best;
-}
 
 int main(int argc, char **argv)
 {

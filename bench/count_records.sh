@@ -7,31 +7,22 @@
 # PROGRAM is the crate `readings`, built. It reads each message once more for every
 # octet of its first argument, and writes its record once more for every octet of
 # the second: what two octets cost over one is a call, and a turn of the loop around
-# it. Counted by qemu-x86_64 with the plug-in icount.c, or on an x86-64 machine
-# without that by valgrind.
+# it (counter.sh).
 set -eu
 if [ $# -ne 2 ]; then
     echo "usage: count_records.sh PROGRAM VECTORS" >&2
     exit 2
 fi
 here=$(cd "$(dirname "$0")" && pwd)
-tools=$(dirname "$here")/tools/cc.sh
+root=$(dirname "$here")
 program=$(cd "$(dirname "$1")" && pwd)/$(basename "$1")
-vectors=$2
+vectors=$(cd "$(dirname "$2")" && pwd)/$(basename "$2")
 tmp=$(mktemp -d)
 trap 'rm -rf "$tmp"' EXIT
-
-if command -v qemu-x86_64 >/dev/null && ${HOSTCC:-cc} -O2 -shared -fPIC -o "$tmp/icount.so" "$here/icount.c"; then
-    counter=plugin
-elif command -v valgrind >/dev/null && [ "$(uname -m)" = x86_64 ]; then
-    counter=valgrind
-else
-    echo "not counted: that needs qemu-x86_64 with plug-ins, or an x86-64 valgrind"
-    exit 0
-fi
+. "$here/counter.sh"
 
 build() {
-    sh "$tools" cc -std=c99 -Wall -Wextra -O2 -I"$here" "$@"
+    sh "$root/tools/cc.sh" cc -std=c99 -Wall -Wextra -O2 -I"$here" "$@"
 }
 
 # beside each of plain C the same loop around a function that only returns
@@ -41,25 +32,13 @@ set -- "$here/count_loop.c" "$here/count_plain_write.c" "$here/plain.c" "$here/p
 build -o "$tmp/write" "$@" "$here/plain_write.c"
 build -DNOTHING -o "$tmp/no_write" "$@"
 
-# instructions PROGRAM ARGS...: of one whole run
-instructions() {
-    if [ $counter = plugin ]; then
-        (cd "$tmp" && sh "$tools" count "$tmp/icount.so" "$@" 2>&1 >/dev/null) | sed -n 's/^instructions //p'
-    else
-        (cd "$tmp" && valgrind --tool=callgrind --callgrind-out-file=/dev/null "$@" 2>&1 >/dev/null) | sed -n 's/^==.*Collected : //p'
-    fi
-}
-
 # over PROGRAM LESS MORE: what the arguments MORE cost over LESS
 over() {
     echo $(($(instructions "$1" $3) - $(instructions "$1" $2)))
 }
 
-# round PROGRAM: what one more over all messages costs
-round() {
-    over "$tmp/$1" "messages.bin 00000001" "messages.bin 00000002"
-}
-
+# the program takes its messages from the folder that it is run in
+cd "$tmp"
 echo "call   octets   calls  record   plain  record / plain"
 for call in read write; do
     if [ $call = read ]; then more=".. ."; else more=". .."; fi
@@ -67,7 +46,7 @@ for call in read write; do
         if [ $class = all ]; then wanted=; else wanted=$class; fi
         count=$(python3 "$here/messages.py" "$vectors" "$tmp/messages.bin" $wanted | sed 's/ .*//')
         record=$(over "$program" ". ." "$more")
-        plain=$(($(round $call) - $(round no_$call)))
+        plain=$(($(difference 1 "$tmp/$call" messages.bin) - $(difference 1 "$tmp/no_$call" messages.bin)))
         awk -v call=$call -v class=$class -v count="$count" -v record="$record" -v plain="$plain" 'BEGIN {
             printf "%-6s %6s %7d %7.1f %7.1f  %.2f\n", call, class, count, record / count, plain / count, record / plain
         }'

@@ -1,5 +1,5 @@
 #!/bin/sh
-# Every test there is, one after the other. The last line adds up what each of them counted: 'N passed, M failed'.
+# Every test there is. The last line adds up what each of them counted: 'N passed, M failed'.
 set -u
 cd "$(dirname "$0")/.." || exit 2
 log=$(mktemp -d) || exit 2
@@ -44,6 +44,21 @@ many() {
     echo "$name: $p passed, $f failed"
 }
 
+# beside PART COMMAND...: runs a command in the background; after a wait, 'ended PART' says what it said and ends as it did
+beside() {
+    part=$1
+    shift
+    {
+        "$@" >"$log/$part" 2>&1
+        echo $? >"$log/$part.status"
+    } &
+}
+
+ended() {
+    cat "$log/$1"
+    return "$(cat "$log/$1.status")"
+}
+
 # every folder of crates/ is a crate that crates.txt lists
 listed() {
     for d in crates/*/; do
@@ -66,19 +81,26 @@ if grep -qF "\`$version\`" docs/TOOLCHAIN.md; then
 else
     echo "note: this is $version, and docs/TOOLCHAIN.md names $(sed -n 's/^.*toolchain `\([^`]*\)`.*$/\1/p' docs/TOOLCHAIN.md)"
 fi
+beside needs sh tests/needs.sh
 one "layout (rt fmt --check)" rt fmt --check
 one "every crate is listed" listed
-many "rt ci" sh tools/prove.sh ci
+# more jobs than cores: rt proves in batches, and waits for the slowest crate or edit of each
+many "rt ci" env RT_JOBS="${RT_JOBS:-4}" sh tools/prove.sh ci
+wait
+one "what the tests in C need is installed" ended needs
 
 # The library for C, built anew from what was just proved, and its tests. None is left out: without a
 # compiler, an emulator or the archive they fail.
 archive=target/lib/libgoldenskep.a
 rm -rf target/lib target/staticlib
-one "what the tests in C need is installed" sh tests/needs.sh
 one "the archive is built" make --no-print-directory archive
-many "C tests" env VECTORS=tests/vectors SEED=1 COUNT=20000 ROUNDS=20000 sh tests/c/run.sh $archive
-many "install" sh tests/install.sh $archive
-many "README" sh tests/readme.sh $archive
+beside c env VECTORS=tests/vectors SEED=1 COUNT=20000 ROUNDS=20000 sh tests/c/run.sh $archive
+beside install sh tests/install.sh $archive
+beside readme sh tests/readme.sh $archive
+wait
+many "C tests" ended c
+many "install" ended install
+many "README" ended readme
 
 echo "$passed passed, $failed failed"
 [ "$failed" -eq 0 ]

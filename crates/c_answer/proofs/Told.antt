@@ -17,7 +17,7 @@ use Rattle.element.specs.Fault.{Owner}
 use Rattle.element.specs.Ask.{check}
 use Rattle.element.proofs.Laid.{stands-here, here-within}
 use Rattle.tcap.specs.declared.{OptionalOrig.OptionalOrig, InvokeId.InvokeId, Answer.Answer, Refusal.Refusal, Outcome.Outcome}
-use Rattle.tcap.specs.WellFormed.{mostOctets, mostComponents, mostTransactionIdOctets, idOk}
+use Rattle.tcap.specs.WellFormed.{mostOctets, mostComponents, idOk}
 use Rattle.tcap.specs.Reading.{locatedUpTo, refusalOf, answered, readingUpTo, reading}
 use Rattle.tcap.specs.Standard.{Standard, noMessage, seventeenth, inside6B, unknownComponent, mistypedComponent, badComponent, mistypedElsewhere, badElsewhere, overlong, octetsAfter}
 use Rattle.tcap.proofs.Pinned.{refused-checked}
@@ -40,10 +40,10 @@ standard-small (badElsewhere s) = omega arith
 standard-small overlong = omega arith
 standard-small octetsAfter = omega arith
 
-orig-small : (m : List ℕ) (o : OptionalOrig) → OrigRead m o → (origSpan o .place + origSpan o .len ≤ length m) × (origSpan o .len ≤ mostTransactionIdOctets)
+orig-small : (m : List ℕ) (o : OptionalOrig) → OrigRead m o → (origSpan o .place + origSpan o .len ≤ length m) × (origSpan o .len ≤ 4)
 unfolding origSpan idOk
 orig-small m o (inl e) = rw e (omega arith, omega arith)
-orig-small m o (inr (t, e, s, k)) = rw e (here-within (stands-here (some 0x48, t) s) .0, leb-true _ _ (and-eq-true-iff (leb 1 (length (t .1))) _ .0 k .1))
+orig-small m o (inr (t, e, s, k)) = rw e (here-within (stands-here (some 0x48, t) s) .0, leb-true _ _ (and-eq-true-iff (leb 1 (length (t .1))) (leb (length (t .1)) 4) .0 k .1))
 
 sent-fits : (a : Answer) → SendOk a → IdFits (idOf a)
 sent-fits (Answer.AbortCause n) h = tt

@@ -1,4 +1,4 @@
--- What the loop over components leaves in the record's octets: its rows, or what is told of the fault. Assumes nothing.
+-- The loop over components: what it answers, and what it leaves in the record's octets, its rows or what is told of the fault. Assumes nothing.
 use Prim.Native.Nat.{ℕ, zero, suc, _+_, _-_, _*_, _/_, _%_, _≤_}
 use mathlib.Core.Path.{_≡_, refl, sym, ap, _∙_}
 use mathlib.Core.Bool.{Bool, true, false}
@@ -9,29 +9,28 @@ use lib.ListN.{length, take, drop, set, length-drop}
 use lib.Seq.{drop-drop, length-take-le}
 use lib.IntN.{ℤ}
 use borrow.Rule.Slice.PartMut.{putMid}
-use Rattle.element.specs.declared.FaultKind.{FaultKind}
-use Rattle.element.specs.Fault.{Owner, portion, component, fault, Text}
+use Rattle.element.specs.declared.{FaultKind.FaultKind, EndRead.EndRead}
+use Rattle.element.specs.Fault.{portion, component, fault, Text, inComponent}
 use Rattle.element.specs.Head.{endOf}
-use Rattle.element.specs.Ask.{Got, got, bad, ask}
+use Rattle.element.specs.Ask.{Got, got, bad, blamed, ask}
 use Rattle.element.specs.Parts.{onward, seriesBody}
 use Rattle.element.proofs.Asking.{Then, fact, void, the-fact, then-next, then-blamed, ask-sound}
 use Rattle.element.proofs.Views.{span-drop}
 use Rattle.tcap.specs.declared.Ground.{Ground}
 use Rattle.tcap.specs.Meaning.{Component}
 use Rattle.tcap.specs.Reading.{byOwner, answerFor}
-use Rattle.tcap.specs.WellFormed.{the93}
-use Rattle.tcap.specs.Productions.{componentAt, componentItem}
-use Rattle.read_place.specs.Places.{Far, Near, until, finite, part, Placed, Closing, Shut, Finishes, endedOf, unfinishedOf, missing, cutOff, seventeenth}
-use Rattle.read_place.specs.Leaves.{Left, LeavesAll, untold}
+use Rattle.read_place.specs.Places.{Far, Near, until, finite, part, front, base, faultPlace, Placed, Closing, endedOf, unfinishedOf, behindOf, missing, cutOff, seventeenth}
+use Rattle.read_place.specs.Leaves.{Left, untold}
 use Rattle.read_place.specs.Laying.{layComponent, layRow, layRows, layComponents}
 use Rattle.read_place.specs.Blames.{ownerIn, idIn, Blames}
-use Rattle.read_place.proofs.Answers.{far-fault}
-use Rattle.read_place.proofs.Fronts.{ended-is}
-use Rattle.read_place.proofs.Leaves.{left-where, left-next, left-near}
+use Rattle.read_place.proofs.Answers.{far-fault, close-far, close-near, closing-rest}
+use Rattle.read_place.proofs.Fronts.{ended-is, shut-here}
+use Rattle.read_place.proofs.Walks.{unfinished-is}
+use Rattle.read_place.proofs.Leaves.{left-where, left-next, left-far, left-near}
 use Rattle.read_row.specs.Component.{ReadsComponent, LeavesComponent}
-use Rattle.read_component.specs.Components.{endsAt, rowsBody, Tells, CarriesHere, idTold}
-use Rattle.read_component.proofs.Rows.{series-whole, Onward, here, one-more, rows-none, rows-cut, rows-full, rows-far}
-use Rattle.read_component.proofs.Owners.{Telling, told-none, told-cut, told-full, told-far}
+use Rattle.read_row.proofs.Pairs.{DoesAll}
+use Rattle.read_component.specs.Components.{endsAt, rowsBody, Carries, CarriesHere, idTold}
+use Rattle.read_component.proofs.Rows.{series-missing, series-whole, series-cut, series-full, kinds, wheres, more, owned-here, here, one-more}
 
 -- What `blame_component` stores
 
@@ -55,14 +54,11 @@ module _ (k id : ℕ) where
   blame-id (a ∷ b ∷ c ∷ []) h m at stop e = absurd (omega (arith, h))
   blame-id (a ∷ b ∷ c ∷ d ∷ l) h m at stop e = e
 
--- A fault: whose it is, and its invoke ID, are told as the octets have them
-
-tells-left : {A : Type 0} (lay : A → List ℕ → List ℕ) (d : Bool) (p end r : ℕ) (w : Owner) (j : Option ℤ) (old new : List ℕ) → ((g : Ground) → answerFor g w j ≡ answerFor g (ownerIn new) (idIn new)) → Near end → Far r
-    → (x : Got A) → Closing d p end x r → Tells w j x → Left lay Blames x old new
-unfolding Closing Shut Tells Left Blames
-tells-left lay true p end r w j old new same b f (got a n) e t = absurd (omega (arith, e, b, f))
-tells-left lay false p end r w j old new same b f (got a n) e t = absurd (omega (arith, e, b, f))
-tells-left lay d p end r w j old new same b f (bad (fault k q o i u)) e t = λ g. rw (t .0, t .1) (same g)
+-- A fault of a component, told with its number and its invoke ID
+own-fault : {A : Type 0} (lay : A → List ℕ → List ℕ) (k : ℕ) (old new : List ℕ) → ownerIn new ≡ component k → (x : Got A) (p end r : ℕ) → Placed p end x r → Near end → Far r → Carries (idIn new) x → Left lay Blames (blamed (inComponent k) x) old new
+unfolding Placed Left blamed inComponent Carries Blames
+own-fault lay k old new owner (got a n) p end r e b f c = absurd (omega (arith, e, b, f))
+own-fault lay k old new owner (bad (fault j q o i t)) p end r e b f c = λ g. rw (c, owner)
 
 -- nothing is asked of the invoke ID where the transaction portion is to blame
 portion-answer : (g : Ground) (i j : Option ℤ) → answerFor g portion i ≡ answerFor g portion j
@@ -77,28 +73,6 @@ portion-told : (l : List ℕ) → 1 ≤ length l → (g : Ground) → answerFor 
 unfolding ownerIn
 portion-told [] h g = absurd (omega (arith, h))
 portion-told (a ∷ l) h g = portion-answer g none (idIn (0 ∷ l))
-
-module _ (m : List ℕ) (from stop k at : ℕ) (going : Onward m from stop k at) (telling : Telling m from stop k at) (old cur : List ℕ) where
-  abbrev Filled : List ℕ → Type 0
-  Filled new = LeavesAll layComponents Blames (rowsBody 16 0) m from stop old new
-
-  of-portion : 1 ≤ length cur → (r : ℕ) → Far r → Finishes (rowsBody 16 0) m from stop r → Tells portion none (ask (rowsBody 16 0) (finite stop) from (part m from stop)) → Filled (set cur 0 0)
-  of-portion h r f e t = tells-left layComponents (finite stop) from (until stop) r portion none old (set cur 0 0) (portion-told cur h) (omega arith) f _ e t
-
-  pub none-filled : 1 ≤ length cur → (b : Bool) → b ≡ endedOf (endOf (finite stop) (part m at stop)) → b ≡ true → k ≡ 0 → Filled (set cur 0 0)
-  none-filled h b is t z = of-portion h (missing + at) (omega arith) (rows-none m from stop k at going b is t z) (told-none m from stop k at telling b is t z)
-
-  pub cut-filled : 1 ≤ length cur → (c : Bool) → c ≡ unfinishedOf (endOf (finite stop) (part m at stop)) → c ≡ true → Filled (set cur 0 0)
-  cut-filled h c is t = of-portion h (cutOff + at) (omega arith) (rows-cut m from stop k at going c is t) (told-cut m from stop k at telling c is t)
-
-  module _ (b c : Bool) (is : b ≡ endedOf (endOf (finite stop) (part m at stop))) (also : c ≡ unfinishedOf (endOf (finite stop) (part m at stop))) (no : b ≡ false) (nor : c ≡ false) where
-    pub full-filled : 1 ≤ length cur → k ≡ 16 → Filled (set cur 0 0)
-    full-filled h z = of-portion h (seventeenth + at) (omega arith) (rows-full m from stop k at going b c is also no nor z) (told-full m from stop k at telling b c is also no nor z)
-
-    pub far-filled : k ≤ 16 → (k ≡ 16 → ⊥) → (r : ℕ) → ReadsComponent m at stop r → Far r → (new : List ℕ) → ownerIn new ≡ component k → CarriesHere (idIn new) m at stop → Filled new
-    far-filled most unfull r e f new owner carries =
-        tells-left layComponents (finite stop) from (until stop) r (component k) (idIn new) old new (λ g. rw owner) (omega arith) f _ (rows-far m from stop k at going b c is also no nor most unfull r e f)
-        (told-far m from stop k at telling b c is also no nor most unfull r e f (idIn new) carries)
 
 -- There is a first component, or a fault
 
@@ -118,11 +92,11 @@ abbrev layFrom : ℕ → List (Component Text) → List ℕ → List ℕ
 layFrom k cs l = set (layRows k cs l) 7 (k + length cs)
 
 unfoldable pub Filling : List ℕ → ℕ → ℕ → ℕ → ℕ → List ℕ → List ℕ → Type 0
-Filling m from stop k at old cur = (new : List ℕ) → LeavesAll (layFrom k) Blames (rowsBody (16 - k) k) m at stop cur new → LeavesAll layComponents Blames (rowsBody 16 0) m from stop old new
+Filling m from stop k at old cur = (r : ℕ) (new : List ℕ) → DoesAll Blames (layFrom k) (rowsBody (16 - k) k) m at stop r cur new → DoesAll Blames layComponents (rowsBody 16 0) m from stop r old new
 
 pub filling-start : (m : List ℕ) (from stop : ℕ) (old : List ℕ) → Filling m from stop 0 from old old
 unfolding Filling Left layComponents
-filling-start m from stop old = λ new e. go new _ (rows-some (finite stop) from (part m from stop)) e
+filling-start m from stop old = λ r new e. (e .0, go new _ (rows-some (finite stop) from (part m from stop)) (e .1))
   where
     go : (new : List ℕ) (x : Got (List (Component Text))) → Then (λ cs n. 1 ≤ length cs) x → Left (layFrom 0) Blames x old new → Left layComponents Blames x old new
     go new (got [] n) t e = absurd (omega (arith, the-fact t))
@@ -130,15 +104,51 @@ filling-start m from stop old = λ new e. go new _ (rows-some (finite stop) from
     go new (bad f) t e = e
 
 module _ (m : List ℕ) (from stop k at : ℕ) (old cur : List ℕ) (filling : Filling m from stop k at old cur) where
-  pub ended-filled : (b : Bool) → b ≡ endedOf (endOf (finite stop) (part m at stop)) → b ≡ true → (k ≡ 0 → ⊥) → LeavesAll layComponents Blames (rowsBody 16 0) m from stop old (set cur 7 k)
-  unfolding Filling endsAt Left layRows
-  ended-filled b is t z = go k filling z
+  abbrev Filled : ℕ → List ℕ → Type 0
+  Filled r new = DoesAll Blames layComponents (rowsBody 16 0) m from stop r old new
+
+  portion-fault : (j : FaultKind) → ask (rowsBody (16 - k) k) (finite stop) at (part m at stop) ≡ bad (fault j at portion none none) → 1 ≤ length cur → Filled (base j + at) (set cur 0 0)
+  unfolding Filling Closing faultPlace Left Blames
+  portion-fault j is h = filling (base j + at) (set cur 0 0) (rw is (refl, portion-told cur h))
+
+  pub none-filled : 1 ≤ length cur → (b : Bool) → b ≡ endedOf (endOf (finite stop) (part m at stop)) → b ≡ true → k ≡ 0 → Filled (missing + at) (set cur 0 0)
+  unfolding endsAt base
+  none-filled h b is t z =
+      portion-fault FaultKind.Missing (rw z (series-missing wheres FaultKind.UnknownComponent kinds 0 (finite stop) at (part m at stop) 16 (ended-is (endOf (finite stop) (part m at stop)) b is t))) h
+
+  pub cut-filled : 1 ≤ length cur → (c : Bool) → c ≡ unfinishedOf (endOf (finite stop) (part m at stop)) → c ≡ true → Filled (cutOff + at) (set cur 0 0)
+  unfolding base
+  cut-filled h c is t =
+      portion-fault FaultKind.CutOff (series-cut wheres FaultKind.UnknownComponent kinds k (finite stop) at (part m at stop) (endsAt k) (16 - k) (unfinished-is (endOf (finite stop) (part m at stop)) c is t)) h
+
+  pub ended-filled : at ≤ until stop → until stop ≤ length m → (b : Bool) → b ≡ endedOf (endOf (finite stop) (part m at stop)) → b ≡ true → (k ≡ 0 → ⊥) → (r : ℕ) → r ≡ behindOf at stop → Filled r (set cur 7 k)
+  unfolding Filling Closing endsAt Left layRows
+  ended-filled g h b is t z r e = go k filling z
     where
-      go : (k : ℕ) → Filling m from stop k at old cur → (k ≡ 0 → ⊥) → LeavesAll layComponents Blames (rowsBody 16 0) m from stop old (set cur 7 k)
+      over : endOf (finite stop) (part m at stop) ≡ EndRead.Ended
+      over = ended-is (endOf (finite stop) (part m at stop)) b is t
+
+      go : (k : ℕ) → Filling m from stop k at old cur → (k ≡ 0 → ⊥) → Filled r (set cur 7 k)
       go zero on z = absurd (z refl)
       go (suc k) on z =
           let all : suc k + 0 ≡ suc k = omega arith in
-          on (set cur 7 (suc k)) (rw (series-whole (componentAt the93) FaultKind.UnknownComponent (componentItem the93) (suc k) (finite stop) at (part m at stop) (16 - suc k) (ended-is (endOf (finite stop) (part m at stop)) b is t)) (ap (set cur 7) (sym all)))
+          on r (set cur 7 (suc k)) (rw (e, series-whole wheres FaultKind.UnknownComponent kinds (suc k) (finite stop) at (part m at stop) (16 - suc k) over) (shut-here m at stop (finite stop) refl g h over, ap (set cur 7) (sym all)))
+
+  module _ (b c : Bool) (is : b ≡ endedOf (endOf (finite stop) (part m at stop))) (also : c ≡ unfinishedOf (endOf (finite stop) (part m at stop))) (no : b ≡ false) (nor : c ≡ false) where
+    pub full-filled : 1 ≤ length cur → k ≡ 16 → Filled (seventeenth + at) (set cur 0 0)
+    unfolding base
+    full-filled h z =
+        let none-left : 16 - k ≡ 0 = omega (arith, z) in
+        portion-fault FaultKind.Seventeenth (rw none-left (series-full wheres FaultKind.UnknownComponent kinds k (finite stop) at (part m at stop) (endsAt k) (more m stop k at b c is also no nor))) h
+
+    pub far-filled : k ≤ 16 → (k ≡ 16 → ⊥) → (r : ℕ) → ReadsComponent m at stop r → Far r → (new : List ℕ) → ownerIn new ≡ component k → CarriesHere (idIn new) m at stop → Filled r new
+    unfolding Filling
+    far-filled most unfull r e f new owner carries =
+        let placed = here m stop k at b c is also no nor most unfull r e in
+        let told : Left (layRow k) Blames (ask (front (wheres k) FaultKind.UnknownComponent kinds) (finite stop) at (part m at stop)) cur new =
+        rw (owned-here m stop k at b c is also no nor) (own-fault (layRow k) k cur new owner _ at (until stop) r e (omega arith) f carries) in
+        filling r new (rw (one-more m stop k at b c is also no nor most unfull r e)
+        (close-far _ _ at (until stop) r placed (finite stop) at (until stop) (omega arith) f, left-far Blames (layRow k) (layFrom k) _ _ at (until stop) r placed cur cur new (omega arith) f told))
 
 -- one more row, where the slice was lent
 near-told : {A : Type 0} (lay : A → List ℕ → List ℕ) (x : Got A) (p end r : ℕ) (old new : List ℕ) → Placed p end x r → Near r → Left lay untold x old new → Left lay Blames x old new
@@ -171,10 +181,14 @@ module _ (m : List ℕ) (from stop k at : ℕ) (old cur : List ℕ) (filling : F
   filling-on =
       let next-one : k + 1 ≡ suc k = omega arith in
       let placed = here m stop k at b c is also no nor most unfull r e in
-      let row = near-told (layRow k) _ at (until stop) r cur laid placed f (left-where untold (layRow k) (componentItem the93) FaultKind.UnknownComponent (componentAt the93 k) (λ f l u. u) (finite stop) at (part m at stop) cur laid refl (row-left k cur sub _ left)) in
-      rw next-one (λ new y. filling new (rw (one-more m stop k at b c is also no nor most unfull r e) (left-near Blames (layRow k) (layFrom k) _ _ at (until stop) r placed cur laid new f row (λ a n z q.
-      rw (span-drop m at (until stop) n) (left-next Blames (layFrom (suc k)) (layFrom k) (λ ws. a ∷ ws) (λ j. n + j) (ask (rowsBody (16 - suc k) (suc k)) (finite stop) (at + n) (part m (at + n) stop)) cur laid new
-      (λ ws. let all : suc k + length ws ≡ k + suc (length ws) = omega arith in rw (q, all)) (rw z at y))))))
+      let row = near-told (layRow k) _ at (until stop) r cur laid placed f (left-where untold (layRow k) kinds FaultKind.UnknownComponent (wheres k) (λ f l u. u) (finite stop) at (part m at stop) cur laid refl (row-left k cur sub _ left)) in
+      rw next-one (λ q new y. filling q new (rw (one-more m stop k at b c is also no nor most unfull r e) (
+        close-near _ _ at (until stop) r placed (finite stop) at (until stop) q f (λ a n i z.
+            rw (span-drop m at (until stop) n) (closing-rest (λ ws. a ∷ ws) (finite stop) (ask (rowsBody (16 - suc k) (suc k)) (finite stop) (at + n) (part m (at + n) stop)) at n (until stop) q (rw z at (y .0)))),
+        left-near Blames (layRow k) (layFrom k) _ _ at (until stop) r placed cur laid new f row (λ a n z q.
+            rw (span-drop m at (until stop) n) (left-next Blames (layFrom (suc k)) (layFrom k) (λ ws. a ∷ ws) (λ j. n + j) (ask (rowsBody (16 - suc k) (suc k)) (finite stop) (at + n) (part m (at + n) stop)) cur laid new
+            (λ ws. let all : suc k + length ws ≡ k + suc (length ws) = omega arith in rw (q, all)) (rw z at (y .1)))),
+      )))
 
 pub row-long : (k : ℕ) (l : List ℕ) → length l ≡ 428 → k ≤ 16 → (k ≡ 16 → ⊥) → length (take (44 + 24 * k + 24 - (44 + 24 * k)) (drop (44 + 24 * k) l)) ≡ 24
 row-long k l h most unfull =

@@ -35,13 +35,13 @@ use Rattle.read_place.proofs.Onto.{ask-bind, ask-map}
 use Rattle.read_place.proofs.Items.{stands-here, stands-only, stands-other, or-left, or-right, placed-item, front-octet, Entered, ask-entered}
 use Rattle.read_place.proofs.Bodies.{placed-where}
 use Rattle.read_place.proofs.Optional.{entry-from, entry-to}
-use Rattle.read_row.specs.Component.{returnedBody, bodyOf}
+use Rattle.read_row.specs.Component.{bodyOf}
 use Rattle.read_component.specs.Components.{Carries, idTold, KnowsId}
 use Rattle.read_place.proofs.Around.{around-ask}
 use Rattle.read_part.proofs.Laid.{item-map}
-use Rattle.read_row.proofs.ByTag.{lead, by-tag}
+use Rattle.read_row.proofs.Contents.{lead, by-tag}
 use Rattle.read_component.proofs.Values.{value-id, id-is, head-first}
-use Rattle.read_component.proofs.Carried.{carries-map, plain-id, carries-none, carries-id, far-carries, null-carries, known-carries}
+use Rattle.read_component.proofs.Carried.{carries-map, plain-id, carries-none, carries-id, near-carries, far-carries, null-carries}
 
 -- A Reject
 
@@ -81,11 +81,11 @@ module _ {B : Type 0} (y : Option ℤ → Body B) (m : List ℕ) (at stop : ℕ)
         ) (e _)
 
     reject-none : Far r → Rejected none
-    reject-none f = by-id none (λ k. far-carries its-id _ at (until stop) r id-here (omega arith) f (rw (item-map (level 13) FaultKind.Another some idItem (finite stop) at (part m at stop)) (carries-map some none _ (plain-id (λ v. signedOf (v .1)) 2 (integerOk 1) 13 (finite stop) at (part m at stop) refl))))
+    reject-none f = by-id none (λ k. far-carries its-id _ at (until stop) r id-here (omega arith) f (rw (item-map (level 13) FaultKind.Another some idItem (finite stop) at (part m at stop)) (carries-map some (λ n. n) none _ (plain-id (λ v. signedOf (v .1)) 2 (integerOk 1) 13 (finite stop) at (part m at stop) refl))))
 
     reject-known : Near r → Rejected (some (signedOf (getD m (at + 2) 0 ∷ [])))
     reject-known f =
-        by-id _ (λ k. known-carries its-id k at (until stop) r id-here f (λ a n. (i : ℤ) × (a ≡ some i) × ((n ≡ 3) × (i ≡ signedOf (take 1 (drop 2 (part m at stop))))))
+        by-id _ (λ k. near-carries (λ a. a) its-id k at (until stop) r id-here f (λ a n. (i : ℤ) × (a ≡ some i) × ((n ≡ 3) × (i ≡ signedOf (take 1 (drop 2 (part m at stop))))))
         (rw (item-map (level 13) FaultKind.Another some idItem (finite stop) at (part m at stop)) (then-next (value-id (level 13) (finite stop) at (part m at stop)) (λ i n q. fact (i, refl, q)))) _ (λ a q. q .1 ∙ ap (λ (i : ℤ). some i) (id-is m at stop r h id f (q .0) (q .2))))
 
 -- An ID that was read takes three octets, of which the first is its tag
@@ -118,35 +118,33 @@ module _ (m : List ℕ) (at stop r : ℕ) (h : until stop ≤ length m) (id : Re
 -- Contents by the tag
 
 map-carries : {A B : Type 0} (f : A → B) (b : Body A) (j : Option ℤ) (d : Bool) (p : ℕ) (part : List ℕ) → Carries j (ask b d p part) → Carries j (ask (mapBody f b) d p part)
-map-carries f b j d p part e = rw (ask-map f b d p part) (carries-map f j (ask b d p part) e)
+map-carries f b j d p part e = rw (ask-map f b d p part) (carries-map f (λ n. n) j (ask b d p part) e)
 
 module _ (tag : ℕ) (m : List ℕ) (at stop : ℕ) (h : until stop ≤ length m) where
   abbrev Known : Option ℤ → Type 0
   Known j = Carries j (ask (bodyOf tag) (finite stop) at (part m at stop))
 
   module _ (other : tag ≡ 164 → ⊥) (r : ℕ) (id : Reads (integerItem 2 1) m at stop r) where
-    by-kind : (j : Option ℤ) → Carries j (ask (bindBody (level 13) noted (integerItem 2 1) (λ i. optBody (integerItem 128 1) (codeBody the93))) (finite stop) at (part m at stop))
-        → Carries j (ask (bindBody (level 13) noted (integerItem 2 1) (λ i. codeBody the93)) (finite stop) at (part m at stop)) → Carries j (ask returnedBody (finite stop) at (part m at stop)) → Known j
+    by-kind : (j : Option ℤ) → ((B : Type 0) (y : ℤ → Body B) → Carries j (ask (bindBody (level 13) noted (integerItem 2 1) y) (finite stop) at (part m at stop))) → Known j
     unfolding bodyOf
-    by-kind j u v w = rw (ne-eqb tag 164 other) (go (eqb tag 161) (eqb tag 163) (eqb tag 162))
+    by-kind j all = rw (ne-eqb tag 164 other) (go (eqb tag 161) (eqb tag 162) (eqb tag 163))
       where
-        go : (a c b : Bool) → Carries j (ask (cond a (invokeBody the93) (cond c (errorBody the93) (cond b (resultBody the93 last) (resultBody the93 notLast)))) (finite stop) at (part m at stop))
-        go true c b = map-carries _ (bindBody (level 13) noted (integerItem 2 1) (λ i. optBody (integerItem 128 1) (codeBody the93))) j (finite stop) at (part m at stop) u
-        go false true b = map-carries _ (bindBody (level 13) noted (integerItem 2 1) (λ i. codeBody the93)) j (finite stop) at (part m at stop) v
-        go false false true = map-carries (λ v. last (v .0) (v .1)) returnedBody j (finite stop) at (part m at stop) w
-        go false false false = map-carries (λ v. notLast (v .0) (v .1)) returnedBody j (finite stop) at (part m at stop) w
+        go : (a b c : Bool) → Carries j (ask (cond a (invokeBody the93) (cond b (resultBody the93 last) (cond c (errorBody the93) (resultBody the93 notLast)))) (finite stop) at (part m at stop))
+        go true b c = map-carries _ _ j (finite stop) at (part m at stop) (all _ (λ i. optBody (integerItem 128 1) (codeBody the93)))
+        go false true c = map-carries (λ v. last (v .0) (v .1)) _ j (finite stop) at (part m at stop) (all _ (λ i. lastBody (level 13) (bothItem the93)))
+        go false false true = map-carries _ _ j (finite stop) at (part m at stop) (all _ (λ i. codeBody the93))
+        go false false false = map-carries (λ v. notLast (v .0) (v .1)) _ j (finite stop) at (part m at stop) (all _ (λ i. lastBody (level 13) (bothItem the93)))
 
     pub known-none : Far r → Known none
-    known-none f = by-kind none (carries-none (λ i. optBody (integerItem 128 1) (codeBody the93)) m at stop r h id f) (carries-none (λ i. codeBody the93) m at stop r h id f) (carries-none (λ i. lastBody (level 13) (bothItem the93)) m at stop r h id f)
+    known-none f = by-kind none (λ B y. carries-none y m at stop r h id f)
 
     pub known-id : Near r → Known (some (signedOf (getD m (at + 2) 0 ∷ [])))
-    known-id f = by-kind _ (carries-id (λ i. optBody (integerItem 128 1) (codeBody the93)) m at stop r h id f) (carries-id (λ i. codeBody the93) m at stop r h id f) (carries-id (λ i. lastBody (level 13) (bothItem the93)) m at stop r h id f)
+    known-id f = by-kind _ (λ B y. carries-id y m at stop r h id f)
 
   module _ (rejects : tag ≡ 164) where
     its-body : (j : Option ℤ) → Carries j (ask (bindBody (level 13) withInvokeId idOrNullItem (λ i. onlyBody (level 13) problemItem)) (finite stop) at (part m at stop)) → Known j
     unfolding bodyOf
-    its-body j e =
-        rw (ne-eqb tag 161 (λ z. omega (arith, z, rejects)), ne-eqb tag 163 (λ z. omega (arith, z, rejects)), eq-eqb tag 164 rejects) (map-carries (λ v. reject (v .0) (v .1)) (bindBody (level 13) withInvokeId idOrNullItem (λ i. onlyBody (level 13) problemItem)) j (finite stop) at (part m at stop) e)
+    its-body j e = rw rejects (map-carries (λ v. reject (v .0) (v .1)) _ j (finite stop) at (part m at stop) e)
 
     module _ (b : Bool) (is : b ≡ standsOf m at stop 5) where
       pub known-null : b ≡ true → Known none
@@ -184,11 +182,6 @@ module _ (tag : ℕ) (m : List ℕ) (at stop : ℕ) (h : until stop ≤ length m
 
 -- A component
 
-carries-sized : {A : Type 0} (f : ℕ → ℕ) (j : Option ℤ) (x : Got A) → Carries j x → Carries j (next x (λ v k. got v (f k)))
-unfolding Carries next
-carries-sized f j (got a n) e = tt
-carries-sized f j (bad (fault k q o i t)) e = e
-
 -- its own faults, of its length or its tag, carry none
 by-length : {A : Type 0} (x : Item A) (m : List ℕ) (at stop : ℕ) → until stop ≤ length m → at < until stop → (inner : ℕ) → Far inner → (tag : ℕ) (l : LengthRead) → lengthOf (part m (at + 1) stop) true ≡ l → inner ≡ lengthPlace at (at + 1) (until stop) l
     → Carries none (askLength (front (level 1) FaultKind.Another x) (finite stop) at (part m at stop) tag 1 l)
@@ -210,16 +203,16 @@ module _ (m : List ℕ) (at stop : ℕ) (h : until stop ≤ length m) (here : at
   pub component-carries : length m ≤ 65535 → Near inner → (st : ℕ) → st ≡ at + 1 + lengthSize (getD m (at + 1) 0) → (j : Option ℤ) → Carries j (ask (bodyOf (getD m at 0)) (finite inner) st (part m st inner))
       → Carries j (ask (front (level 1) FaultKind.UnknownComponent (componentItem the93)) (finite stop) at (part m at stop))
   component-carries top near st start j e =
-      by-tag m at stop h here (getD m at 0) refl (sym asked ∙ told) (λ x. Carries j x) (
+      rw (by-tag m at stop h (sym asked ∙ told)) (
       let s = lead (getD m at 0) (sym asked ∙ told) in
       let q = around-ask (bodyOf (getD m at 0)) m at stop (getD m at 0) inner st (omega (arith, here)) h top (s .0) (s .1) entry near start in
-      rw (q .1) (carries-sized (q .0) j _ e))
+      rw (q .1) (carries-map (λ v. v) (q .0) j _ e))
 
   -- its length is none
   pub entry-carries : Far inner → Carries none (ask (front (level 1) FaultKind.UnknownComponent (componentItem the93)) (finite stop) at (part m at stop))
   unfolding entryPlace standsOf
   entry-carries f =
-      by-tag m at stop h here (getD m at 0) refl (sym asked ∙ told) (λ x. Carries none x) (
+      rw (by-tag m at stop h (sym asked ∙ told)) (
       let s = lead (getD m at 0) (sym asked ∙ told) in
       let answer : inner ≡ lengthPlace at (at + 1) (until stop) (lengthOf (part m (at + 1) stop) true) = entry ∙ rw (ne-eqb at (until stop) (λ z. omega (arith, z, here)), eq-eqb (getD m at 0) (getD m at 0) refl) in
       let i : Entered true m at stop (getD m at 0) inner = record { here = here; first = refl; len = lengthOf (part m (at + 1) stop) true; len-is = refl; answer = answer } in

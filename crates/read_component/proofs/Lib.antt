@@ -1,6 +1,5 @@
 pub mod Rows
 pub mod Values
 pub mod Carried
-pub mod Owners
 pub mod Ids
 pub mod Filled

@@ -4,7 +4,7 @@ use Prim.Native.Nat.{ℕ, zero, suc, _/_, _%_}
 use mathlib.Core.{Path._≡_, Bool.cond, List.List, List.[], List._∷_, Option.Option, Option.none, Option.some}
 use lib.{Dec.eqb, IntN.ℤ}
 use Rattle.primitive.specs.Primitive.{signedOf}
-use Rattle.element.specs.{declared.FaultKind.FaultKind, Fault.Owner, Fault.fault, Fault.Text, Ask.Got, Ask.got, Ask.bad, Ask.Body, Ask.ask, Parts.level, Parts.seriesBody}
+use Rattle.element.specs.{declared.FaultKind.FaultKind, Fault.fault, Fault.Text, Ask.Got, Ask.got, Ask.bad, Ask.Body, Ask.ask, Parts.level, Parts.seriesBody}
 use Rattle.tcap.specs.{Meaning.Component, WellFormed.the93, Productions.componentAt, Productions.componentItem}
 use Rattle.read_place.specs.Places.{finite, part, front}
 
@@ -16,11 +16,7 @@ endsAt (suc k) = some []
 abbrev pub rowsBody : ℕ → ℕ → Body (List (Component Text))
 rowsBody room k = seriesBody (componentAt the93) FaultKind.UnknownComponent (componentItem the93) (endsAt k) room k
 
--- whom a fault belongs to, and the invoke ID that it carries
-unfoldable pub Tells : {A : Type 0} → Owner → Option ℤ → Got A → Type 0
-Tells w j (got a n) = Unit {0}
-Tells w j (bad (fault k q o i t)) = (o ≡ w) × (i ≡ j)
-
+-- the invoke ID that a fault carries
 unfoldable pub Carries : {A : Type 0} → Option ℤ → Got A → Type 0
 Carries j (got a n) = Unit {0}
 Carries j (bad (fault k q o i t)) = i ≡ j

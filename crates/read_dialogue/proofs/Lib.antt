@@ -1,11 +1,3 @@
-pub mod Around
-pub mod Externals
-pub mod Pdus
 pub mod Names
-pub mod Gives
-pub mod Leaving
-pub mod Values
-pub mod PdusLeft
-pub mod NamesLeft
 pub mod Told
 pub mod Owners

@@ -1,39 +1,23 @@
 -- Whom the first fault in 6B belongs to, and what is told of it. Assumes nothing.
-use Prim.Native.Nat.{ℕ, _+_, _≤_}
+use Prim.Native.Nat.{ℕ, _+_, _≤_, _<_}
 use mathlib.Core.Path.{_≡_, refl, sym}
-use mathlib.Core.Bool.{Bool, true, false, cond}
-use mathlib.Core.List.{List}
+use mathlib.Core.{Bool.Bool, Bool.true, Bool.false, Bool.cond, List.List, List.[]}
 use native.Mathlib.Omega.{arith}
 use lib.ListN.{length, getD, drop, set}
-use Rattle.element.specs.declared.FaultKind.{FaultKind}
-use Rattle.element.specs.declared.EndRead.{EndRead}
-use Rattle.element.specs.declared.TagRead.{TagRead}
-use Rattle.element.specs.declared.LengthRead.{LengthRead}
-use Rattle.element.specs.Element.{constructorOf}
+use Rattle.element.specs.{declared.FaultKind.FaultKind, declared.EndRead.EndRead, declared.TagRead.TagRead, declared.LengthRead.LengthRead, Element.constructorOf, Head.endOf, Head.lengthOf, Answers.frontOf, Answers.lengthSize}
 use Rattle.element.specs.Fault.{Owner, portion, dialogue, fault, Text, at, inDialogue}
-use Rattle.element.specs.Head.{endOf, lengthOf}
-use Rattle.element.specs.Answers.{frontOf, lengthSize}
 use Rattle.element.specs.Ask.{Got, got, bad, next, check, blamed, definite, indefinite, head, Body, askLength, atEnd, askEnd, ask}
 use Rattle.element.specs.Parts.{Item, level, done, aroundItem, onlyBody}
-use Rattle.element.proofs.Reading.{definite-size}
-use Rattle.tcap.specs.Meaning.{Dialogue}
-use Rattle.tcap.specs.WellFormed.{the93}
-use Rattle.tcap.specs.Productions.{externalBody, inside6B, dialogueItem}
-use Rattle.element.proofs.Views.{span-length, span-drop}
-use Rattle.read_place.specs.Places.{Far, Near, until, finite, part, front, nothing, Placed, Reads, Finishes, Leads, standsOf, entryPlace, lengthPlace, wrongPlace, Ready, base, endedOf, unfinishedOf}
-use Rattle.read_place.specs.Laying.{layDialogue}
-use Rattle.read_place.specs.Leaves.{Leaves, untold}
-use Rattle.read_place.specs.Blames.{Blames}
-use Rattle.read_place.proofs.Around.{around-ask}
-use Rattle.read_place.proofs.Answers.{far-fault}
+use Rattle.element.proofs.{Reading.definite-size, Views.span-length, Views.span-drop}
+use Rattle.tcap.specs.{Meaning.Dialogue, WellFormed.the93, Productions.externalBody, Productions.inside6B, Productions.dialogueItem}
+use Rattle.read_place.specs.Places.{Far, Near, until, finite, part, front, nothing, faultPlace, Placed, Reads, Finishes, Leads, standsOf, entryPlace, lengthPlace, wrongPlace, Ready, base, endedOf, unfinishedOf}
+use Rattle.read_place.specs.{Laying.layDialogue, Leaves.Leaves, Blames.Blames}
+use Rattle.read_place.proofs.{Around.around-ask, Answers.Keeps, Answers.far-fault, Walks.unfinished-is, Onto.ask-only, Bodies.placed-where}
 use Rattle.read_place.proofs.Fronts.{byFront, ask-front, ended-is, more-here}
-use Rattle.read_place.proofs.Walks.{unfinished-is}
-use Rattle.read_place.proofs.Onto.{ask-only}
-use Rattle.read_place.proofs.Bodies.{placed-where}
-use Rattle.read_place.proofs.Items.{Entered, ask-entered, stands-here, stands-other}
+use Rattle.read_place.proofs.{Items.Entered, Items.ask-entered, Items.stands-here, Items.stands-other, Optional.entry-inside, Optional.entry-from, Optional.entry-to}
+use Rattle.read_pdu.specs.Pdus.{Takes}
+use Rattle.read_pdu.proofs.Taking.{opens-far, opens, sole-far, sole}
 use Rattle.read_dialogue.specs.Dialogues.{ownerMark}
-use Rattle.read_dialogue.proofs.Names.{dialogue-keeps, dialogue-entry, dialogue-far, dialogue-near}
-use Rattle.read_dialogue.proofs.NamesLeft.{stood, dialogue-left}
 use Rattle.read_dialogue.proofs.Told.{Belongs, Says, says-portion, says-dialogue, told-far, told-near}
 
 -- What is put around a fault does not change whom it belongs to
@@ -145,7 +129,7 @@ module _ {A : Type 0} (d : Bool) (p : ℕ) (part : List ℕ) where
       go EndRead.Unfinished q = rw q
       go EndRead.More q = rw (ask-only (inside6B the93) x d p part) (belongs-far _ _ p end r e dialogue b f (more-belongs x q))
 
--- 6B
+-- The mark of an owner
 
 module _ (e : EndRead) (b : Bool) (is : b ≡ endedOf e) where
   pub mark-ended : b ≡ true → 0 ≡ ownerMark e
@@ -167,6 +151,8 @@ says-mark l EndRead.Ended long = says-portion l long
 says-mark l EndRead.Unfinished long = says-portion l long
 says-mark l EndRead.More long = says-dialogue l long
 
+-- 6B where its tag stands
+
 abbrev external : Item (Dialogue Text)
 external = aroundItem 40 (externalBody the93)
 
@@ -176,7 +162,11 @@ contents = onlyBody (inside6B the93) external
 abbrev Told : List ℕ → ℕ → ℕ → List ℕ → List ℕ → Type 0
 Told m at stop old new = Leaves layDialogue Blames (dialogueItem the93) m at stop old new
 
-module _ (m : List ℕ) (at stop : ℕ) (ready : Ready m at stop) (there : standsOf m at stop 107 ≡ true) (inner : ℕ) (is : inner ≡ lengthPlace at (at + 1) (until stop) (lengthOf (part m (at + 1) stop) true)) (old : List ℕ) where
+keeps : Keeps inDialogue
+unfolding inDialogue faultPlace
+keeps (fault k q o i t) = refl
+
+module _ (m : List ℕ) (at stop : ℕ) (ready : Ready m at stop) (there : standsOf m at stop 107 ≡ true) where
   g : at ≤ until stop
   g = ready .0 .0
 
@@ -186,37 +176,65 @@ module _ (m : List ℕ) (at stop : ℕ) (ready : Ready m at stop) (there : stand
   top : length m ≤ 65535
   top = ready .0 .2
 
-  entry : inner ≡ entryPlace true m at stop 107
-  entry = stood m at stop g h there inner is
+  pub stood-room : at + 1 ≤ until stop
+  stood-room = let z = stands-here m at stop 107 h g there in omega (arith, z .0)
 
-  pub entry-told : Far inner → length old ≡ 428 → Told m at stop old (set old 0 0)
-  unfolding constructorOf
-  entry-told f long =
-      told-far layDialogue portion _ old (set old 0 0) (entry-belongs 107 (omega arith, omega arith, omega arith) refl contents m at stop inner g h entry f) (says-portion old long) at (until stop) inner (dialogue-entry m at stop inner g h entry f) (omega arith) f
+  module _ (inner : ℕ) (is : inner ≡ lengthPlace at (at + 1) (until stop) (lengthOf (part m (at + 1) stop) true)) where
+    entry : inner ≡ entryPlace true m at stop 107
+    unfolding entryPlace
+    entry = rw there is
 
-  module _ (near : Near inner) (st : ℕ) (start : st ≡ at + 1 + lengthSize (getD m (at + 1) 0)) (r : ℕ) (e : Reads external m st inner r) (mid : List ℕ) where
-    within : (w : Owner) → Belongs w (ask contents (finite inner) st (part m st inner)) → Belongs w (ask (front (level 1) FaultKind.Another (dialogueItem the93)) (finite stop) at (part m at stop))
+    pub entry-reads : Far inner → Reads (dialogueItem the93) m at stop inner
+    entry-reads f = opens-far 107 contents layDialogue refl m at stop inner g h entry f [] [] .reads
+
+    pub entry-told : Far inner → (old : List ℕ) → length old ≡ 428 → Told m at stop old (set old 0 0)
     unfolding constructorOf
-    within w e = let (size, is) = around-ask contents m at stop 107 inner st g h top (omega arith, omega arith, omega arith) refl entry near start in rw is (rest-belongs w (λ v. v) size _ e)
+    entry-told f old long =
+        told-far layDialogue portion _ old (set old 0 0) (entry-belongs 107 (omega arith, omega arith, omega arith) refl contents m at stop inner g h entry f) (says-portion old long) at (until stop) inner (entry-reads f) (omega arith) f
 
-    here : Placed st (until inner) (ask (front (inside6B the93) FaultKind.Another external) (finite inner) st (part m st inner)) r
-    here = placed-where external FaultKind.Another (inside6B the93) dialogue-keeps (finite inner) st (part m st inner) (until inner) r refl e
+    module _ (near : Near inner) where
+      pub stood-inside : at + 1 < length m
+      stood-inside = entry-inside m at stop 107 inner g h entry near
 
-    marked : (z : EndRead) (s b : ℕ) → Reads (dialogueItem the93) m at stop s → Far s → b ≡ ownerMark z → length mid ≡ 428 → Belongs (ownerOf z) (ask (front (level 1) FaultKind.Another (dialogueItem the93)) (finite stop) at (part m at stop)) → Told m at stop old (set mid 0 b)
-    marked z s b q f is long mine = rw is (told-far layDialogue (ownerOf z) _ old (set mid 0 (ownerMark z)) mine (says-mark mid z long) at (until stop) s q (omega arith) f)
+      module _ (st : ℕ) (start : st ≡ at + 1 + lengthSize (getD m (at + 1) 0)) where
+        pub stood-from : st ≤ until inner
+        stood-from = entry-from m at stop 107 inner g h entry near top st start
 
-    pub inside-told : Far r → (b : ℕ) → b ≡ ownerMark (endOf (finite inner) (part m st inner)) → length mid ≡ 428 → Told m at stop old (set mid 0 b)
-    inside-told f b is long =
-        marked (endOf (finite inner) (part m st inner)) r b (dialogue-far m at stop inner g h entry top near st start r e f) f is long (within _ (only-belongs (finite inner) st (part m st inner) external (until inner) r here (omega arith) f))
+        pub stood-to : until inner ≤ length m
+        stood-to = entry-to m at stop 107 inner g h entry near top st start
 
-    module _ (found : Near r) (s : ℕ) (y : Finishes nothing m r inner s) where
-      behind-belongs : (w : Owner) → ((a : Dialogue Text) → Belongs w (ask (done (inside6B the93) a) (finite inner) r (part m r inner))) → Belongs w (ask contents (finite inner) st (part m st inner))
-      behind-belongs w q =
-          rw (ask-only (inside6B the93) external (finite inner) st (part m st inner)) (belongs-near _ _ st (until inner) r here w found (λ a n z.
-          rw (span-drop m st (until inner) n) (rest-belongs w (λ b. a) (λ k. n + k) (ask (done (inside6B the93) a) (finite inner) (st + n) (part m (st + n) inner)) (rw z at (q a)))))
+        module _ (r : ℕ) (old mid : List ℕ) (e : Takes layDialogue (aroundItem 40 (externalBody the93)) m st inner r old mid) where
+          within : (w : Owner) → Belongs w (ask contents (finite inner) st (part m st inner)) → Belongs w (ask (front (level 1) FaultKind.Another (dialogueItem the93)) (finite stop) at (part m at stop))
+          unfolding constructorOf
+          within w e = let (size, is) = around-ask contents m at stop 107 inner st g h top (omega arith, omega arith, omega arith) refl entry near start in rw is (rest-belongs w (λ v. v) size _ e)
 
-      pub behind-told : Far s → (b : ℕ) → b ≡ ownerMark (endOf (finite inner) (part m r inner)) → length mid ≡ 428 → Told m at stop old (set mid 0 b)
-      behind-told f b is long = marked (endOf (finite inner) (part m r inner)) s b (dialogue-near m at stop inner g h entry top near st start r e found s y) f is long (within _ (behind-belongs _ (done-belongs (finite inner) r (part m r inner))))
+          here : Placed st (until inner) (ask (front (inside6B the93) FaultKind.Another external) (finite inner) st (part m st inner)) r
+          here = placed-where external FaultKind.Another (inside6B the93) keeps (finite inner) st (part m st inner) (until inner) r refl (e .reads)
 
-      pub dialogue-told : Near s → Leaves layDialogue untold external m st inner old mid → Told m at stop old mid
-      dialogue-told f q = told-near layDialogue _ old mid at (until stop) s (dialogue-near m at stop inner g h entry top near st start r e found s y) f (dialogue-left m at stop inner g h top near st start old mid entry r e found q)
+          marked : (z : EndRead) (s b : ℕ) → Reads (dialogueItem the93) m at stop s → Far s → b ≡ ownerMark z → length mid ≡ 428 → Belongs (ownerOf z) (ask (front (level 1) FaultKind.Another (dialogueItem the93)) (finite stop) at (part m at stop)) → Told m at stop old (set mid 0 b)
+          marked z s b q f is long mine = rw is (told-far layDialogue (ownerOf z) _ old (set mid 0 (ownerMark z)) mine (says-mark mid z long) at (until stop) s q (omega arith) f)
+
+          pub inside-reads : Far r → Reads (dialogueItem the93) m at stop r
+          inside-reads f = opens 107 contents layDialogue refl m at stop inner g h entry top near st start r old mid (sole-far (inside6B the93) external layDialogue keeps refl m st inner r old mid e f) .reads
+
+          pub inside-told : Far r → (b : ℕ) → b ≡ ownerMark (endOf (finite inner) (part m st inner)) → length mid ≡ 428 → Told m at stop old (set mid 0 b)
+          inside-told f b is long =
+              marked (endOf (finite inner) (part m st inner)) r b (inside-reads f) f is long (within _ (only-belongs (finite inner) st (part m st inner) external (until inner) r here (omega arith) f))
+
+          module _ (found : Near r) (s : ℕ) (y : Finishes nothing m r inner s) where
+            taken : Takes layDialogue (dialogueItem the93) m at stop s old mid
+            taken = opens 107 contents layDialogue refl m at stop inner g h entry top near st start s old mid (sole (inside6B the93) external layDialogue keeps refl m st inner r s y old mid e found)
+
+            pub behind-reads : Reads (dialogueItem the93) m at stop s
+            behind-reads = taken .reads
+
+            behind-belongs : (w : Owner) → ((a : Dialogue Text) → Belongs w (ask (done (inside6B the93) a) (finite inner) r (part m r inner))) → Belongs w (ask contents (finite inner) st (part m st inner))
+            behind-belongs w q =
+                rw (ask-only (inside6B the93) external (finite inner) st (part m st inner)) (belongs-near _ _ st (until inner) r here w found (λ a n z.
+                rw (span-drop m st (until inner) n) (rest-belongs w (λ b. a) (λ k. n + k) (ask (done (inside6B the93) a) (finite inner) (st + n) (part m (st + n) inner)) (rw z at (q a)))))
+
+            pub behind-told : Far s → (b : ℕ) → b ≡ ownerMark (endOf (finite inner) (part m r inner)) → length mid ≡ 428 → Told m at stop old (set mid 0 b)
+            behind-told f b is long = marked (endOf (finite inner) (part m r inner)) s b behind-reads f is long (within _ (behind-belongs _ (done-belongs (finite inner) r (part m r inner))))
+
+            pub dialogue-told : Near s → Told m at stop old mid
+            dialogue-told f = told-near layDialogue _ old mid at (until stop) s behind-reads f (taken .left)

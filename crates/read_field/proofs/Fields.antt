@@ -1,5 +1,5 @@
 -- What the readers of primitives and codes answer. Assumes nothing.
-use Prim.Native.Nat.{ℕ, zero, suc, _+_, _-_, _/_, _%_, _≤_, _<_}
+use Prim.Native.Nat.{ℕ, _+_, _/_, _%_, _≤_, _<_}
 use mathlib.Core.Path.{_≡_, refl, sym, _∙_}
 use mathlib.Core.Bool.{Bool, true, false, cond, false≢true, _&&_, and-eq-true-iff}
 use mathlib.Core.List.{List, [], _∷_}
@@ -10,9 +10,9 @@ use borrow.Author.Tests.{leb-true, le-leb, lt-leb, ne-eqb}
 use Rattle.element.specs.declared.FaultKind.{FaultKind}
 use Rattle.element.specs.Element.{constructorOf}
 use Rattle.element.specs.Fault.{at}
-use Rattle.element.specs.Parts.{level, leafItem, mapItem, integerItem}
-use Rattle.read_place.specs.Places.{part, finite, standsOf, badPlace, countOf, Leads, Reads, until, badContents}
-use Rattle.read_place.proofs.Items.{stands-only, stands-other, counted, leaf-good, leaf-bad, leaf-none, placed-item, or-left, or-right}
+use Rattle.element.specs.Parts.{level, leafItem, integerItem}
+use Rattle.read_place.specs.Places.{part, finite, badPlace, countOf, Leads, Reads, until, badContents}
+use Rattle.read_place.proofs.Items.{counted, leaf-good, leaf-bad, leaf-none, placed-item}
 use lib.IntN.{ℤ}
 use lib.Seq.{drop-cons}
 use Rattle.base.specs.Value.{Every, same}
@@ -20,8 +20,7 @@ use Rattle.primitive.specs.Primitive.{mostIntegerOctets, mostIdentifierOctets, 
 use Rattle.primitive.specs.Answers.{integerOf}
 use Rattle.primitive.proofs.Integers.{fewest-range}
 use Rattle.primitive.specs.declared.IntegerRead.{IntegerRead}
-use Rattle.tcap.specs.Meaning.{local, global}
-use Rattle.tcap.specs.Productions.{single?, octetItem, nameItem, codeItem}
+use Rattle.tcap.specs.Productions.{single?, octetItem, nameItem}
 
 pub between-sized : (most : ℕ) (c : List ℕ) (x : Bool) → (leb 1 (length c) && leb (length c) most) && x ≡ true → (1 ≤ length c) × (length c ≤ most)
 between-sized most c x e =
@@ -52,16 +51,7 @@ pub count-more : (m : List ℕ) (at end tag most n : ℕ) → n ≡ countOf end 
 count-more m at end tag most n is there h = omega (arith, counted m at end tag most n is there .room, h)
 
 pub count-third : (m : List ℕ) (at end tag most n : ℕ) → n ≡ countOf end at (getD m at 0) (getD m (at + 1) 0) tag most → (n ≡ 0 → ⊥) → end ≤ length m → at + 2 < length m
-count-third m at end tag most n is there h = some-third n there (counted m at end tag most n is there .room)
-  where
-    some-third : (k : ℕ) → (k ≡ 0 → ⊥) → at + 2 + k ≤ end → at + 2 < length m
-    some-third zero t r = absurd (t refl)
-    some-third (suc k) t r = omega (arith, r, h)
-
-one-of : (n : ℕ) → (n ≡ 0 → ⊥) → n ≤ 1 → n ≡ 1
-one-of zero t l = absurd (t refl)
-one-of (suc zero) t l = refl
-one-of (suc (suc n)) t l = absurd (omega (arith, l))
+count-third m at end tag most n is there h = omega (arith, counted m at end tag most n is there .room, there, h)
 
 pub plain : (tag : ℕ) → tag / 32 % 2 ≡ 0 → constructorOf tag ≡ false
 unfolding constructorOf
@@ -92,11 +82,14 @@ module _ (m : List ℕ) (at stop tag n : ℕ) (g : at ≤ until stop) (h : until
       (leaf-none m at stop tag 1 n (single? most) g h leads (plain tag kind) (omega arith) is z (single-sized most) r e)
 
   module _ (there : n ≡ 0 → ⊥) where
+    one : n ≡ 1
+    one = omega (arith, counted m at (until stop) tag 1 n is there .few, there)
+
     one-is : take n (drop (at + 2) m) ≡ getD m (at + 2) 0 ∷ []
-    one-is = let i = counted m at (until stop) tag 1 n is there in let z : n ≡ 1 = one-of n there (i .few) in rw (z, drop-cons m (at + 2) 0 (omega (arith, i .room, h, z)))
+    one-is = rw (one, drop-cons m (at + 2) 0 (omega (arith, counted m at (until stop) tag 1 n is there .room, h, one)))
 
     three : at + 2 + n ≡ at + 3
-    three = let i = counted m at (until stop) tag 1 n is there in let z : n ≡ 1 = one-of n there (i .few) in omega (arith, z)
+    three = omega (arith, one)
 
     pub id-good : ((i : ℕ) → getD m i 0 < 256) → Reads (integerItem tag 1) m at stop (at + 3)
     id-good low = placed-item (level 1) FaultKind.Another (λ v. signedOf (v .1)) (leafItem tag (integerOk 1)) (finite stop) at (part m at stop) (until stop) (at + 3)
@@ -136,18 +129,6 @@ module _ (m : List ℕ) (at stop n : ℕ) (g : at ≤ until stop) (h : until sto
     unfolding integerOf
     local-bad t = placed-item (level 1) FaultKind.Another (λ v. signedOf (v .1)) (leafItem 2 (integerOk mostIntegerOctets)) (finite stop) at (part m at stop) (until stop) (badContents + at)
         (leaf-bad m at stop 2 _ n (integerOk _) g h (omega arith, omega arith, omega arith) (plain 2 (omega arith)) (omega arith) is there (rw xs-is at (by-wrong (integerOk mostIntegerOctets xs) (signedOf xs) (sym told ∙ t))))
-
--- a code: global if that tag stands here, otherwise local
-module _ (m : List ℕ) (at stop r : ℕ) (h : until stop ≤ length m) (b : Bool) (is : b ≡ standsOf m at stop 6) where
-  pub code-global : b ≡ true → Reads nameItem m at stop r → Reads codeItem m at stop r
-  code-global t e =
-      rw (or-right (level 1) FaultKind.Another (mapItem local (integerItem 2 mostIntegerOctets)) (mapItem global nameItem) (finite stop) at (part m at stop) refl (λ a s z. ne-eqb a 2 (λ q. omega (arith, q, stands-only m at stop 6 h (sym is ∙ t) a s z))))
-      (placed-item (level 1) FaultKind.Another global nameItem (finite stop) at (part m at stop) (until stop) r e)
-
-  pub code-local : b ≡ false → Reads (integerItem 2 mostIntegerOctets) m at stop r → Reads codeItem m at stop r
-  code-local t e =
-      rw (or-left (level 1) FaultKind.Another (mapItem local (integerItem 2 mostIntegerOctets)) (mapItem global nameItem) (finite stop) at (part m at stop) refl (λ a s z. stands-other m at stop 6 h (sym is ∙ t) a s z))
-      (placed-item (level 1) FaultKind.Another local (integerItem 2 mostIntegerOctets) (finite stop) at (part m at stop) (until stop) r e)
 
 pub name-sized : (c : List ℕ) → identifierOk c ≡ true → (1 ≤ length c) × (length c ≤ mostIdentifierOctets)
 unfolding identifierOk

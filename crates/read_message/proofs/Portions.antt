@@ -1,161 +1,185 @@
--- The contents of the five messages: IDs, dialogue and component portions, what an Abort ends with. Assumes nothing.
+-- The contents of the five messages, what their readers answer and what they leave: IDs, dialogue and component portions, what an Abort ends with. Assumes nothing.
 use Prim.Native.Nat.{ℕ, _+_, _≤_}
-use mathlib.Core.Path.{_≡_, refl, sym, ap, _∙_}
-use mathlib.Core.Bool.{Bool, true, false}
+use mathlib.Core.Path.{_≡_, refl, sym, ap}
+use mathlib.Core.Bool.{Bool, true, false, _||_, false≢true}
 use mathlib.Core.List.{List, []}
-use mathlib.Core.Option.{Option, Option·getD}
+use mathlib.Core.Option.{Option, none, some, Option·getD}
 use native.Mathlib.Omega.{arith}
-use lib.ListN.{length, getD}
-use lib.Dec.{eqb}
+use lib.ListN.{length, getD, set}
+use lib.Dec.{eqb, ltb}
+use borrow.Author.Tests.{eqb-true, ne-eqb}
 use Rattle.element.specs.declared.FaultKind.{FaultKind}
 use Rattle.element.specs.Element.{constructorOf}
-use Rattle.element.specs.Fault.{fault, Text, withOrigId}
-use Rattle.element.specs.Head.{endOf}
-use Rattle.element.specs.Ask.{Body, ask}
-use Rattle.element.specs.Parts.{Item, level, mapItem, bindBody, thenBody, onlyBody, lastBody, optBody, mapBody}
+use Rattle.element.specs.Fault.{fault, Text, portion, withOrigId}
 use Rattle.element.specs.Answers.{lengthSize}
-use Rattle.tcap.specs.Meaning.{Originating, orig, Destination, dest, Component, Dialogue, Message, cause, says, silent, unidirectional, begin, finish, continue, abort}
-use Rattle.tcap.specs.WellFormed.{mostCause, the93}
-use Rattle.tcap.specs.Productions.{octetItem, origItem, destItem, carried, componentsItem, dialogueItem, tailBody, uniBody, beginBody, endBody, continueBody, abortBody}
-use Rattle.read_place.specs.Places.{Far, Near, until, finite, part, faultPlace, front, Placed, nothing, Reads, Finishes, endedOf, behindOf, standsOf, entryPlace}
+use Rattle.element.specs.Ask.{Body}
+use Rattle.element.specs.Parts.{level, silently, bindBody, thenBody, onlyBody, optBody, mapBody}
+use Rattle.tcap.specs.Meaning.{Originating, orig, Destination, dest, Component, Dialogue, Ending, Message, silent, unidirectional, begin, finish, continue, abort}
+use Rattle.tcap.specs.WellFormed.{the93}
+use Rattle.tcap.specs.Productions.{origItem, destItem, carried, componentsItem, dialogueItem, tailBody, messageItem}
+use Rattle.read_place.specs.Places.{Far, Near, until, faultPlace, nothing, Reads, standsOf, entryPlace}
+use Rattle.read_place.specs.Leaves.{LeavesAll, unlaid}
+use Rattle.read_place.specs.Laying.{layOrig, layDest, layDialogue, layPortion, layComponents, layEnding, layMessage}
+use Rattle.read_place.specs.Blames.{Blames}
 use Rattle.read_place.proofs.Answers.{Keeps}
-use Rattle.read_place.proofs.Fronts.{ended-is, not-ended}
-use Rattle.read_place.proofs.Bodies.{placed-where, bind-far, bind-near, then-far, then-near, only-far, only-near, last-far, last-near, last-none, map-closed}
-use Rattle.read_place.proofs.Items.{stands-only, stands-other}
 use Rattle.read_place.proofs.Optional.{around-entry, around-read}
-use Rattle.read_field.proofs.Choices.{first-of, second-of, reads-map}
+use Rattle.read_place.proofs.Leaves.{Stays, around-left, opt-left-none, opt-left-far, opt-left}
+use Rattle.read_field.proofs.Choices.{reads-map}
+use Rattle.read_row.specs.Component.{layBoth}
+use Rattle.read_row.proofs.Pairs.{Does, DoesAll, named, bind-fault, bind-rest, only-fault, only-end}
 use Rattle.read_component.specs.Components.{endsAt, rowsBody}
-use Rattle.read_dialogue.specs.Dialogues.{Passes}
-use Rattle.read_dialogue.proofs.Pdus.{pass-far, pass-near}
-use Rattle.read_message.specs.Messages.{idItem, componentsBody, endingItem}
-
--- One last element that may be left out, at level 2
-
-module _ {A : Type 0} (x : Item A) (m : List ℕ) (at stop : ℕ) (b : Bool) (is : b ≡ endedOf (endOf (finite stop) (part m at stop))) where
-  pub end-none : at ≤ until stop → until stop ≤ length m → b ≡ true → (r : ℕ) → r ≡ behindOf at stop → Finishes (lastBody (level 15) x) m at stop r
-  end-none g h t r e = rw e (last-none (level 15) x m at stop g h (ended-is (endOf (finite stop) (part m at stop)) b is t))
-
-  module _ (no : b ≡ false) (r : ℕ) (e : Reads x m at stop r) where
-    pub end-lifted : Placed at (until stop) (ask (front (level 15) FaultKind.Another x) (finite stop) at (part m at stop)) r
-    end-lifted = placed-where x FaultKind.Another (level 15) (λ f. refl) (finite stop) at (part m at stop) (until stop) r refl e
-
-    pub end-far : Far r → Finishes (lastBody (level 15) x) m at stop r
-    end-far f = last-far (level 15) x m at stop r end-lifted (not-ended (endOf (finite stop) (part m at stop)) b is no) f
-
-    pub end-near : Near r → (s : ℕ) → Finishes nothing m r stop s → Finishes (lastBody (level 15) x) m at stop s
-    end-near f s q = last-near (level 15) x m at stop r end-lifted (not-ended (endOf (finite stop) (part m at stop)) b is no) (λ f. refl) refl s f q
+use Rattle.read_pdu.specs.Pdus.{Passed, Passes}
+use Rattle.read_dialogue.proofs.Owners.{entry-belongs}
+use Rattle.read_pdu.proofs.Pdus.{pass-far, pass-near, passed-there, passed-not}
+use Rattle.read_dialogue.proofs.Told.{says-portion, told-far}
+use Rattle.read_message.specs.Messages.{idItem, layIdAt, componentsBody, endingBody, unidirectionalBody, bodyOf, layListed, layTail, layLast, Lays, LaysPast}
+use Rattle.read_message.proofs.Told.{carried-stays}
+use Rattle.read_message.proofs.Fields.{leaves-map}
 
 -- 6C
 
-module _ (m : List ℕ) (at stop inner : ℕ) (g : at ≤ until stop) (h : until stop ≤ length m) (entry : inner ≡ entryPlace true m at stop 108) where
-  pub components-entry : Far inner → Reads (componentsItem the93) m at stop inner
+module _ (m : List ℕ) (at stop inner : ℕ) (g : at ≤ until stop) (h : until stop ≤ length m) (entry : inner ≡ entryPlace true m at stop 108) (old new : List ℕ) where
+  pub components-fault : Far inner → length old ≡ 428 → (r : ℕ) → r ≡ inner → new ≡ set old 0 0 → Does Blames layComponents (componentsItem the93) m at stop r old new
   unfolding constructorOf endsAt
-  components-entry f = around-entry 108 (omega arith, omega arith, omega arith) refl (rowsBody 16 0) m at stop inner g h entry f
+  components-fault f long r z i =
+      let e : Reads (componentsItem the93) m at stop inner = around-entry 108 (omega arith, omega arith, omega arith) refl (rowsBody 16 0) m at stop inner g h entry f in
+      rw (z, i) (e, told-far layComponents portion _ old (set old 0 0) (entry-belongs 108 (omega arith, omega arith, omega arith) refl (rowsBody 16 0) m at stop inner g h entry f) (says-portion old long) at (until stop) inner e (omega arith) f)
 
-  pub components-near : length m ≤ 65535 → Near inner → (st : ℕ) → st ≡ at + 1 + lengthSize (getD m (at + 1) 0) → (r : ℕ) → Finishes (rowsBody 16 0) m st inner r → Reads (componentsItem the93) m at stop r
+  pub components-done : length m ≤ 65535 → Near inner → (st : ℕ) → st ≡ at + 1 + lengthSize (getD m (at + 1) 0) → (r : ℕ) → DoesAll Blames layComponents (rowsBody 16 0) m st inner r old new → Does Blames layComponents (componentsItem the93) m at stop r old new
   unfolding constructorOf endsAt
-  components-near top near st start r e = around-read 108 (omega arith, omega arith, omega arith) refl (rowsBody 16 0) m at stop inner g h entry top near st start r e
+  components-done top near st start r e = (
+    around-read 108 (omega arith, omega arith, omega arith) refl (rowsBody 16 0) m at stop inner g h entry top near st start r (e .0),
+    around-left Blames (rowsBody 16 0) m at stop 108 inner st g h top (omega arith, omega arith, omega arith) refl entry near start layComponents old new (e .1),
+  )
 
--- 6B or none, and then the components
+-- 6B where it stands, and then the rest
 
-module _ (m : List ℕ) (at stop r : ℕ) (g : at ≤ until stop) (h : until stop ≤ length m) (e : Passes 107 (dialogueItem the93) m at stop r) where
+module _ (m : List ℕ) (at stop : ℕ) (b : Bool) (is : b ≡ standsOf m at stop 107) where
+  pub passes-it : b ≡ true → (r : ℕ) (old new : List ℕ) → Does Blames layDialogue (dialogueItem the93) m at stop r old new → Passes 107 (dialogueItem the93) m at stop r × LaysPast m at stop old new
+  unfolding Lays
+  passes-it t r old new e = (passed-there 107 (dialogueItem the93) m at stop r b is t (e .0), rw (← is, t) (e .1))
+
+  pub passes-none : b ≡ false → (old : List ℕ) → Passes 107 (dialogueItem the93) m at stop at × LaysPast m at stop old old
+  unfolding Lays
+  passes-none t old = (passed-not 107 (dialogueItem the93) m at stop b is t, rw (← is, t))
+
+module _ {B : Type 0} (y : Body B) (full : y .full ≡ false) (deep : ltb 0 (y .left) ≡ true) (another : y .other ≡ FaultKind.Another) (keeps : Keeps (y .owner)) (stays : Stays Blames (y .owner)) (put : B → List ℕ → List ℕ)
+    (m : List ℕ) (at stop r : ℕ) (g : at ≤ until stop) (h : until stop ≤ length m) (old mid : List ℕ) (e : Passes 107 (dialogueItem the93) m at stop r × LaysPast m at stop old mid) where
+  abbrev opened : Body (Option (Dialogue Text) × B)
+  opened = optBody (dialogueItem the93) y
+
+  pass-fault : length m ≤ 65535 → Far r → DoesAll Blames (layBoth layPortion put) opened m at stop r old mid
+  unfolding Passed Lays
+  pass-fault top f = (pass-far 107 (dialogueItem the93) (λ a. refl) y full deep another keeps (omega arith, omega arith, omega arith) m at stop g h r (e .0) top f, go (standsOf m at stop 107) refl (e .0) (e .1))
+    where
+      go : (b : Bool) → standsOf m at stop 107 ≡ b → Passed b (dialogueItem the93) m at stop r → Lays b m at stop old mid → LeavesAll (layBoth layPortion put) Blames opened m at stop old mid
+      go true t e q = opt-left-far Blames 107 (dialogueItem the93) (λ a. refl) y full deep another keeps (omega arith, omega arith, omega arith) m at stop g h true (sym t) layDialogue put (layBoth layPortion put) old refl r e stays mid f q
+      go false t e q = absurd (omega (arith, e, g, h, top, f))
+
+  pass-rest : Near r → (s : ℕ) (new : List ℕ) → DoesAll Blames put y m r stop s mid new → DoesAll Blames (layBoth layPortion put) opened m at stop s old new
+  unfolding Passed Lays layPortion
+  pass-rest f s new w = (pass-near 107 (dialogueItem the93) (λ a. refl) y full deep another keeps (omega arith, omega arith, omega arith) m at stop g h r (e .0) f s (w .0), go (standsOf m at stop 107) refl (e .0) (e .1))
+    where
+      go : (b : Bool) → standsOf m at stop 107 ≡ b → Passed b (dialogueItem the93) m at stop r → Lays b m at stop old mid → LeavesAll (layBoth layPortion put) Blames opened m at stop old new
+      go true t e q = opt-left Blames 107 (dialogueItem the93) (λ a. refl) y full deep another keeps (omega arith, omega arith, omega arith) m at stop g h true (sym t) layDialogue put (layBoth layPortion put) old refl r e stays (λ a v l. refl) mid new f q (w .1)
+      go false t e q = opt-left-none Blames 107 (dialogueItem the93) (λ a. refl) y full deep another keeps (omega arith, omega arith, omega arith) m at stop g h false (sym t) layDialogue put (layBoth layPortion put) old refl (λ v l. refl) new (rw (e, q) at (w .1))
+
+module _ (m : List ℕ) (at stop r : ℕ) (g : at ≤ until stop) (h : until stop ≤ length m) (old mid : List ℕ) (e : Passes 107 (dialogueItem the93) m at stop r × LaysPast m at stop old mid) where
   abbrev listed : Body (List (Component Text))
   listed = mapBody (λ v. Option·getD v []) componentsBody
 
-  pub tail-far : length m ≤ 65535 → Far r → Finishes (tailBody the93) m at stop r
-  tail-far top f = pass-far 107 (dialogueItem the93) (λ a. refl) listed refl refl refl (λ f. refl) (omega arith, omega arith, omega arith) m at stop g h r e top f
+  listing : (v : Option (List (Component Text))) (l : List ℕ) → layListed v l ≡ layComponents (Option·getD v []) l
+  unfolding layListed layComponents
+  listing none l = refl
+  listing (some cs) l = refl
 
-  pub tail-near : Near r → (s : ℕ) → Finishes componentsBody m r stop s → Finishes (tailBody the93) m at stop s
-  tail-near f s q = pass-near 107 (dialogueItem the93) (λ a. refl) listed refl refl refl (λ f. refl) (omega arith, omega arith, omega arith) m at stop g h r e f s (map-closed (λ v. Option·getD v []) componentsBody m r stop s q)
+  pub tail-fault : length m ≤ 65535 → Far r → DoesAll Blames layTail (tailBody the93) m at stop r old mid
+  tail-fault = pass-fault listed refl refl refl (λ f. refl) (λ f l t. t) layComponents m at stop r g h old mid e
 
-  abbrev must-come : Body (List (Component Text))
-  must-come = onlyBody (level 15) (componentsItem the93)
+  pub tail-rest : Near r → (s : ℕ) (new : List ℕ) → DoesAll Blames layListed componentsBody m r stop s mid new → DoesAll Blames layTail (tailBody the93) m at stop s old new
+  tail-rest f s new w = pass-rest listed refl refl refl (λ f. refl) (λ f l t. t) layComponents m at stop r g h old mid e f s new (named Blames (λ v. Option·getD v []) componentsBody layListed layComponents m r stop s mid new listing w)
 
-  abbrev to-uni : Option (Dialogue Text) × List (Component Text) → Message Text
-  to-uni v = unidirectional (v .0) (v .1)
+  pub uni-fault : length m ≤ 65535 → Far r → DoesAll Blames layTail unidirectionalBody m at stop r old mid
+  uni-fault = pass-fault (onlyBody (level 15) (componentsItem the93)) refl refl refl (λ f. refl) (λ f l t. t) layComponents m at stop r g h old mid e
 
-  pub uni-far : length m ≤ 65535 → Far r → Finishes (uniBody the93) m at stop r
-  uni-far top f = map-closed to-uni (optBody (dialogueItem the93) must-come) m at stop r (pass-far 107 (dialogueItem the93) (λ a. refl) must-come refl refl refl (λ f. refl) (omega arith, omega arith, omega arith) m at stop g h r e top f)
+  module _ (near : Near r) (s : ℕ) (laid : List ℕ) (c : Does Blames layComponents (componentsItem the93) m r stop s mid laid) where
+    uni-rest : (q : ℕ) (new : List ℕ) → DoesAll Blames layComponents (onlyBody (level 15) (componentsItem the93)) m r stop q mid new → DoesAll Blames layTail unidirectionalBody m at stop q old new
+    uni-rest = pass-rest (onlyBody (level 15) (componentsItem the93)) refl refl refl (λ f. refl) (λ f l t. t) layComponents m at stop r g h old mid e near
 
-  module _ (near : Near r) (s : ℕ) (c : Reads (componentsItem the93) m r stop s) where
-    uni-lifted : Placed r (until stop) (ask (front (level 15) FaultKind.Another (componentsItem the93)) (finite stop) r (part m r stop)) s
-    uni-lifted = placed-where (componentsItem the93) FaultKind.Another (level 15) (λ f. refl) (finite stop) r (part m r stop) (until stop) s refl c
+    pub uni-components : Far s → DoesAll Blames layTail unidirectionalBody m at stop s old laid
+    uni-components f = uni-rest s laid (only-fault Blames 15 refl (componentsItem the93) layComponents m r stop s mid laid c f)
 
-    uni-rest : (q : ℕ) → Finishes must-come m r stop q → Finishes (uniBody the93) m at stop q
-    uni-rest q z = map-closed to-uni (optBody (dialogueItem the93) must-come) m at stop q (pass-near 107 (dialogueItem the93) (λ a. refl) must-come refl refl refl (λ f. refl) (omega arith, omega arith, omega arith) m at stop g h r e near q z)
+    pub uni-end : Near s → (q : ℕ) (new : List ℕ) → DoesAll Blames unlaid nothing m s stop q laid new → DoesAll Blames layTail unidirectionalBody m at stop q old new
+    uni-end f q new z = uni-rest q new (only-end Blames 15 refl (componentsItem the93) layComponents m r stop s mid laid c f q new z)
 
-    pub uni-components : Far s → Finishes (uniBody the93) m at stop s
-    uni-components f = uni-rest s (only-far (level 15) (componentsItem the93) m r stop s uni-lifted f)
-
-    pub uni-near : Near s → (q : ℕ) → Finishes nothing m s stop q → Finishes (uniBody the93) m at stop q
-    uni-near f q z = uni-rest q (only-near (level 15) (componentsItem the93) m r stop s uni-lifted (λ f. refl) refl q f z)
-
--- The originating ID goes with later faults, whose number it does not change
+-- An ID and then the rest: the originating ID goes with later faults, whose number and owner it does not change
 
 pub carried-keeps : (o : Originating Text) → Keeps (carried o)
 unfolding withOrigId faultPlace
 carried-keeps (orig i) (fault k q o j t) = refl
 
-module _ {B : Type 0} (y : Body B) (m : List ℕ) (at stop r : ℕ) (e : Reads (idItem 72) m at stop r) where
-  pub orig-lifted : Placed at (until stop) (ask (front (level 15) FaultKind.Another origItem) (finite stop) at (part m at stop)) r
-  orig-lifted = placed-where origItem FaultKind.Another (level 15) (λ f. refl) (finite stop) at (part m at stop) (until stop) r refl (reads-map orig (idItem 72) m at stop r e)
+module _ {B : Type 0} (y : Body B) (put : B → List ℕ → List ℕ) (m : List ℕ) (at stop r : ℕ) (old mid : List ℕ) where
+  module _ (e : Does Blames (layIdAt 1 8) (idItem 72) m at stop r old mid) where
+    its-orig : Does Blames layOrig origItem m at stop r old mid
+    unfolding layOrig
+    its-orig = (reads-map orig (idItem 72) m at stop r (e .0), leaves-map orig (idItem 72) (layIdAt 1 8) layOrig m at stop old mid (λ t. refl) (e .1))
 
-  orig-far : Far r → Finishes (bindBody (level 15) carried origItem (λ o. y)) m at stop r
-  orig-far f = bind-far (level 15) origItem m at stop r orig-lifted carried carried-keeps (λ o. y) f
+    pub orig-fault : Far r → DoesAll Blames (layBoth layOrig put) (bindBody (level 15) carried origItem (λ o. y)) m at stop r old mid
+    orig-fault = bind-fault Blames 15 refl origItem layOrig m at stop r old mid its-orig carried carried-keeps carried-stays y put
 
-  orig-near : Near r → (s : ℕ) → Finishes y m r stop s → Finishes (bindBody (level 15) carried origItem (λ o. y)) m at stop s
-  orig-near f s q = bind-near (level 15) origItem m at stop r orig-lifted carried carried-keeps (λ o. y) s f (λ o. q)
+    pub orig-rest : Near r → (s : ℕ) (new : List ℕ) → DoesAll Blames put y m r stop s mid new → DoesAll Blames (layBoth layOrig put) (bindBody (level 15) carried origItem (λ o. y)) m at stop s old new
+    orig-rest = bind-rest Blames 15 refl origItem layOrig m at stop r old mid its-orig carried carried-keeps carried-stays y put
 
-module _ {B : Type 0} (y : Body B) (m : List ℕ) (at stop r : ℕ) (e : Reads (idItem 73) m at stop r) where
-  pub dest-lifted : Placed at (until stop) (ask (front (level 15) FaultKind.Another destItem) (finite stop) at (part m at stop)) r
-  dest-lifted = placed-where destItem FaultKind.Another (level 15) (λ f. refl) (finite stop) at (part m at stop) (until stop) r refl (reads-map dest (idItem 73) m at stop r e)
+  module _ (e : Does Blames (layIdAt 2 16) (idItem 73) m at stop r old mid) where
+    its-dest : Does Blames layDest destItem m at stop r old mid
+    unfolding layDest
+    its-dest = (reads-map dest (idItem 73) m at stop r (e .0), leaves-map dest (idItem 73) (layIdAt 2 16) layDest m at stop old mid (λ t. refl) (e .1))
 
-  dest-far : Far r → Finishes (thenBody (level 15) destItem y) m at stop r
-  dest-far f = then-far (level 15) destItem m at stop r dest-lifted y f
+    pub dest-fault : Far r → DoesAll Blames (layBoth layDest put) (thenBody (level 15) destItem y) m at stop r old mid
+    dest-fault = bind-fault Blames 15 refl destItem layDest m at stop r old mid its-dest silently (λ a f. refl) (λ a f l t. t) y put
 
-  dest-near : Near r → (s : ℕ) → Finishes y m r stop s → Finishes (thenBody (level 15) destItem y) m at stop s
-  dest-near f s q = then-near (level 15) destItem m at stop r dest-lifted y s f q
+    pub dest-rest : Near r → (s : ℕ) (new : List ℕ) → DoesAll Blames put y m r stop s mid new → DoesAll Blames (layBoth layDest put) (thenBody (level 15) destItem y) m at stop s old new
+    dest-rest = bind-rest Blames 15 refl destItem layDest m at stop r old mid its-dest silently (λ a f. refl) (λ a f l t. t) y put
 
--- Begin and Continue
+-- The contents by the tag
 
-module _ (m : List ℕ) (at stop r : ℕ) (e : Reads (idItem 72) m at stop r) where
-  pub begin-far : Far r → Finishes (beginBody the93) m at stop r
-  begin-far f = map-closed (λ v. begin (v .0) (v .1 .0) (v .1 .1)) (bindBody (level 15) carried origItem (λ o. tailBody the93)) m at stop r (orig-far (tailBody the93) m at stop r e f)
+abbrev pub toDest : Body (Destination Text × (Option (Dialogue Text) × List (Component Text)))
+toDest = thenBody (level 15) destItem (tailBody the93)
 
-  pub begin-near : Near r → (s : ℕ) → Finishes (tailBody the93) m r stop s → Finishes (beginBody the93) m at stop s
-  begin-near f s q = map-closed (λ v. begin (v .0) (v .1 .0) (v .1 .1)) (bindBody (level 15) carried origItem (λ o. tailBody the93)) m at stop s (orig-near (tailBody the93) m at stop r e f s q)
+module _ (tag : ℕ) (m : List ℕ) (at stop r : ℕ) (old new : List ℕ) where
+  abbrev Contents : Type 0
+  Contents = DoesAll Blames layMessage (bodyOf tag) m at stop r old new
 
-  abbrev both-ids : Body (Originating Text × (Destination Text × (Option (Dialogue Text) × List (Component Text))))
-  both-ids = bindBody (level 15) carried origItem (λ o. thenBody (level 15) destItem (tailBody the93))
+  by-name : {A : Type 0} (f : A → Message Text) (b : Body A) (lay : A → List ℕ → List ℕ) → bodyOf tag ≡ mapBody f b → ((a : A) (l : List ℕ) → lay a l ≡ layMessage (f a) l) → DoesAll Blames lay b m at stop r old new → Contents
+  by-name f b lay is same e = rw is (named Blames f b lay layMessage m at stop r old new same e)
 
-  pub continue-orig : Far r → Finishes (continueBody the93) m at stop r
-  continue-orig f = map-closed (λ v. continue (v .0) (v .1 .0) (v .1 .1 .0) (v .1 .1 .1)) both-ids m at stop r (orig-far (thenBody (level 15) destItem (tailBody the93)) m at stop r e f)
+  pub of-begin : tag ≡ 98 → DoesAll Blames (layBoth layOrig layTail) (bindBody (level 15) carried origItem (λ o. tailBody the93)) m at stop r old new → Contents
+  unfolding bodyOf layMessage
+  of-begin t = by-name (λ v. begin (v .0) (v .1 .0) (v .1 .1)) _ _ (ap bodyOf t) (λ v l. refl)
 
-  module _ (near : Near r) (s : ℕ) (d : Reads (idItem 73) m r stop s) where
-    pub continue-dest : Far s → Finishes (continueBody the93) m at stop s
-    continue-dest f = map-closed (λ v. continue (v .0) (v .1 .0) (v .1 .1 .0) (v .1 .1 .1)) both-ids m at stop s (orig-near (thenBody (level 15) destItem (tailBody the93)) m at stop r e near s (dest-far (tailBody the93) m r stop s d f))
+  pub of-continue : tag ≡ 101 → DoesAll Blames (layBoth layOrig (layBoth layDest layTail)) (bindBody (level 15) carried origItem (λ o. toDest)) m at stop r old new → Contents
+  unfolding bodyOf layMessage
+  of-continue t = by-name (λ v. continue (v .0) (v .1 .0) (v .1 .1 .0) (v .1 .1 .1)) _ _ (ap bodyOf t) (λ v l. refl)
 
-    pub continue-near : Near s → (q : ℕ) → Finishes (tailBody the93) m s stop q → Finishes (continueBody the93) m at stop q
-    continue-near f q z = map-closed (λ v. continue (v .0) (v .1 .0) (v .1 .1 .0) (v .1 .1 .1)) both-ids m at stop q (orig-near (thenBody (level 15) destItem (tailBody the93)) m at stop r e near q (dest-near (tailBody the93) m r stop s d f q z))
+  pub of-end : tag ≡ 100 → DoesAll Blames (layBoth layDest layTail) toDest m at stop r old new → Contents
+  unfolding bodyOf layMessage
+  of-end t = by-name (λ v. finish (v .0) (v .1 .0) (v .1 .1)) _ _ (ap bodyOf t) (λ v l. refl)
 
--- End and Abort
+  lasting : (v : Option (Ending Text)) (l : List ℕ) → layLast v l ≡ layEnding (Option·getD v silent) l
+  unfolding layLast layEnding
+  lasting none l = refl
+  lasting (some s) l = refl
 
-module _ (m : List ℕ) (at stop r : ℕ) (e : Reads (idItem 73) m at stop r) where
-  pub finish-far : Far r → Finishes (endBody the93) m at stop r
-  finish-far f = map-closed (λ v. finish (v .0) (v .1 .0) (v .1 .1)) (thenBody (level 15) destItem (tailBody the93)) m at stop r (dest-far (tailBody the93) m at stop r e f)
+  pub of-abort : tag ≡ 103 → DoesAll Blames (layBoth layDest layLast) (thenBody (level 15) destItem endingBody) m at stop r old new → Contents
+  unfolding bodyOf layMessage
+  of-abort t = by-name (λ v. abort (v .0) (Option·getD (v .1) silent)) _ _ (ap bodyOf t) (λ v l. lasting (v .1) (layDest (v .0) l))
 
-  pub finish-near : Near r → (s : ℕ) → Finishes (tailBody the93) m r stop s → Finishes (endBody the93) m at stop s
-  finish-near f s q = map-closed (λ v. finish (v .0) (v .1 .0) (v .1 .1)) (thenBody (level 15) destItem (tailBody the93)) m at stop s (dest-near (tailBody the93) m at stop r e f s q)
-
-  pub abort-far : Far r → Finishes (abortBody the93) m at stop r
-  abort-far f = map-closed (λ v. abort (v .0) (Option·getD (v .1) silent)) (thenBody (level 15) destItem (lastBody (level 15) endingItem)) m at stop r (dest-far (lastBody (level 15) endingItem) m at stop r e f)
-
-  pub abort-near : Near r → (s : ℕ) → Finishes (lastBody (level 15) endingItem) m r stop s → Finishes (abortBody the93) m at stop s
-  abort-near f s q = map-closed (λ v. abort (v .0) (Option·getD (v .1) silent)) (thenBody (level 15) destItem (lastBody (level 15) endingItem)) m at stop s (dest-near (lastBody (level 15) endingItem) m at stop r e f s q)
-
-module _ (m : List ℕ) (at stop r : ℕ) (h : until stop ≤ length m) (b : Bool) (is : b ≡ standsOf m at stop 107) where
-  pub ending-says : b ≡ true → Reads (dialogueItem the93) m at stop r → Reads endingItem m at stop r
-  ending-says t e = second-of (mapItem cause (octetItem 74 mostCause)) (mapItem says (dialogueItem the93)) m at stop r (λ a s z. ap (λ (q : ℕ). eqb q 74) (stands-only m at stop 107 h (sym is ∙ t) a s z)) (reads-map says (dialogueItem the93) m at stop r e)
-
-  pub ending-cause : b ≡ false → Reads (octetItem 74 mostCause) m at stop r → Reads endingItem m at stop r
-  ending-cause t e = first-of (mapItem cause (octetItem 74 mostCause)) (mapItem says (dialogueItem the93)) m at stop r (λ a s z. stands-other m at stop 107 h (sym is ∙ t) a s z) (reads-map cause (octetItem 74 mostCause) m at stop r e)
+  pub of-uni : (tag ≡ 98 → ⊥) → (tag ≡ 101 → ⊥) → (tag ≡ 100 → ⊥) → (tag ≡ 103 → ⊥) → messageItem the93 .mine tag ≡ true → DoesAll Blames layTail unidirectionalBody m at stop r old new → Contents
+  unfolding bodyOf layMessage
+  of-uni a b c d mine =
+      let t : tag ≡ 97 = go (eqb tag 97) refl (rw (ne-eqb tag 98 a, ne-eqb tag 100 c, ne-eqb tag 101 b, ne-eqb tag 103 d) at mine) in
+      by-name (λ v. unidirectional (v .0) (v .1)) _ _ (ap bodyOf t) (λ v l. refl)
+    where
+      go : (e : Bool) → eqb tag 97 ≡ e → (e || false) ≡ true → tag ≡ 97
+      go true i o = eqb-true tag 97 i
+      go false i o = absurd (false≢true o)

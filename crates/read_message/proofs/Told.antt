@@ -1,61 +1,31 @@
 -- Faults that belong to the transaction portion. Assumes nothing.
 use Prim.Native.Nat.{ℕ, _+_}
-use mathlib.Core.Path.{refl}
+use mathlib.Core.Path.{_≡_, refl}
 use mathlib.Core.Bool.{Bool, true, false}
 use mathlib.Core.List.{List}
 use native.Mathlib.Omega.{arith}
-use lib.ListN.{take, drop}
+use lib.ListN.{length, take, drop, set}
 use Rattle.element.specs.declared.FaultKind.{FaultKind}
 use Rattle.element.specs.declared.EndRead.{EndRead}
 use Rattle.element.specs.declared.TagRead.{TagRead}
 use Rattle.element.specs.declared.LengthRead.{LengthRead}
 use Rattle.element.specs.Element.{constructorOf}
-use Rattle.element.specs.Fault.{Owner, portion, Fault, fault, Text, at, withOrigId}
+use Rattle.element.specs.Fault.{portion, fault, Text, at, withOrigId}
 use Rattle.element.specs.Head.{endOf, lengthOf}
 use Rattle.element.specs.Answers.{frontOf}
 use Rattle.element.specs.Ask.{Got, got, bad, next, check, blamed, Head, head, definite, indefinite, askLength, atEnd, ask}
-use Rattle.element.specs.Parts.{Item, level, leafContents, leafItem, mapItem}
+use Rattle.element.specs.Parts.{Item, level, leafContents, leafItem}
 use Rattle.tcap.specs.Meaning.{Originating, orig}
 use Rattle.tcap.specs.Productions.{carried}
-use Rattle.read_place.specs.Places.{Far, Near, front, nothing, Placed, Closing, Shut}
+use Rattle.read_place.specs.Places.{Far, Near, until, finite, part, front, nothing, Finishes, Closing, Shut}
 use Rattle.read_place.specs.Leaves.{Left, unlaid}
 use Rattle.read_place.specs.Blames.{Blames}
 use Rattle.read_place.proofs.Answers.{far-fault}
 use Rattle.read_place.proofs.Fronts.{byFront, ask-front}
 use Rattle.read_place.proofs.Onto.{blamed-same}
 use Rattle.read_place.proofs.Leaves.{Stays}
-use Rattle.read_dialogue.proofs.Told.{Belongs, Says}
-
--- What is told of contents put together, where what is told of each fault does not depend on the octets any more
-
-abbrev pub Fixed : List ℕ → Fault → List ℕ → Type 0
-Fixed new f l = Blames f new
-
-module _ {A : Type 0} (x : Got A) (new : List ℕ) where
-  pub fixed-here : (p end r : ℕ) → Placed p end x r → Near r → Left unlaid (Fixed new) x new new
-  unfolding Placed Left
-  fixed-here p end r e f = go x e
-    where
-      go : (x : Got A) → Placed p end x r → Left unlaid (Fixed new) x new new
-      go (got a n) e = refl
-      go (bad g) e = absurd (omega (arith, e, f, far-fault g))
-
-  pub fixed-told : (w : Owner) → Belongs w x → Says w new → Left unlaid (Fixed new) x new new
-  unfolding Left Belongs
-  fixed-told w t says = go x t
-    where
-      go : (x : Got A) → Belongs w x → Left unlaid (Fixed new) x new new
-      go (got a n) t = refl
-      go (bad (fault k q o i s)) t = rw t (says k q i s)
-
-  pub fixed-closed : (lay : A → List ℕ → List ℕ) (old : List ℕ) (d : Bool) (p end r : ℕ) → Closing d p end x r → Near end → Far r → Left unlaid (Fixed new) x new new → Left lay Blames x old new
-  unfolding Closing Shut Left
-  fixed-closed lay old d p end r e b f h = go d x e h
-    where
-      go : (d : Bool) (x : Got A) → Closing d p end x r → Left unlaid (Fixed new) x new new → Left lay Blames x old new
-      go true (got a n) e h = absurd (omega (arith, e, b, f))
-      go false (got a n) e h = absurd (omega (arith, e, b, f))
-      go d (bad g) e h = h
+use Rattle.read_row.proofs.Pairs.{DoesAll}
+use Rattle.read_dialogue.proofs.Told.{Belongs, says-portion}
 
 -- What belongs to the transaction portion: a primitive, whatever it is called, and what must not come any more
 
@@ -111,6 +81,25 @@ module _ (d : Bool) (p : ℕ) (part : List ℕ) where
 
   pub plain-nothing : Belongs portion (ask nothing d p part)
   plain-nothing = rw (ask-front nothing d p part refl refl) (plain-end (endOf d part) (frontOf 1 part))
+
+-- the end of contents, or the fault there
+module _ (m : List ℕ) (at stop r : ℕ) (e : Finishes nothing m at stop r) (old : List ℕ) where
+  pub end-there : Near r → DoesAll Blames unlaid nothing m at stop r old old
+  unfolding Closing Left
+  end-there f = (e, go (finite stop) (ask nothing (finite stop) at (part m at stop)) e)
+    where
+      go : (d : Bool) (x : Got ℕ) → Closing d at (until stop) x r → Left unlaid Blames x old old
+      go d (got a n) e = refl
+      go d (bad g) e = absurd (omega (arith, e, f, far-fault g))
+
+  pub end-fault : Far r → length old ≡ 428 → (s : ℕ) → s ≡ r → (new : List ℕ) → new ≡ set old 0 0 → DoesAll Blames unlaid nothing m at stop s old new
+  unfolding Closing Shut Left Belongs
+  end-fault f long s z new i = rw (z, i) (e, go (finite stop) (ask nothing (finite stop) at (part m at stop)) (plain-nothing (finite stop) at (part m at stop)) e)
+    where
+      go : (d : Bool) (x : Got ℕ) → Belongs portion x → Closing d at (until stop) x r → Left unlaid Blames x old (set old 0 0)
+      go true (got a n) t e = absurd (omega (arith, e, f))
+      go false (got a n) t e = absurd (omega (arith, e, f))
+      go d (bad (fault k q o j u)) t e = rw t (says-portion old long k q j u)
 
 -- the originating ID does not change what is told
 pub carried-stays : (o : Originating Text) → Stays Blames (carried o)

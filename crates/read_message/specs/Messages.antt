@@ -3,8 +3,8 @@
 use Prim.Native.Nat.{ℕ}
 use mathlib.Core.{Path._≡_, Bool.Bool, Bool.true, Bool.false, Bool.cond, List.List, Option.Option, Option.none, Option.some}
 use lib.{ListN.length, ListN.set, Dec.eqb}
-use Rattle.element.specs.{Fault.Text, Ask.Got, Ask.Body, Parts.Item, Parts.lastBody, Parts.leafItem, Parts.mapItem, Parts.orItem}
-use Rattle.tcap.specs.{WellFormed.mostCause, Meaning.Ending, Meaning.cause, Meaning.says, Meaning.Component, Meaning.Dialogue, Meaning.Message, WellFormed.the93, WellFormed.idOk, Productions.octetItem, Productions.levelAt, Productions.componentsItem, Productions.dialogueItem, Productions.uniBody, Productions.beginBody, Productions.endBody, Productions.continueBody, Productions.abortBody}
+use Rattle.element.specs.{Fault.Text, Ask.Got, Ask.Body, Parts.Item, Parts.optBody, Parts.onlyBody, Parts.lastBody, Parts.leafItem, Parts.mapItem, Parts.orItem}
+use Rattle.tcap.specs.{Meaning.Ending, Meaning.cause, Meaning.says, Meaning.Component, Meaning.Dialogue, Meaning.Message, WellFormed.mostCause, WellFormed.the93, WellFormed.idOk, Productions.octetItem, Productions.levelAt, Productions.componentsItem, Productions.dialogueItem, Productions.uniBody, Productions.beginBody, Productions.endBody, Productions.continueBody, Productions.abortBody}
 use Rattle.read_place.specs.{Places.Placed, Places.standsOf, Leaves.Leaves, Laying.laySpan, Laying.layComponents, Laying.layDialogue, Laying.layPortion, Laying.layEnding, Blames.Blames}
 
 -- an ID by its tag, and what it is laid out as: the octet that says that it stands, its place and its length
@@ -22,13 +22,20 @@ componentsBody = lastBody (levelAt the93 2) (componentsItem the93)
 abbrev pub endingItem : Item (Ending Text)
 endingItem = orItem (mapItem cause (octetItem 0x4A mostCause)) (mapItem says (dialogueItem the93))
 
+abbrev pub endingBody : Body (Option (Ending Text))
+endingBody = lastBody (levelAt the93 2) endingItem
+
+-- the contents of a Unidirectional, not yet under its name
+abbrev pub unidirectionalBody : Body (Option (Dialogue Text) × List (Component Text))
+unidirectionalBody = optBody (dialogueItem the93) (onlyBody (levelAt the93 2) (componentsItem the93))
+
 -- the contents of a message by its tag
 unfoldable pub bodyOf : ℕ → Body (Message Text)
 bodyOf a =
-    cond (eqb a 0x62) (beginBody the93)
-    (cond (eqb a 0x65) (continueBody the93)
+    cond (eqb a 0x61) (uniBody the93)
+    (cond (eqb a 0x62) (beginBody the93)
     (cond (eqb a 0x64) (endBody the93)
-    (cond (eqb a 0x67) (abortBody the93) (uniBody the93))))
+    (cond (eqb a 0x65) (continueBody the93) (abortBody the93))))
 
 -- a message that is all there is: how many octets, or the first fault
 abbrev pub Answers : List ℕ → Got (Message Text) → ℕ → Type 0

@@ -1,17 +1,19 @@
 // Messages: an answer is the place behind what was read, or the first fault. What is read is laid out in the octets lent, or whom the fault belongs to is told there.
 ghost use mathlib.Core.Path.{_≡_};
+ghost use mathlib.Core.Bool.{true};
 ghost use Prim.Native.Nat.{_+_, _/_, _%_, _<_, _≤_};
 ghost use lib.ListN.{length, set};
-ghost use Rattle.element.specs.Parts.{lastBody};
-ghost use Rattle.read_place.specs.Places.{Leads, Reads, Finishes, Ready};
-ghost use Rattle.read_place.specs.Leaves.{Left, Leaves, LeavesAll};
-ghost use Rattle.read_place.specs.Laying.{layComponents, layEnding, layMessage, layAccepted};
+ghost use Rattle.element.specs.Parts.{thenBody};
+ghost use Rattle.read_place.specs.Places.{Leads, Reads, Finishes, Ready, nothing};
+ghost use Rattle.read_place.specs.Leaves.{Left, Leaves, LeavesAll, unlaid};
+ghost use Rattle.read_place.specs.Laying.{layDest, layComponents, layMessage, layAccepted};
 ghost use Rattle.read_place.specs.Blames.{Blames};
-ghost use Rattle.read_dialogue.specs.Dialogues.{Passes};
+ghost use Rattle.read_pdu.specs.Pdus.{Passes};
 ghost use Rattle.tcap.specs.WellFormed.{the93};
-ghost use Rattle.tcap.specs.Reading.{readFirst, locatedUpTo};
-ghost use Rattle.tcap.specs.Productions.{levelAt, componentsItem, dialogueItem, tailBody, uniBody, beginBody, endBody, continueBody, abortBody, messageItem};
-ghost use Rattle.read_message.specs.Messages.{idItem, layIdAt, componentsBody, endingItem, bodyOf, Answers, layListed, layTail, layLast, LaysPast};
+ghost use Rattle.tcap.specs.Reading.{locatedUpTo};
+ghost use Rattle.tcap.specs.Productions.{levelAt, destItem, componentsItem, dialogueItem, tailBody, messageItem};
+ghost use Rattle.read_row.specs.Component.{layBoth};
+ghost use Rattle.read_message.specs.Messages.{idItem, layIdAt, componentsBody, endingBody, unidirectionalBody, bodyOf, Answers, layListed, layTail, layLast, LaysPast};
 use read_component::rows_at;
 use read_dialogue::dialogue_at;
 use read_field::small_at;
@@ -40,6 +42,19 @@ fn portion_fault(out: &mut [u8], r: usize) -> usize
     ensures { λ _. ⌜ now (out .exit) ≡ set (now (out .entry)) 0 0 ⌝ }
 {
     out[0] = OF_PORTION;
+    r
+}
+
+// The end of contents of the transaction portion: what stands there instead is a fault of that portion.
+fn end_at(m: &[u8], at: usize, stop: usize, out: &mut [u8]) -> usize
+    requires { ⌜ Ready (now m) at stop × (length (now out) ≡ 428) ⌝ }
+    ensures { λ r. ⌜ Finishes nothing (now (m .entry)) at stop r ⌝ }
+    ensures { λ _. ⌜ LeavesAll unlaid Blames nothing (now (m .entry)) at stop (now (out .entry)) (now (out .exit)) ⌝ }
+{
+    let r = leave(m, at, stop);
+    if r >= FAULT {
+        return portion_fault(out, r);
+    }
     r
 }
 
@@ -84,11 +99,7 @@ fn last_components_at(m: &[u8], at: usize, stop: usize, out: &mut [u8]) -> usize
     if r >= FAULT {
         return r;
     }
-    let last = leave(m, r, stop);
-    if last >= FAULT {
-        return portion_fault(out, last);
-    }
-    last
+    end_at(m, r, stop, out)
 }
 
 // The place behind 6B, if it stands here.
@@ -119,8 +130,8 @@ fn tail_at(m: &[u8], at: usize, stop: usize, out: &mut [u8]) -> usize
 // The contents of a Unidirectional.
 fn uni_at(m: &[u8], at: usize, stop: usize, out: &mut [u8]) -> usize
     requires { ⌜ Ready (now m) at stop × (length (now out) ≡ 428) ⌝ }
-    ensures { λ r. ⌜ Finishes (uniBody the93) (now (m .entry)) at stop r ⌝ }
-    ensures { λ _. ⌜ LeavesAll layMessage Blames (uniBody the93) (now (m .entry)) at stop (now (out .entry)) (now (out .exit)) ⌝ }
+    ensures { λ r. ⌜ Finishes unidirectionalBody (now (m .entry)) at stop r ⌝ }
+    ensures { λ _. ⌜ LeavesAll layTail Blames unidirectionalBody (now (m .entry)) at stop (now (out .entry)) (now (out .exit)) ⌝ }
 {
     let r = past_dialogue(m, at, stop, out);
     if r >= FAULT {
@@ -130,64 +141,24 @@ fn uni_at(m: &[u8], at: usize, stop: usize, out: &mut [u8]) -> usize
     if s >= FAULT {
         return s;
     }
-    let last = leave(m, s, stop);
-    if last >= FAULT {
-        return portion_fault(out, last);
-    }
-    last
+    end_at(m, s, stop, out)
 }
 
-// The contents of a Begin.
-fn begin_at(m: &[u8], at: usize, stop: usize, out: &mut [u8]) -> usize
-    requires { ⌜ Ready (now m) at stop × (length (now out) ≡ 428) ⌝ }
-    ensures { λ r. ⌜ Finishes (beginBody the93) (now (m .entry)) at stop r ⌝ }
-    ensures { λ _. ⌜ LeavesAll layMessage Blames (beginBody the93) (now (m .entry)) at stop (now (out .entry)) (now (out .exit)) ⌝ }
-{
-    let r = id_at(m, at, stop, 0x48, 1, 8, out);
-    if r >= FAULT {
-        return r;
-    }
-    tail_at(m, r, stop, out)
-}
-
-// The contents of an End.
-fn end_at(m: &[u8], at: usize, stop: usize, out: &mut [u8]) -> usize
-    requires { ⌜ Ready (now m) at stop × (length (now out) ≡ 428) ⌝ }
-    ensures { λ r. ⌜ Finishes (endBody the93) (now (m .entry)) at stop r ⌝ }
-    ensures { λ _. ⌜ LeavesAll layMessage Blames (endBody the93) (now (m .entry)) at stop (now (out .entry)) (now (out .exit)) ⌝ }
-{
-    let r = id_at(m, at, stop, 0x49, 2, 16, out);
-    if r >= FAULT {
-        return r;
-    }
-    tail_at(m, r, stop, out)
-}
-
-// The contents of a Continue.
-fn continue_at(m: &[u8], at: usize, stop: usize, out: &mut [u8]) -> usize
-    requires { ⌜ Ready (now m) at stop × (length (now out) ≡ 428) ⌝ }
-    ensures { λ r. ⌜ Finishes (continueBody the93) (now (m .entry)) at stop r ⌝ }
-    ensures { λ _. ⌜ LeavesAll layMessage Blames (continueBody the93) (now (m .entry)) at stop (now (out .entry)) (now (out .exit)) ⌝ }
-{
-    let r = id_at(m, at, stop, 0x48, 1, 8, out);
-    if r >= FAULT {
-        return r;
-    }
-    let s = id_at(m, r, stop, 0x49, 2, 16, out);
-    if s >= FAULT {
-        return s;
-    }
-    tail_at(m, s, stop, out)
-}
-
-// What an Abort ends with: a cause, or 6B.
+// What an Abort ends with: a cause, 6B or nothing; the place behind the contents.
 fn ending_at(m: &[u8], at: usize, stop: usize, out: &mut [u8]) -> usize
     requires { ⌜ Ready (now m) at stop × (length (now out) ≡ 428) ⌝ }
-    ensures { λ r. ⌜ Reads endingItem (now (m .entry)) at stop r ⌝ }
-    ensures { λ _. ⌜ Leaves layEnding Blames endingItem (now (m .entry)) at stop (now (out .entry)) (now (out .exit)) ⌝ }
+    ensures { λ r. ⌜ Finishes endingBody (now (m .entry)) at stop r ⌝ }
+    ensures { λ _. ⌜ LeavesAll layLast Blames endingBody (now (m .entry)) at stop (now (out .entry)) (now (out .exit)) ⌝ }
 {
+    if ended(m, at, stop) {
+        return behind(at, stop);
+    }
     if stands(m, at, stop, 0x6B) {
-        return dialogue_at(m, at, stop, out);
+        let r = dialogue_at(m, at, stop, out);
+        if r >= FAULT {
+            return r;
+        }
+        return end_at(m, r, stop, out);
     }
     let r = small_at(m, at, stop, 0x4A, MOST_CAUSE);
     if r >= FAULT {
@@ -195,56 +166,52 @@ fn ending_at(m: &[u8], at: usize, stop: usize, out: &mut [u8]) -> usize
     }
     out[3] = 1;
     out[41] = m[at + 2];
-    r
-}
-
-// The same or nothing, and nothing more: the place behind the contents.
-fn last_ending_at(m: &[u8], at: usize, stop: usize, out: &mut [u8]) -> usize
-    requires { ⌜ Ready (now m) at stop × (length (now out) ≡ 428) ⌝ }
-    ensures { λ r. ⌜ Finishes (lastBody (levelAt the93 2) endingItem) (now (m .entry)) at stop r ⌝ }
-    ensures { λ _. ⌜ LeavesAll layLast Blames (lastBody (levelAt the93 2) endingItem) (now (m .entry)) at stop (now (out .entry)) (now (out .exit)) ⌝ }
-{
-    if ended(m, at, stop) {
-        return behind(at, stop);
-    }
-    let r = ending_at(m, at, stop, out);
-    if r >= FAULT {
-        return r;
-    }
-    let last = leave(m, r, stop);
-    if last >= FAULT {
-        return portion_fault(out, last);
-    }
-    last
+    end_at(m, r, stop, out)
 }
 
 // The contents of an Abort.
 fn abort_at(m: &[u8], at: usize, stop: usize, out: &mut [u8]) -> usize
     requires { ⌜ Ready (now m) at stop × (length (now out) ≡ 428) ⌝ }
-    ensures { λ r. ⌜ Finishes (abortBody the93) (now (m .entry)) at stop r ⌝ }
-    ensures { λ _. ⌜ LeavesAll layMessage Blames (abortBody the93) (now (m .entry)) at stop (now (out .entry)) (now (out .exit)) ⌝ }
+    ensures { λ r. ⌜ Finishes (thenBody (levelAt the93 2) destItem endingBody) (now (m .entry)) at stop r ⌝ }
+    ensures { λ _. ⌜ LeavesAll (layBoth layDest layLast) Blames (thenBody (levelAt the93 2) destItem endingBody) (now (m .entry)) at stop (now (out .entry)) (now (out .exit)) ⌝ }
 {
     let r = id_at(m, at, stop, 0x49, 2, 16, out);
     if r >= FAULT {
         return r;
     }
-    last_ending_at(m, r, stop, out)
+    ending_at(m, r, stop, out)
 }
 
-// The contents of a message by its tag.
+// The contents of a message by its tag: its IDs, and what follows them.
 fn contents_at(m: &[u8], at: usize, stop: usize, tag: u8, out: &mut [u8]) -> usize
-    requires { ⌜ Ready (now m) at stop × (length (now out) ≡ 428) ⌝ }
+    requires { ⌜ Ready (now m) at stop × (messageItem the93 .mine tag ≡ true) × (length (now out) ≡ 428) ⌝ }
     ensures { λ r. ⌜ Finishes (bodyOf tag) (now (m .entry)) at stop r ⌝ }
     ensures { λ _. ⌜ LeavesAll layMessage Blames (bodyOf tag) (now (m .entry)) at stop (now (out .entry)) (now (out .exit)) ⌝ }
 {
     if tag == 0x62 {
-        return begin_at(m, at, stop, out);
+        let r = id_at(m, at, stop, 0x48, 1, 8, out);
+        if r >= FAULT {
+            return r;
+        }
+        return tail_at(m, r, stop, out);
     }
     if tag == 0x65 {
-        return continue_at(m, at, stop, out);
+        let r = id_at(m, at, stop, 0x48, 1, 8, out);
+        if r >= FAULT {
+            return r;
+        }
+        let s = id_at(m, r, stop, 0x49, 2, 16, out);
+        if s >= FAULT {
+            return s;
+        }
+        return tail_at(m, s, stop, out);
     }
     if tag == 0x64 {
-        return end_at(m, at, stop, out);
+        let r = id_at(m, at, stop, 0x49, 2, 16, out);
+        if r >= FAULT {
+            return r;
+        }
+        return tail_at(m, r, stop, out);
     }
     if tag == 0x67 {
         return abort_at(m, at, stop, out);
@@ -271,12 +238,19 @@ fn is_message(first: u8) -> bool
     first == 0x67
 }
 
-// A message that is all there is: how many octets, or the first fault.
-fn alone_at(m: &[u8], len: usize, out: &mut [u8]) -> usize
-    requires { ⌜ (len ≡ length (now m)) × (1 ≤ len) × (len ≤ 255) × (length (now out) ≡ 428) ⌝ }
-    ensures { λ r. ⌜ Answers (now (m .entry)) (readFirst the93 (messageItem the93) (now (m .entry))) r ⌝ }
-    ensures { λ _. ⌜ Left layAccepted Blames (readFirst the93 (messageItem the93) (now (m .entry))) (now (out .entry)) (now (out .exit)) ⌝ }
+// A message that is all there is, of any octets: how many there are, or the first fault.
+pub fn message_at(m: &[u8], out: &mut [u8]) -> usize
+    requires { ⌜ length (now out) ≡ 428 ⌝ }
+    ensures { λ r. ⌜ Answers (now (m .entry)) (locatedUpTo the93 (now (m .entry))) r ⌝ }
+    ensures { λ _. ⌜ Left layAccepted Blames (locatedUpTo the93 (now (m .entry))) (now (out .entry)) (now (out .exit)) ⌝ }
 {
+    let len = m.len();
+    if len > MOST_OCTETS {
+        return portion_fault(out, OVERLONG + MOST_OCTETS);
+    }
+    if len == 0 {
+        return portion_fault(out, CUT_OFF);
+    }
     let tag = m[0];
     if is_message(tag) {
         let inner = length_at(m, 0, 1, len, true);
@@ -294,20 +268,4 @@ fn alone_at(m: &[u8], len: usize, out: &mut [u8]) -> usize
         return portion_fault(out, OCTETS_AFTER + r);
     }
     portion_fault(out, NO_MESSAGE)
-}
-
-// The same of any octets.
-pub fn message_at(m: &[u8], out: &mut [u8]) -> usize
-    requires { ⌜ length (now out) ≡ 428 ⌝ }
-    ensures { λ r. ⌜ Answers (now (m .entry)) (locatedUpTo the93 (now (m .entry))) r ⌝ }
-    ensures { λ _. ⌜ Left layAccepted Blames (locatedUpTo the93 (now (m .entry))) (now (out .entry)) (now (out .exit)) ⌝ }
-{
-    let len = m.len();
-    if len > MOST_OCTETS {
-        return portion_fault(out, OVERLONG + MOST_OCTETS);
-    }
-    if len == 0 {
-        return portion_fault(out, CUT_OFF);
-    }
-    alone_at(m, len, out)
 }

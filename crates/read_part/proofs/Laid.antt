@@ -1,15 +1,15 @@
 -- What the readers of a component's fields lay out, and how its contents are put together. Assumes nothing.
 use Prim.Native.Nat.{ℕ, suc, _+_, _-_, _*_, _/_, _%_, _≤_, _<_}
 use mathlib.Core.Path.{_≡_, refl, sym, ap, _∙_, fun-ext}
-use mathlib.Core.Bool.{Bool, true, false, cond, _||_}
+use mathlib.Core.Bool.{Bool, true, false, cond}
 use mathlib.Core.List.{List, [], _∷_}
 use mathlib.Core.Option.{none, some}
 use native.Mathlib.Omega.{arith}
 use lib.ListN.{length, getD, drop, take, set, length-set, length-drop}
 use lib.Seq.{sets, length-take-le, drop-cons}
-use lib.Dec.{eqb, leb}
+use lib.Dec.{leb}
 use lib.IntN.{ℤ}
-use borrow.Author.Tests.{ne-eqb, leb-true}
+use borrow.Author.Tests.{leb-true}
 use Rattle.base.specs.Number.{numberFrom, octetsIn, topOf, bitsAt}
 use Rattle.base.specs.Value.{same}
 use Rattle.base.proofs.Numbers.{bits-signed}
@@ -17,13 +17,12 @@ use Rattle.primitive.specs.Primitive.{mostIntegerOctets, mostIdentifierOctets, 
 use Rattle.primitive.specs.Answers.{integerOf}
 use Rattle.primitive.specs.declared.IntegerRead.{IntegerRead}
 use Rattle.element.specs.declared.FaultKind.{FaultKind}
-use Rattle.element.specs.declared.TagRead.{TagRead}
 use Rattle.element.specs.Fault.{Fault, Text}
 use Rattle.element.specs.Head.{endOf}
-use Rattle.element.specs.Answers.{elementWalk, frontOf}
+use Rattle.element.specs.Answers.{elementWalk}
 use Rattle.element.specs.Walk.{walkItem}
 use Rattle.element.specs.Ask.{Got, got, bad, next, blamed, Head, Body, ask}
-use Rattle.element.specs.Parts.{Item, Where, level, place, leafItem, mapItem, orItem, integerItem}
+use Rattle.element.specs.Parts.{Item, Where, level, place, leafItem, mapItem, integerItem}
 use Rattle.element.proofs.Asking.{Then, fact, the-fact, then-next, then-blamed, ask-sound}
 use Rattle.element.proofs.Views.{span-take, span-length}
 use Rattle.tcap.specs.declared.Problem.{Problem}
@@ -35,22 +34,22 @@ use Rattle.read_place.specs.Leaves.{Left, Leaves, LeavesAll, untold}
 use Rattle.read_place.specs.Laying.{layText, layId, layRejectId, layCode, layElement, layParameter, layProblem}
 use Rattle.read_place.proofs.Answers.{placed-near}
 use Rattle.read_place.proofs.Fronts.{ended-is, not-ended}
-use Rattle.read_place.proofs.Items.{stands-only, stands-other, counted, or-left, or-right}
+use Rattle.read_place.proofs.Items.{counted}
 use Rattle.read_place.proofs.Onto.{ask-onto, missing-both}
 use Rattle.read_place.proofs.Values.{placed-got, leaf-stood, value-walk}
-use Rattle.read_place.proofs.Optional.{deep-enough, here-placed, last-ended, last-cut, last-walk-far, last-walk, sole-missing, sole-cut, sole-walk-far, sole-walk}
+use Rattle.read_place.proofs.Optional.{deep-enough, here-placed, last-ended, last-walk-far, last-walk, cut-here, sole-missing, sole-walk-far, sole-walk}
 use Rattle.read_place.proofs.Leaves.{leaves-far, leaves-all-far, left-next, only-left, last-left, last-left-none}
 use Rattle.read_field.proofs.Fields.{integer-sized, single-sized, name-sized, local-good}
-use Rattle.read_field.proofs.Choices.{reads-map}
+use Rattle.read_field.proofs.Choices.{asked, reads-map, id-null, id-number, code-global, code-local, problem-invoke, problem-result, problem-error, problem-general}
 use Rattle.read_part.specs.Parts.{layOctet, Held, parameterBody, layHeld}
 
--- a fault leaves anything
-pub fault-one : {A : Type 0} (lay : A → List ℕ → List ℕ) (x : Item A) (m : List ℕ) (at stop r : ℕ) (old new : List ℕ) → Reads x m at stop r → Far r → Reads x m at stop r × Leaves lay untold x m at stop old new
-fault-one lay x m at stop r old new e f = (e, leaves-far lay x m at stop r old new e f)
+-- what is read and what is laid out
+abbrev Both : {A : Type 0} → (A → List ℕ → List ℕ) → Item A → List ℕ → ℕ → ℕ → ℕ → List ℕ → List ℕ → Type 0
+Both lay x m at stop r old new = Reads x m at stop r × Leaves lay untold x m at stop old new
 
--- under another name too
-pub fault-named : {A B : Type 0} (f : A → B) (out : B → List ℕ → List ℕ) (x : Item A) (m : List ℕ) (at stop r : ℕ) (old new : List ℕ) → Reads x m at stop r → Far r → Reads x m at stop r × Leaves out untold (mapItem f x) m at stop old new
-fault-named f out x m at stop r old new e g = (e, leaves-far out (mapItem f x) m at stop r old new (reads-map f x m at stop r e) g)
+-- a fault leaves anything
+pub fault-one : {A : Type 0} (lay : A → List ℕ → List ℕ) (x : Item A) (m : List ℕ) (at stop r : ℕ) (old new : List ℕ) → Reads x m at stop r → Far r → Both lay x m at stop r old new
+fault-one lay x m at stop r old new e f = (e, leaves-far lay x m at stop r old new e f)
 
 pub fault-all : {A : Type 0} (lay : A → List ℕ → List ℕ) (b : Body A) (m : List ℕ) (at stop r : ℕ) (old new : List ℕ) → Finishes b m at stop r → Far r → Finishes b m at stop r × LeavesAll lay untold b m at stop old new
 fault-all lay b m at stop r old new e f = (e, leaves-all-far lay b m at stop r old new e f)
@@ -172,12 +171,10 @@ module _ {A B : Type 0} (w : Where) (o : FaultKind) (f : A → B) (x : Item A) (
 leaves-map : {A B : Type 0} (f : A → B) (x : Item A) (lay : A → List ℕ → List ℕ) (out : B → List ℕ → List ℕ) (m : List ℕ) (at stop : ℕ) (old new : List ℕ) → ((a : A) → lay a old ≡ out (f a) old) → Leaves lay untold x m at stop old new → Leaves out untold (mapItem f x) m at stop old new
 leaves-map f x lay out m at stop old new same e = rw (item-map (level 1) FaultKind.Another f x (finite stop) at (part m at stop)) (left-next untold lay out f (λ n. n) _ old old new same e)
 
-module _ {A : Type 0} (x y : Item A) (lay : A → List ℕ → List ℕ) (m : List ℕ) (at stop : ℕ) (old new : List ℕ) where
-  leaves-first : ((a s : ℕ) → frontOf 1 (part m at stop) ≡ TagRead.Tag a s → y .mine a ≡ false) → Leaves lay untold x m at stop old new → Leaves lay untold (orItem x y) m at stop old new
-  leaves-first h e = rw (or-left (level 1) FaultKind.Another x y (finite stop) at (part m at stop) refl h) e
-
-  leaves-second : ((a s : ℕ) → frontOf 1 (part m at stop) ≡ TagRead.Tag a s → x .mine a ≡ false) → Leaves lay untold y m at stop old new → Leaves lay untold (orItem x y) m at stop old new
-  leaves-second h e = rw (or-right (level 1) FaultKind.Another x y (finite stop) at (part m at stop) refl h) e
+-- an item that is asked as another is, under another name
+named : {A B : Type 0} (f : A → B) (x : Item A) (y : Item B) (lay : A → List ℕ → List ℕ) (out : B → List ℕ → List ℕ) (m : List ℕ) (at stop r : ℕ) (old new : List ℕ)
+    → asked y m at stop ≡ asked (mapItem f x) m at stop → ((a : A) → lay a old ≡ out (f a) old) → Both lay x m at stop r old new → Both out y m at stop r old new
+named f x y lay out m at stop r old new is same e = (rw is (reads-map f x m at stop r (e .0)), rw is (leaves-map f x lay out m at stop old new same (e .1)))
 
 -- A code
 
@@ -200,7 +197,7 @@ module _ (m : List ℕ) (at stop n : ℕ) (g : at ≤ until stop) (h : until sto
       (few-left (λ v. signedOf (v .1)) 2 mostIntegerOctets (integerOk mostIntegerOctets) (omega arith, omega arith, omega arith) (omega arith) (integer-sized _) m at stop (at + 2 + n) h (local-good m at stop n g h is there xs i xs-is told v t) (omega (arith, room)) (λ z. layCode (local z)) old new
       (λ z q. let same-value : v ≡ z = value-here ∙ sym (q ∙ rw size) in laid ∙ ap (λ (b : ℕ). sets (set old 5 2) 8 (octetsIn 4 b)) (bits ∙ ap (bitsAt 4294967295) same-value)))
 
-pub global-left : (m : List ℕ) (at stop r : ℕ) → until stop ≤ length m → Reads nameItem m at stop r → Near r → (old new : List ℕ) → new ≡ layText 8 (at + 2) (r - at - 2) (set old 5 6) → Leaves layCode untold (mapItem global nameItem) m at stop old new
+global-left : (m : List ℕ) (at stop r : ℕ) → until stop ≤ length m → Reads nameItem m at stop r → Near r → (old new : List ℕ) → new ≡ layText 8 (at + 2) (r - at - 2) (set old 5 6) → Leaves layCode untold (mapItem global nameItem) m at stop old new
 unfolding layCode
 global-left m at stop r h e near old new laid =
     let leads : Leads 6 = (omega arith, omega arith, omega arith) in
@@ -212,67 +209,57 @@ global-left m at stop r h e near old new laid =
 pub name-sizes : (m : List ℕ) (at stop r : ℕ) → until stop ≤ length m → Reads nameItem m at stop r → Near r → (at + 3 ≤ r) × (r ≤ until stop)
 name-sizes m at stop r h e near = let s = few-size global 6 mostIdentifierOctets identifierOk (omega arith, omega arith, omega arith) (omega arith) name-sized m at stop r h (reads-map global nameItem m at stop r e) near in (s .0, s .1)
 
-module _ (m : List ℕ) (at stop : ℕ) (h : until stop ≤ length m) (b : Bool) (is : b ≡ standsOf m at stop 6) (old new : List ℕ) where
-  pub code-left-global : b ≡ true → Leaves layCode untold (mapItem global nameItem) m at stop old new → Leaves layCode untold codeItem m at stop old new
-  code-left-global t e = leaves-second _ _ layCode m at stop old new (λ a s z. ne-eqb a 2 (λ q. omega (arith, q, stands-only m at stop 6 h (sym is ∙ t) a s z))) e
+module _ (m : List ℕ) (at stop : ℕ) (h : until stop ≤ length m) (b : Bool) (is : b ≡ standsOf m at stop 6) (r : ℕ) (old new : List ℕ) where
+  module _ (t : b ≡ true) (e : Reads nameItem m at stop r) where
+    global-reads : Reads codeItem m at stop r
+    global-reads = rw (code-global m at stop h b is t) (reads-map global nameItem m at stop r e)
 
-  pub code-left-local : b ≡ false → Leaves layCode untold (mapItem local (integerItem 2 mostIntegerOctets)) m at stop old new → Leaves layCode untold codeItem m at stop old new
-  code-left-local t e = leaves-first _ _ layCode m at stop old new (λ a s z. stands-other m at stop 6 h (sym is ∙ t) a s z) e
+    pub global-far : Far r → Both layCode codeItem m at stop r old new
+    global-far f = fault-one layCode codeItem m at stop r old new global-reads f
+
+    pub global-near : Near r → new ≡ layText 8 (at + 2) (r - at - 2) (set old 5 6) → Both layCode codeItem m at stop r old new
+    global-near near laid = (global-reads, rw (code-global m at stop h b is t) (global-left m at stop r h e near old new laid))
+
+  module _ (t : b ≡ false) (e : Reads (integerItem 2 mostIntegerOctets) m at stop r) where
+    local-reads : Reads codeItem m at stop r
+    local-reads = rw (code-local m at stop h b is t) (reads-map local (integerItem 2 mostIntegerOctets) m at stop r e)
+
+    pub local-far : Far r → Both layCode codeItem m at stop r old new
+    local-far f = fault-one layCode codeItem m at stop r old new local-reads f
+
+    pub local-near : Leaves layCode untold (mapItem local (integerItem 2 mostIntegerOctets)) m at stop old new → Both layCode codeItem m at stop r old new
+    local-near l = (local-reads, rw (code-local m at stop h b is t) l)
 
 -- The invoke ID of a Reject
 
-module _ (m : List ℕ) (at stop : ℕ) (h : until stop ≤ length m) (b : Bool) (is : b ≡ standsOf m at stop 5) (old : List ℕ) where
-  pub null-left : b ≡ true → Leaves layRejectId untold idOrNullItem m at stop old old
+module _ (m : List ℕ) (at stop r : ℕ) (h : until stop ≤ length m) (b : Bool) (is : b ≡ standsOf m at stop 5) (old : List ℕ) where
+  pub null-both : b ≡ true → Reads (leafItem 5 (same [])) m at stop r → Both layRejectId idOrNullItem m at stop r old old
   unfolding layRejectId
-  null-left t =
-      leaves-second (mapItem some idItem) (mapItem (λ v. none) (leafItem 5 (same []))) layRejectId m at stop old old (λ a s z. ap (λ (q : ℕ). eqb q 2) (stands-only m at stop 5 h (sym is ∙ t) a s z))
-      (leaves-map (λ v. none) (leafItem 5 (same [])) (λ a l. l) layRejectId m at stop old old (λ a. refl) (quiet _ old))
+  null-both t e = named (λ v. none) (leafItem 5 (same [])) idOrNullItem (λ a l. l) layRejectId m at stop r old old (id-null m at stop h b is t) (λ a. refl) (e, quiet _ old)
 
-  pub number-left : b ≡ false → (new : List ℕ) → Leaves layId untold idItem m at stop old new → Leaves layRejectId untold idOrNullItem m at stop old new
+  pub number-both : b ≡ false → (new : List ℕ) → Both layId idItem m at stop r old new → Both layRejectId idOrNullItem m at stop r old new
   unfolding layRejectId
-  number-left t new e = leaves-first (mapItem some idItem) (mapItem (λ v. none) (leafItem 5 (same []))) layRejectId m at stop old new (λ a s z. stands-other m at stop 5 h (sym is ∙ t) a s z) (leaves-map some idItem layId layRejectId m at stop old new (λ a. refl) e)
+  number-both t new e = named some idItem idOrNullItem layId layRejectId m at stop r old new (id-number m at stop h b is t) (λ a. refl) e
 
 -- A problem, by its tag
 
-module _ (m : List ℕ) (at stop : ℕ) (h : until stop ≤ length m) (old new : List ℕ) where
-  abbrev Problems : Item Problem → Type 0
-  Problems x = Leaves layProblem untold x m at stop old new
-
-  -- the tag that stands here is none of those before it, or behind it
-  not-here : (tag : ℕ) → standsOf m at stop tag ≡ true → (f : ℕ → Bool) → f tag ≡ false → (a s : ℕ) → frontOf 1 (part m at stop) ≡ TagRead.Tag a s → f a ≡ false
-  not-here tag t f q a s z = ap f (stands-only m at stop tag h t a s z) ∙ q
-
-  problem-map : (f : ℕ → Problem) (tag most : ℕ) → ((n : ℕ) → layOctet tag n old ≡ layProblem (f n) old) → Leaves (layOctet tag) untold (octetItem tag most) m at stop old new → Problems (mapItem f (octetItem tag most))
-  problem-map f tag most same e = leaves-map f (octetItem tag most) (layOctet tag) layProblem m at stop old new same e
-
+module _ (m : List ℕ) (at stop r : ℕ) (h : until stop ≤ length m) (old new : List ℕ) where
   module _ (b : Bool) (t : b ≡ true) where
-    pub invoke-problem-left : b ≡ standsOf m at stop 129 → Leaves (layOctet 129) untold (octetItem 129 mostInvokeProblem) m at stop old new → Problems problemItem
+    pub invoke-both : b ≡ standsOf m at stop 129 → Both (layOctet 129) (octetItem 129 mostInvokeProblem) m at stop r old new → Both layProblem problemItem m at stop r old new
     unfolding layProblem
-    invoke-problem-left is e =
-        leaves-second _ _ layProblem m at stop old new (not-here 129 (sym is ∙ t) (λ q. eqb q 128) refl)
-        (leaves-first _ _ layProblem m at stop old new (not-here 129 (sym is ∙ t) (λ q. eqb q 130 || eqb q 131) refl) (problem-map Problem.OfInvoke 129 _ (λ n. refl) e))
+    invoke-both is e = named Problem.OfInvoke (octetItem 129 mostInvokeProblem) problemItem (layOctet 129) layProblem m at stop r old new (problem-invoke m at stop h b t is) (λ n. refl) e
 
-    pub result-problem-left : b ≡ standsOf m at stop 130 → Leaves (layOctet 130) untold (octetItem 130 mostResultProblem) m at stop old new → Problems problemItem
+    pub result-both : b ≡ standsOf m at stop 130 → Both (layOctet 130) (octetItem 130 mostResultProblem) m at stop r old new → Both layProblem problemItem m at stop r old new
     unfolding layProblem
-    result-problem-left is e =
-        leaves-second _ _ layProblem m at stop old new (not-here 130 (sym is ∙ t) (λ q. eqb q 128) refl)
-        (leaves-second _ _ layProblem m at stop old new (not-here 130 (sym is ∙ t) (λ q. eqb q 129) refl)
-        (leaves-first _ _ layProblem m at stop old new (not-here 130 (sym is ∙ t) (λ q. eqb q 131) refl) (problem-map Problem.OfResult 130 _ (λ n. refl) e)))
+    result-both is e = named Problem.OfResult (octetItem 130 mostResultProblem) problemItem (layOctet 130) layProblem m at stop r old new (problem-result m at stop h b t is) (λ n. refl) e
 
-    pub error-problem-left : b ≡ standsOf m at stop 131 → Leaves (layOctet 131) untold (octetItem 131 mostErrorProblem) m at stop old new → Problems problemItem
+    pub error-both : b ≡ standsOf m at stop 131 → Both (layOctet 131) (octetItem 131 mostErrorProblem) m at stop r old new → Both layProblem problemItem m at stop r old new
     unfolding layProblem
-    error-problem-left is e =
-        leaves-second _ _ layProblem m at stop old new (not-here 131 (sym is ∙ t) (λ q. eqb q 128) refl)
-        (leaves-second _ _ layProblem m at stop old new (not-here 131 (sym is ∙ t) (λ q. eqb q 129) refl)
-        (leaves-second _ _ layProblem m at stop old new (not-here 131 (sym is ∙ t) (λ q. eqb q 130) refl) (problem-map Problem.OfError 131 _ (λ n. refl) e)))
+    error-both is e = named Problem.OfError (octetItem 131 mostErrorProblem) problemItem (layOctet 131) layProblem m at stop r old new (problem-error m at stop h b t is) (λ n. refl) e
 
-  module _ (b c d : Bool) (one : b ≡ standsOf m at stop 129) (two : c ≡ standsOf m at stop 130) (three : d ≡ standsOf m at stop 131) (not-one : b ≡ false) (not-two : c ≡ false) (not-three : d ≡ false) where
-    none-of : (a s : ℕ) → frontOf 1 (part m at stop) ≡ TagRead.Tag a s → (eqb a 129 || (eqb a 130 || eqb a 131)) ≡ false
-    none-of a s z = rw (stands-other m at stop 129 h (sym one ∙ not-one) a s z, stands-other m at stop 130 h (sym two ∙ not-two) a s z, stands-other m at stop 131 h (sym three ∙ not-three) a s z)
-
-    pub general-problem-left : Leaves (layOctet 128) untold (octetItem 128 mostGeneralProblem) m at stop old new → Problems problemItem
-    unfolding layProblem
-    general-problem-left e = leaves-first _ _ layProblem m at stop old new none-of (problem-map Problem.General 128 _ (λ n. refl) e)
+  pub general-both : (b c d : Bool) → b ≡ standsOf m at stop 129 → c ≡ standsOf m at stop 130 → d ≡ standsOf m at stop 131 → b ≡ false → c ≡ false → d ≡ false → Both (layOctet 128) (octetItem 128 mostGeneralProblem) m at stop r old new → Both layProblem problemItem m at stop r old new
+  unfolding layProblem
+  general-both b c d one two three x y z e = named Problem.General (octetItem 128 mostGeneralProblem) problemItem (layOctet 128) layProblem m at stop r old new (problem-general m at stop h b c d one two three x y z) (λ n. refl) e
 
 -- A parameter
 
@@ -292,12 +279,7 @@ module _ (must : Bool) (left : ℕ) (m : List ℕ) (at stop : ℕ) (b : Bool) (i
 
   module _ (c : Bool) (also : c ≡ unfinishedOf (endOf (finite stop) (part m at stop))) where
     pub parameter-cut : c ≡ true → Finishes (parameterBody must left) m at stop (cutOff + at)
-    unfolding Held parameterBody
-    parameter-cut t = go must
-      where
-        go : (must : Bool) → Finishes (parameterBody must left) m at stop (cutOff + at)
-        go true = sole-cut m at stop left b is c also t
-        go false = last-cut m at stop left b is c also t
+    parameter-cut t = cut-here (parameterBody must left) m at stop c also t
 
     module _ (no : b ≡ false) (nor : c ≡ false) (r : ℕ) (walked : Walked at (until stop) (elementWalk 0 left at (part m at stop)) r) where
       pub parameter-far : Far r → Finishes (parameterBody must left) m at stop r

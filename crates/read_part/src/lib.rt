@@ -7,11 +7,8 @@ ghost use Rattle.base.specs.Number.{octetsIn};
 ghost use Rattle.read_place.specs.Places.{Leads, Reads, Finishes, Ready};
 ghost use Rattle.read_place.specs.Leaves.{Leaves, LeavesAll, untold};
 ghost use Rattle.read_place.specs.Laying.{layId, layRejectId, layCode, layProblem};
-ghost use Rattle.primitive.specs.Primitive.{mostIntegerOctets};
 ghost use Rattle.read_part.specs.Parts.{layOctet, parameterBody, layHeld};
-ghost use Rattle.tcap.specs.Meaning.{local, global};
-ghost use Rattle.tcap.specs.Productions.{octetItem, idItem, idOrNullItem, problemItem, nameItem, codeItem};
-ghost use Rattle.element.specs.Parts.{integerItem, mapItem};
+ghost use Rattle.tcap.specs.Productions.{octetItem, idItem, idOrNullItem, problemItem, codeItem};
 use base::piece;
 use primitive::MOST_INTEGER_OCTETS;
 use primitive::bits;
@@ -64,12 +61,21 @@ pub fn id_at(m: &[u8], at: usize, stop: usize, row: &mut [u8]) -> usize
     r
 }
 
-// A local code.
-fn local_at(m: &[u8], at: usize, stop: usize, row: &mut [u8]) -> usize
+// A code: an object identifier if 06 stands here, else an integer.
+pub fn code_at(m: &[u8], at: usize, stop: usize, row: &mut [u8]) -> usize
     requires { ⌜ Ready (now m) at stop × (length (now row) ≡ 24) ⌝ }
-    ensures { λ r. ⌜ Reads (integerItem 0x02 mostIntegerOctets) (now (m .entry)) at stop r ⌝ }
-    ensures { λ r. ⌜ Leaves layCode untold (mapItem local (integerItem 0x02 mostIntegerOctets)) (now (m .entry)) at stop (now (row .entry)) (now (row .exit)) ⌝ }
+    ensures { λ r. ⌜ Reads codeItem (now (m .entry)) at stop r ⌝ }
+    ensures { λ r. ⌜ Leaves layCode untold codeItem (now (m .entry)) at stop (now (row .entry)) (now (row .exit)) ⌝ }
 {
+    if stands(m, at, stop, 0x06) {
+        let r = name_at(m, at, stop);
+        if r >= FAULT {
+            return r;
+        }
+        row[5] = 0x06;
+        put_text(row, 8, at + 2, r - at - 2);
+        return r;
+    }
     let n = count_at(m, at, stop, 0x02, MOST_INTEGER_OCTETS);
     if n == 0 {
         return bad_field(m, at, stop, 0x02);
@@ -82,33 +88,6 @@ fn local_at(m: &[u8], at: usize, stop: usize, row: &mut [u8]) -> usize
             at + 2 + n
         }
     }
-}
-
-// A global code.
-fn global_at(m: &[u8], at: usize, stop: usize, row: &mut [u8]) -> usize
-    requires { ⌜ Ready (now m) at stop × (length (now row) ≡ 24) ⌝ }
-    ensures { λ r. ⌜ Reads nameItem (now (m .entry)) at stop r ⌝ }
-    ensures { λ r. ⌜ Leaves layCode untold (mapItem global nameItem) (now (m .entry)) at stop (now (row .entry)) (now (row .exit)) ⌝ }
-{
-    let r = name_at(m, at, stop);
-    if r >= FAULT {
-        return r;
-    }
-    row[5] = 0x06;
-    put_text(row, 8, at + 2, r - at - 2);
-    r
-}
-
-// A code.
-pub fn code_at(m: &[u8], at: usize, stop: usize, row: &mut [u8]) -> usize
-    requires { ⌜ Ready (now m) at stop × (length (now row) ≡ 24) ⌝ }
-    ensures { λ r. ⌜ Reads codeItem (now (m .entry)) at stop r ⌝ }
-    ensures { λ r. ⌜ Leaves layCode untold codeItem (now (m .entry)) at stop (now (row .entry)) (now (row .exit)) ⌝ }
-{
-    if stands(m, at, stop, 0x06) {
-        return global_at(m, at, stop, row);
-    }
-    local_at(m, at, stop, row)
 }
 
 // A parameter, which must stand here or may be missing: the place behind the contents.

@@ -4,7 +4,6 @@ use mathlib.Core.Path.{_≡_, refl, sym, ap, _∙_}
 use mathlib.Core.Bool.{Bool, true, false}
 use mathlib.Core.List.{List}
 use native.Mathlib.Omega.{arith}
-use native.Mathlib.Nat.{add-zero}
 use lib.ListN.{length, getD, drop}
 use lib.Dec.{ltb}
 use borrow.Author.Tests.{lt-ltb, le-ltb}
@@ -19,11 +18,12 @@ use Rattle.element.specs.Answers.{frontOf, span, lengthSize}
 use Rattle.element.specs.Ask.{Got, got, bad, next, check, atEnd, definite, indefinite, head, Body, askLength, ask}
 use Rattle.element.specs.Parts.{Item, Where, level, inside, aroundItem}
 use Rattle.element.proofs.Reading.{definite-size, indefinite-size}
-use Rattle.element.proofs.Views.{span-length, span-get, span-drop, span-inner, SizeIs, length-sized}
+use Rattle.element.proofs.Views.{span-length, span-drop, span-inner, SizeIs}
 use Rattle.read_place.specs.Places.{Near, until, opening, finite, part, front, Leads, lengthPlace, entryPlace}
 use Rattle.read_place.proofs.Answers.{far}
 use Rattle.read_place.proofs.Items.{Entered, entered, ask-entered}
 use Rattle.read_place.proofs.Fronts.{byFront, ask-front}
+use Rattle.read_place.proofs.Walks.{size-of}
 use Rattle.read_place.proofs.Onto.{blamed-same}
 
 inside-next : {A : Type 0} (x : Got A) (t : A → ℕ → Text) (f : ℕ → ℕ) → next {A = A × Text} (next x (λ v k. got (v, t v k) (f k))) (λ v n. got (v .0) n) ≡ next x (λ v k. got v (f k))
@@ -36,11 +36,6 @@ module _ {A : Type 0} (b : Body A) (m : List ℕ) (at stop tag r st : ℕ) (g : 
   abbrev Opened : (ℕ → ℕ) → Type 0
   Opened f = ask (front (level 1) FaultKind.Another (aroundItem tag b)) (finite stop) at (part m at stop) ≡ next (ask b (finite r) st (part m st r)) (λ v k. got v (f k))
 
-  first-size : (n : LengthRead) → lengthOf (part m (at + 1) stop) true ≡ n → 1 ≤ length (part m (at + 1) stop) → SizeIs (getD m (at + 1) 0) n
-  first-size n e l =
-      let q : getD (part m (at + 1) stop) 0 0 ≡ getD m (at + 1) 0 = rw add-zero at (span-get m (at + 1) (until stop) 0 (omega (arith, l, span-length m (at + 1) (until stop) h))) in
-      rw (e, q) at (length-sized (part m (at + 1) stop) true)
-
   by-length : (i : Entered true m at stop tag r) (n : LengthRead) → i .len ≡ n → (f : ℕ → ℕ) × Opened f
   unfolding lengthPlace askLength inside SizeIs
   by-length i (LengthRead.Fault k) e = absurd (omega (arith, near, far k, (i .answer ∙ ap (lengthPlace at (at + 1) (until stop)) e)))
@@ -49,7 +44,7 @@ module _ {A : Type 0} (b : Body A) (m : List ℕ) (at stop tag r st : ℕ) (g : 
       let a : r ≡ at + 1 + (k + n) = i .answer ∙ ap (lengthPlace at (at + 1) (until stop)) e in
       let z = definite-size (part m (at + 1) stop) true k n (LengthRead.Definite k n) (sym q) refl in
       let room : at + 1 + (k + n) ≤ until stop = omega (arith, z, span-length m (at + 1) (until stop) h, i .here) in
-      let size : k ≡ lengthSize (getD m (at + 1) 0) = first-size (LengthRead.Definite k n) q (omega (arith, z)) in
+      let size : k ≡ lengthSize (getD m (at + 1) 0) = size-of m (at + 1) (until stop) h (LengthRead.Definite k n) (sym q) (omega (arith, z)) in
       let here : st ≡ at + (1 + k) = omega (arith, start, size) in
       let low : r < opening = omega (arith, a, room, h, top) in
       let same : until r ≡ r = omega (arith, low) in
@@ -63,7 +58,7 @@ module _ {A : Type 0} (b : Body A) (m : List ℕ) (at stop tag r st : ℕ) (g : 
       let q : lengthOf (part m (at + 1) stop) true ≡ LengthRead.Indefinite = i .len-is ∙ e in
       let a : r ≡ opening + until stop = i .answer ∙ ap (lengthPlace at (at + 1) (until stop)) e in
       let z = indefinite-size (part m (at + 1) stop) true LengthRead.Indefinite (sym q) refl in
-      let size : 1 ≡ lengthSize (getD m (at + 1) 0) = first-size LengthRead.Indefinite q (z .0) in
+      let size : 1 ≡ lengthSize (getD m (at + 1) 0) = size-of m (at + 1) (until stop) h LengthRead.Indefinite (sym q) (z .0) in
       let here : st ≡ at + 2 = omega (arith, start, size) in
       let high : opening ≤ r = omega (arith, a) in
       let same : until r ≡ until stop = omega (arith, a) in

@@ -8,7 +8,7 @@ use native.Mathlib.Omega.{arith}
 use native.Mathlib.Nat.{add-zero}
 use lib.ListN.{length, getD, drop}
 use lib.Dec.{eqb, ltb}
-use borrow.Author.Tests.{eqb-true, eqb-false, ltb-false, le-leb, lt-leb, lt-ltb, eq-eqb, ne-eqb}
+use borrow.Author.Tests.{eqb-false, le-leb, lt-leb, lt-ltb, eq-eqb, ne-eqb}
 use Rattle.element.specs.declared.FaultKind.{FaultKind}
 use Rattle.element.specs.declared.EndRead.{EndRead}
 use Rattle.element.specs.declared.TagRead.{TagRead}
@@ -20,8 +20,9 @@ use Rattle.element.specs.Ask.{Got, got, bad, check, Body, askLength, askTag, at
 use Rattle.element.specs.Parts.{place}
 use Rattle.element.proofs.Reading.{tag-size, tag-first}
 use Rattle.element.proofs.Views.{span-length, span-get}
-use Rattle.read_place.specs.Places.{base, faultPlace, part, finite, endedOf, unfinishedOf, behindOf, tagPlace, lengthPlace, Placed, Shut, Closing, Closed, nothing, askedPlace, wrongPlace, standsOf, entryPlace, shortStop, badPlace, until, Far, Near, Finite, opening, faults, cutOff, badContents, missing, tooMany}
-use Rattle.read_place.proofs.Views.{ended-closed, length-short, length-open}
+use Rattle.read_place.specs.Places.{base, faultPlace, part, finite, endedOf, unfinishedOf, behindOf, tagPlace, lengthPlace, Placed, Shut, Closing, Closed, nothing, askedPlace, wrongPlace, standsOf, entryPlace, badPlace, until, Far, Near, Finite, opening, faults, cutOff, badContents, missing, tooMany}
+use Rattle.read_place.proofs.Views.{ended-closed, length-open}
+use Rattle.walk.proofs.Views.{length-short}
 use Rattle.read_place.proofs.Answers.{far, Keeps}
 
 -- The questions of `ask` in the order of the code: the end, the front (tag, code 0), the expected tag
@@ -161,30 +162,19 @@ unfolding entryPlace base
 entry-wrong c m at stop tag r b is h e = rw (← is, h) e
 
 -- most constructors have a length of one octet
-module _ (m : List ℕ) (at stop tag r : ℕ) (h : until stop ≤ length m) where
+module _ (m : List ℕ) (at stop tag : ℕ) (h : until stop ≤ length m) where
   stands-first : at + 2 ≤ until stop → getD m at 0 ≡ tag → standsOf m at stop tag ≡ true
   unfolding standsOf
   stands-first g e = rw (ne-eqb at (until stop) (λ z. omega (arith, z, g)), eq-eqb (getD m at 0) tag e)
 
-  pub short-entry : r ≡ shortStop (until stop) at (getD m at 0) (getD m (at + 1) 0) tag → 0 < r → r ≡ entryPlace true m at stop tag
-  unfolding shortStop
-  short-entry is there =
-      go (ltb (until stop) (at + 2)) (eqb (getD m at 0) tag) (eqb (getD m (at + 1) 0) 128) (ltb 127 (getD m (at + 1) 0)) (ltb (until stop) (at + 2 + getD m (at + 1) 0)) refl refl refl refl refl is
-    where
-      go : (a b c d e : Bool) → ltb (until stop) (at + 2) ≡ a → eqb (getD m at 0) tag ≡ b → eqb (getD m (at + 1) 0) 128 ≡ c → ltb 127 (getD m (at + 1) 0) ≡ d → ltb (until stop) (at + 2 + getD m (at + 1) 0) ≡ e
-          → r ≡ cond a 0 (cond b (cond c (opening + until stop) (cond d 0 (cond e 0 (at + 2 + getD m (at + 1) 0)))) 0) → r ≡ entryPlace true m at stop tag
-      go true b c d e i j k l n z = absurd (omega (arith, z, there))
-      go false false c d e i j k l n z = absurd (omega (arith, z, there))
-      go false true true d e i j k l n z =
-          let g = ltb-false (until stop) (at + 2) i in
-          entry-stands true m at stop tag r true (sym (stands-first g (eqb-true (getD m at 0) tag j))) refl (z ∙ length-open m at (at + 1) (until stop) true h (omega (arith, g)) (eqb-true (getD m (at + 1) 0) 128 k) refl)
-      go false true false true e i j k l n z = absurd (omega (arith, z, there))
-      go false true false false true i j k l n z = absurd (omega (arith, z, there))
-      go false true false false false i j k l n z =
-          let g = ltb-false (until stop) (at + 2) i in
-          let s : r ≡ at + 1 + (1 + getD m (at + 1) 0) = omega (arith, z) in
-          entry-stands true m at stop tag r true (sym (stands-first g (eqb-true (getD m at 0) tag j))) refl
-          (s ∙ length-short m at (at + 1) (until stop) true h (omega (arith, g)) (omega (arith, ltb-false 127 (getD m (at + 1) 0) l)) (omega (arith, ltb-false (until stop) (at + 2 + getD m (at + 1) 0) n)))
+  module _ (g : at + 2 ≤ until stop) (first : getD m at 0 ≡ tag) where
+    pub entry-open : getD m (at + 1) 0 ≡ 128 → opening + until stop ≡ entryPlace true m at stop tag
+    unfolding entryPlace lengthPlace
+    entry-open e = rw (stands-first g first, length-open m (at + 1) (until stop) true h (omega (arith, g)) e refl)
+
+    pub entry-short : getD m (at + 1) 0 < 128 → at + 2 + getD m (at + 1) 0 ≤ until stop → at + 2 + getD m (at + 1) 0 ≡ entryPlace true m at stop tag
+    unfolding entryPlace lengthPlace
+    entry-short low room = rw (stands-first g first, length-short m (at + 1) (until stop) true h (omega (arith, g)) low (omega (arith, room))) (omega arith)
 
 pub bad-far : (m : List ℕ) (at stop tag r : ℕ) → r ≡ entryPlace false m at stop tag → Far r → r ≡ badPlace m at stop tag
 unfolding badPlace

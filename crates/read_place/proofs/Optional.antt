@@ -48,18 +48,16 @@ walk-placed l d p end r part e w =
 pub deep-enough : (l : ℕ) → 1 ≤ l → ltb 0 l ≡ true
 deep-enough l h = lt-ltb 0 l (omega (arith, h))
 
+-- contents that lack their end pair
+pub cut-here : {A : Type 0} (b : Body A) (m : List ℕ) (at stop : ℕ) (c : Bool) → c ≡ unfinishedOf (endOf (finite stop) (part m at stop)) → c ≡ true → Finishes b m at stop (cutOff + at)
+unfolding ask askEnd Closing faultPlace base
+cut-here b m at stop c is t = rw (unfinished-is (endOf (finite stop) (part m at stop)) c is t)
+
 module _ (m : List ℕ) (at stop left : ℕ) (b : Bool) (is : b ≡ endedOf (endOf (finite stop) (part m at stop))) where
   pub last-ended : at ≤ until stop → until stop ≤ length m → b ≡ true → (r : ℕ) → r ≡ behindOf at stop → Finishes (lastBody (level left) (walkItem left)) m at stop r
   last-ended g h t r e = rw e (last-none (level left) (walkItem left) m at stop g h (ended-is (endOf (finite stop) (part m at stop)) b is t))
 
   module _ (c : Bool) (also : c ≡ unfinishedOf (endOf (finite stop) (part m at stop))) where
-    pub last-cut : c ≡ true → Finishes (lastBody (level left) (walkItem left)) m at stop (cutOff + at)
-    unfolding ask askEnd Closing faultPlace base
-    last-cut t = rw (unfinished-here (endOf (finite stop) (part m at stop)) c also t)
-      where
-        unfinished-here : (e : EndRead) (b : Bool) → b ≡ unfinishedOf e → b ≡ true → e ≡ EndRead.Unfinished
-        unfinished-here e b i h = unfinished-is e b i h
-
     module _ (no : b ≡ false) (nor : c ≡ false) (r : ℕ) (walked : Walked at (until stop) (elementWalk 0 left at (part m at stop)) r) where
       pub here-placed : Placed at (until stop) (ask (front (level left) FaultKind.Another (walkItem left)) (finite stop) at (part m at stop)) r
       here-placed = walk-placed left (finite stop) at (until stop) r (part m at stop) (more-here (endOf (finite stop) (part m at stop)) b c is also no nor) walked
@@ -158,8 +156,7 @@ module _ (m : List ℕ) (at stop left : ℕ) (b : Bool) (is : b ≡ endedOf (end
 
   module _ (c : Bool) (also : c ≡ unfinishedOf (endOf (finite stop) (part m at stop))) where
     pub sole-cut : c ≡ true → Finishes (onlyBody (level left) (walkItem left)) m at stop (cutOff + at)
-    unfolding ask askEnd Closing faultPlace base
-    sole-cut t = rw (unfinished-is (endOf (finite stop) (part m at stop)) c also t)
+    sole-cut t = cut-here (onlyBody (level left) (walkItem left)) m at stop c also t
 
     module _ (no : b ≡ false) (nor : c ≡ false) (r : ℕ) (walked : Walked at (until stop) (elementWalk 0 left at (part m at stop)) r) where
       pub sole-walk-far : Far r → Finishes (onlyBody (level left) (walkItem left)) m at stop r
@@ -185,21 +182,6 @@ module _ (m : List ℕ) (at stop tag inner : ℕ) (g : at ≤ until stop) (h : u
 
     pub entry-to : until inner ≤ length m
     entry-to = let z = entry-stands-in in omega (arith, z .2, h)
-
--- Where an expected tag stands, the fault of another does not matter
-module _ {A : Type 0} (w : Where) (o u : FaultKind) (x : Item A) (d : Bool) (p : ℕ) (part : List ℕ) where
-  other-length : (a s : ℕ) (l : LengthRead) → askLength (front w o x) d p part a s l ≡ askLength (front w u x) d p part a s l
-  unfolding askLength
-  other-length a s (LengthRead.Fault k) = refl
-  other-length a s (LengthRead.Definite k n) = refl
-  other-length a s LengthRead.Indefinite = refl
-
-  other-front : (e : EndRead) (t : TagRead) → ((a s : ℕ) → t ≡ TagRead.Tag a s → x .mine a ≡ true) → byFront (front w o x) d p part e t ≡ byFront (front w u x) d p part e t
-  unfolding byFront atEnd check
-  other-front EndRead.Ended t h = refl
-  other-front EndRead.Unfinished t h = refl
-  other-front EndRead.More (TagRead.Fault k) h = refl
-  other-front EndRead.More (TagRead.Tag a s) h = rw (h a s refl) (other-length a s (lengthOf (drop s part) (constructorOf a)))
 
 -- A component: its tag, its length, its contents
 module _ {A : Type 0} (tag : ℕ) (leads : Leads tag) (kind : constructorOf tag ≡ true) (b : Body A) (m : List ℕ) (at stop inner : ℕ) (g : at ≤ until stop) (h : until stop ≤ length m) (entry : inner ≡ entryPlace true m at stop tag) where

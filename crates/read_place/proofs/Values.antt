@@ -1,33 +1,32 @@
 -- What was read stands between the places that the readers told: values from places. Assumes nothing.
 use Prim.Native.Nat.{ℕ, zero, suc, _+_, _-_, _%_, _≤_}
-use mathlib.Core.Path.{_≡_, refl, sym, ap, _∙_}
+use mathlib.Core.Path.{_≡_, refl, sym, ap}
 use mathlib.Core.Bool.{Bool, true, false, false≢true}
 use mathlib.Core.List.{List, [], _∷_}
-use mathlib.Core.Option.{none, some}
+use mathlib.Core.Option.{some}
 use native.Mathlib.Omega.{arith}
 use lib.ListN.{length, drop, take, length-drop}
-use lib.Dec.{eqb, ltb}
+use lib.Dec.{eqb}
 use borrow.Author.Tests.{eqb-true}
 use Rattle.element.specs.declared.FaultKind.{FaultKind}
 use Rattle.element.specs.declared.EndRead.{EndRead}
 use Rattle.element.specs.declared.TagRead.{TagRead}
 use Rattle.element.specs.declared.LengthRead.{LengthRead}
 use Rattle.element.specs.Element.{constructorOf, extendedOf, IsTag}
-use Rattle.element.specs.Fault.{Fault, at, Text}
+use Rattle.element.specs.Fault.{Text}
 use lib.Seq.{length-take-le}
 use Rattle.element.specs.Head.{endOf, tagOf}
 use Rattle.element.specs.Ask.{Got, got, bad, next, Head, Body, ask}
-use Rattle.element.specs.Parts.{Item, Where, leafContents, leafItem, inside, firstOf, done, bindBody, silently, thenBody, lastBody, optBody, mapBody}
+use Rattle.element.specs.Parts.{Item, Where, leafContents, leafItem, inside, firstOf, done, lastBody, mapBody}
 use Rattle.element.proofs.Heads.{TagIs, tag-sound, LengthIs, length-sound}
 use Rattle.element.proofs.Reading.{definite-size}
-use Rattle.read_place.specs.Places.{part, finite, Placed, front, standsOf, Leads, Reads, until, Near}
-use Rattle.read_place.proofs.Answers.{Keeps, far-fault}
-use Rattle.read_place.proofs.Onto.{ask-bind, ask-last, ask-map}
-use Rattle.read_place.proofs.Items.{stands-other, stands-short, take-head}
+use Rattle.read_place.specs.Places.{part, finite, Placed, front, Leads, until, Near}
+use Rattle.read_place.proofs.Answers.{far-fault}
+use Rattle.read_place.proofs.Onto.{ask-last, ask-map}
+use Rattle.read_place.proofs.Items.{stands-short, take-head}
 use Rattle.element.specs.Walk.{walkItem, walkContents, walkPick}
 use Rattle.element.proofs.Asking.{Then, fact, void, the-fact, then-next, then-check, then-blamed, HeadOf, finite as finite-head, unended, ask-sound}
 use Rattle.element.proofs.Views.{span-drop}
-use Rattle.read_place.proofs.Optional.{opt-absent, opened, lifted}
 
 -- a place that was told, and what is known of whatever was got
 module _ {A : Type 0} (x : Got A) (p end r : ℕ) (P : A → ℕ → Type 0) where
@@ -111,11 +110,6 @@ module _ {A : Type 0} (w : Where) (x : Item A) (m : List ℕ) (at stop r : ℕ) 
       → Then (λ c k. R c) (next (ask y (finite stop) (at + n) (drop n (part m at stop))) (λ b k. got (f b) (n + k)))
   behind-value y f n z Q R g h = rw (span-drop m at (until stop) n) (then-next (rw z at h) (λ b k q. fact (g b q)))
 
-  pub bind-value : {B : Type 0} (note : A → Fault → Fault) (y : A → Body B) (Q : A → B → Type 0) → ((a : A) → P a (r - at) → Then (λ b k. Q a b) (ask (y a) (finite stop) r (part m r stop)))
-      → Then (λ v n. Q (v .0) (v .1)) (ask (bindBody w note x y) (finite stop) at (part m at stop))
-  bind-value note y Q h =
-      rw (ask-bind w x (finite stop) at (part m at stop) note y) (step (λ v n. Q (v .0) (v .1)) _ (λ a n q z. then-blamed (note a) (behind-value (y a) (λ b. (a, b)) n z (Q a) (λ v. Q (v .0) (v .1)) (λ b i. i) (h a q))))
-
   pub done-value : (a : A) (d : Bool) (p : ℕ) (l : List ℕ) → Then (λ b k. b ≡ a) (ask (done w a) d p l)
   done-value a d p l = ask-sound (λ b k. b ≡ a) (done w a) d p l (λ v e f. cc) (λ h i m. absurd (false≢true m))
 
@@ -125,17 +119,3 @@ module _ {A : Type 0} (w : Where) (x : Item A) (m : List ℕ) (at stop r : ℕ) 
 
 pub map-value : {A B : Type 0} (f : A → B) (b : Body A) (d : Bool) (p : ℕ) (l : List ℕ) (Q : A → Type 0) (R : B → Type 0) → ((a : A) → Q a → R (f a)) → Then (λ a n. Q a) (ask b d p l) → Then (λ v n. R v) (ask (mapBody f b) d p l)
 map-value f b d p l Q R g h = rw (ask-map f b d p l) (then-next h (λ a n q. fact (g a q)))
-
--- One that may be left out
-
-module _ {A B : Type 0} (tag : ℕ) (x : Item A) (only : (a : ℕ) → x .mine a ≡ eqb a tag) (y : Body B) (full : y .full ≡ false) (deep : ltb 0 (y .left) ≡ true) (another : y .other ≡ FaultKind.Another) (keeps : Keeps (y .owner)) (leads : Leads tag)
-    (m : List ℕ) (at stop : ℕ) (g : at ≤ until stop) (h : until stop ≤ length m) (b : Bool) (is : b ≡ standsOf m at stop tag) (Q : B → Type 0) where
-  pub opt-none-value : b ≡ false → Then (λ v n. Q v) (ask y (finite stop) at (part m at stop)) → Then (λ v n. (v .0 ≡ none) × Q (v .1)) (ask (optBody x y) (finite stop) at (part m at stop))
-  opt-none-value t e = rw (opt-absent x y full deep (finite stop) at (part m at stop) (λ a s z. only a ∙ stands-other m at stop tag h (sym is ∙ t) a s z)) (then-next e (λ v n q. fact (refl, q)))
-
-  pub opt-some-value : b ≡ true → (r : ℕ) → Reads x m at stop r → Near r → (P : A → ℕ → Type 0) → Then P (ask (front (record { left = y .left; owner = y .owner }) FaultKind.Another x) (finite stop) at (part m at stop)) → Then (λ v n. Q v) (ask y (finite stop) r (part m r stop))
-      → Then (λ v n. ((a : A) × (v .0 ≡ some a) × P a (r - at)) × Q (v .1)) (ask (optBody x y) (finite stop) at (part m at stop))
-  opt-some-value t r e near P known rest-known =
-      rw (opened tag x only y full deep another keeps leads m at stop g h b is t r e)
-      (step (record { left = y .left; owner = y .owner }) x m at stop r (lifted tag x only y full deep another keeps leads m at stop g h b is t r e) near P known (λ v n. ((a : A) × (v .0 ≡ some a) × P a (r - at)) × Q (v .1)) _ (λ a n p z.
-      behind-value (record { left = y .left; owner = y .owner }) x m at stop r (lifted tag x only y full deep another keeps leads m at stop g h b is t r e) near P known y (λ v. (some a, v)) n z Q (λ v. ((a : A) × (v .0 ≡ some a) × P a (r - at)) × Q (v .1)) (λ v q. ((a, refl, p), q)) rest-known))

@@ -1,22 +1,22 @@
 -- What stands from a place to an end, by the octets of the whole. Assumes nothing.
-use Prim.Native.Nat.{ℕ, suc, _+_, _-_, _/_, _≤_, _<_}
-use mathlib.Core.Path.{_≡_, refl, ap, _∙_}
+use Prim.Native.Nat.{ℕ, suc, _+_, _-_, _≤_, _<_}
+use mathlib.Core.Path.{_≡_, refl, _∙_}
 use mathlib.Core.Bool.{Bool, true, false, cond}
 use mathlib.Core.List.{List}
 use native.Mathlib.Omega.{arith}
-use lib.ListN.{length, getD, drop}
+use lib.ListN.{length, getD}
 use lib.Dec.{eqb, leb}
-use borrow.Author.Tests.{le-leb, lt-leb, eqb-false, eqb-true, lt-ltb, le-ltb, eq-eqb, ne-eqb}
+use borrow.Author.Tests.{eqb-false, eqb-true, lt-ltb, eq-eqb, ne-eqb}
 use Rattle.element.specs.declared.FaultKind.{FaultKind}
 use Rattle.element.specs.declared.EndRead.{EndRead}
 use Rattle.element.specs.declared.LengthRead.{LengthRead}
 use Rattle.base.specs.Number.{numberFrom}
-use Rattle.element.specs.Form.{fewestOf}
 use Rattle.element.specs.Head.{endOf, within, lengthOf}
-use Rattle.element.proofs.Reading.{count-early, count-within, count-past}
-use Rattle.element.proofs.Views.{lengthBy, length-view, lengthOctets, all-of-them, long-place, low-place, one-place, no-255, endBy, end-view}
+use Rattle.walk.specs.Walks.{contentsEnd}
+use Rattle.walk.proofs.Views.{long-more}
+use Rattle.element.proofs.Views.{lengthBy, length-view, lengthOctets, endBy, end-view}
 use Rattle.element.specs.Answers.{span, longRead}
-use Rattle.read_place.specs.Places.{part, finite, endedOf, unfinishedOf, base, lengthPlace, until, Near, Endless, Finite, opening, cutOff, badLength, passesEnd}
+use Rattle.read_place.specs.Places.{part, finite, endedOf, unfinishedOf, base, lengthPlace, until, Near, Endless, Finite, opening, passesEnd}
 
 -- the end of contents, by their stop
 closed-stop : (stop : ℕ) → Finite stop → until stop ≡ stop
@@ -56,78 +56,30 @@ unfolding unfinishedOf
 unfinished-not true = refl
 unfinished-not false = refl
 
--- the number of a length, octet by octet: i of them are read, and v is their number
-module _ (m : List ℕ) (at from k room v i : ℕ) (l : from + 1 + k + room ≤ length m) (n : numberFrom 0 (lengthOctets m from k) ≡ numberFrom v (drop i (lengthOctets m from k))) where
-  pub place-early : i < k → room / 256 < v → passesEnd + at ≡ lengthPlace at from 0 (within (suc k) (numberFrom 0 (lengthOctets m from k)) room)
-  unfolding lengthPlace base
-  place-early h g = ap (lengthPlace at from 0) (count-early (lengthOctets m from k) v i (suc k) room n (omega (arith, all-of-them m from k room v i l n, h)) g)
-
-  pub place-within : k ≤ i → v ≤ room → from + (k + 1 + v) ≡ lengthPlace at from 0 (within (suc k) (numberFrom 0 (lengthOctets m from k)) room)
-  unfolding lengthPlace
-  place-within h g = let e : k + 1 ≡ suc k = omega arith in rw e (ap (lengthPlace at from 0) (count-within (lengthOctets m from k) v i (suc k) room n (omega (arith, all-of-them m from k room v i l n, h)) g))
-
-  pub place-past : k ≤ i → room < v → passesEnd + at ≡ lengthPlace at from 0 (within (suc k) (numberFrom 0 (lengthOctets m from k)) room)
-  unfolding lengthPlace base
-  place-past h g = ap (lengthPlace at from 0) (count-past (lengthOctets m from k) v i (suc k) room n (omega (arith, all-of-them m from k room v i l n, h)) g)
-
--- where no octet of a length is left to ask for, the end of the part does not matter
-pub place-end : (at from end size n room : ℕ) → lengthPlace at from 0 (within size n room) ≡ lengthPlace at from end (within size n room)
-unfolding lengthPlace within
-place-end at from end size n room = go (leb n room)
+-- a length whose octets are there passes the end, or it does not
+count-place : (at from end size n room : ℕ) → contentsEnd from (passesEnd + at) (within size n room) ≡ lengthPlace at from end (within size n room)
+unfolding contentsEnd lengthPlace base within
+count-place at from end size n room = go (leb n room)
   where
-    go : (b : Bool) → lengthPlace at from 0 (cond b (LengthRead.Definite size n) (LengthRead.Fault FaultKind.PassesEnd)) ≡ lengthPlace at from end (cond b (LengthRead.Definite size n) (LengthRead.Fault FaultKind.PassesEnd))
+    go : (b : Bool) → contentsEnd from (passesEnd + at) (cond b (LengthRead.Definite size n) (LengthRead.Fault FaultKind.PassesEnd)) ≡ lengthPlace at from end (cond b (LengthRead.Definite size n) (LengthRead.Fault FaultKind.PassesEnd))
     go true = refl
     go false = refl
 
--- what `long_length` answers where the octets of a length are there and as few as can be
-module _ (m : List ℕ) (at from end k : ℕ) (b : from < end) (h : end ≤ length m) (l : 1 ≤ k) (most : k ≤ 126) (g : k ≤ end - from - 1) where
-  pub long-more : (r : ℕ) → (getD m (from + 1) 0 ≡ 0 → ⊥) → (k ≡ 1 → ⊥) → r ≡ lengthPlace at from 0 (within (suc k) (numberFrom 0 (lengthOctets m from k)) (end - from - 1 - k)) → r ≡ lengthPlace at from end (longRead (span m from end) k)
-  unfolding fewestOf
-  long-more r o n e =
-      rw (long-place m from end k b h l most g (rw (ne-eqb (getD m (from + 1) 0) 0 o, ne-eqb k 1 n))) (e ∙ place-end at from end (suc k) (numberFrom 0 (lengthOctets m from k)) (end - from - 1 - k))
+pub count-more : (m : List ℕ) (at from end k r : ℕ) → from < end → end ≤ length m → 1 ≤ k → k ≤ 126 → k ≤ end - from - 1 → (getD m (from + 1) 0 ≡ 0 → ⊥) → (k ≡ 1 → ⊥)
+    → r ≡ contentsEnd from (passesEnd + at) (within (suc k) (numberFrom 0 (lengthOctets m from k)) (end - from - 1 - k)) → r ≡ lengthPlace at from end (longRead (span m from end) k)
+count-more m at from end k r b h l most g o n e = rw (long-more m from end k b h l most g o n) (e ∙ count-place at from end (suc k) (numberFrom 0 (lengthOctets m from k)) (end - from - 1 - k))
 
-  pub long-low : k ≡ 1 → getD m (from + 1) 0 < 128 → badLength + at ≡ lengthPlace at from end (longRead (span m from end) k)
-  unfolding lengthPlace base
-  long-low n q = rw (low-place m from end k b h l most g n q)
-
-  -- one octet is its number
-  module _ (n : k ≡ 1) (o : 128 ≤ getD m (from + 1) 0) where
-    pub long-one : getD m (from + 1) 0 < end - from - 1 → from + (2 + getD m (from + 1) 0) ≡ lengthPlace at from end (longRead (span m from end) k)
-    unfolding lengthPlace within
-    long-one q = rw (one-place m from end k b h l most g n o, le-leb (getD m (from + 1) 0) (end - from - 1 - 1) (omega (arith, q)))
-
-    pub long-past : end - from - 1 ≤ getD m (from + 1) 0 → passesEnd + at ≡ lengthPlace at from end (longRead (span m from end) k)
-    unfolding lengthPlace within base
-    long-past q = rw (one-place m from end k b h l most g n o, lt-leb (getD m (from + 1) 0) (end - from - 1 - 1) (omega (arith, q, g, n)))
-
--- what `length_at` answers: no octet of a length, one octet that is a number, 80, and more octets
-module _ (m : List ℕ) (at from end : ℕ) (c : Bool) (h : end ≤ length m) where
-  pub length-none : end ≤ from → cutOff + at ≡ lengthPlace at from end (lengthOf (span m from end) c)
-  unfolding lengthPlace base lengthBy
+-- no octet of a length, and 80
+module _ (m : List ℕ) (from end : ℕ) (c : Bool) (h : end ≤ length m) where
+  pub length-none : end ≤ from → lengthOf (span m from end) c ≡ LengthRead.Fault FaultKind.CutOff
+  unfolding lengthBy
   length-none g = rw (length-view m from end c h, eq-eqb (end - from) 0 (omega (arith, g)))
 
-  module _ (l : from < end) where
-    there : (end - from ≡ 0) → ⊥
-    there z = omega (arith, z, l)
+  module _ (l : from < end) (is : getD m from 0 ≡ 128) where
+    pub length-open : c ≡ true → lengthOf (span m from end) c ≡ LengthRead.Indefinite
+    unfolding lengthBy
+    length-open d = rw (length-view m from end c h, ne-eqb (end - from) 0 (λ z. omega (arith, z, l)), is, d)
 
-    module _ (low : getD m from 0 < 128) where
-      pub length-short : from + (1 + getD m from 0) ≤ end → from + (1 + getD m from 0) ≡ lengthPlace at from end (lengthOf (span m from end) c)
-      unfolding lengthPlace lengthBy within
-      length-short g = rw (length-view m from end c h, ne-eqb (end - from) 0 there, lt-ltb (getD m from 0) 128 low, le-leb (getD m from 0) (end - from - 1) (omega (arith, g)))
-
-      pub length-past : end < from + (1 + getD m from 0) → passesEnd + at ≡ lengthPlace at from end (lengthOf (span m from end) c)
-      unfolding lengthPlace base lengthBy within
-      length-past g = rw (length-view m from end c h, ne-eqb (end - from) 0 there, lt-ltb (getD m from 0) 128 low, lt-leb (getD m from 0) (end - from - 1) (omega (arith, g, l)))
-
-    module _ (is : getD m from 0 ≡ 128) where
-      pub length-open : c ≡ true → opening + end ≡ lengthPlace at from end (lengthOf (span m from end) c)
-      unfolding lengthPlace lengthBy
-      length-open d = rw (length-view m from end c h, ne-eqb (end - from) 0 there, is, d)
-
-      pub length-shut : c ≡ false → badLength + at ≡ lengthPlace at from end (lengthOf (span m from end) c)
-      unfolding lengthPlace base lengthBy
-      length-shut d = rw (length-view m from end c h, ne-eqb (end - from) 0 there, is, d)
-
-    pub length-long : (r : ℕ) → 128 ≤ getD m from 0 → (getD m from 0 ≡ 128 → ⊥) → r ≡ lengthPlace at from end (longRead (span m from end) (getD m from 0 - 128)) → r ≡ lengthPlace at from end (lengthOf (span m from end) c)
-    unfolding lengthBy longRead
-    length-long r g n e = rw (length-view m from end c h, ne-eqb (end - from) 0 there, le-ltb (getD m from 0) 128 g, ne-eqb (getD m from 0) 128 n, no-255 (getD m from 0) g) e
+    pub length-shut : c ≡ false → lengthOf (span m from end) c ≡ LengthRead.Fault FaultKind.BadLength
+    unfolding lengthBy
+    length-shut d = rw (length-view m from end c h, ne-eqb (end - from) 0 (λ z. omega (arith, z, l)), is, d)

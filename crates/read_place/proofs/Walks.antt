@@ -1,34 +1,39 @@
 -- What the walkers answer. Assumes nothing.
-use Prim.Native.Nat.{ℕ, zero, suc, _+_, _-_, _/_, _%_, _≤_, _<_}
+use Prim.Native.Nat.{ℕ, _+_, _-_, _/_, _%_, _≤_, _<_}
 use mathlib.Core.Path.{_≡_, refl, sym, ap, _∙_}
-use mathlib.Core.Bool.{Bool, true, false, cond, false≢true}
+use mathlib.Core.Bool.{Bool, true, false, false≢true}
 use mathlib.Core.List.{List, []}
-use mathlib.Core.Option.{none, some}
+use mathlib.Core.Option.{none}
 use native.Mathlib.Omega.{arith}
 use native.Mathlib.Nat.{add-zero}
 use lib.ListN.{length, getD, drop, take, drop-of-length-le}
-use lib.Dec.{eqb, ltb}
-use borrow.Author.Tests.{ltb-false, eqb-true, eqb-false, lt-ltb, le-ltb, le-leb, eq-eqb, ne-eqb}
+use lib.Dec.{eqb}
+use borrow.Author.Tests.{eqb-true, eqb-false, lt-ltb, le-ltb, le-leb, eq-eqb, ne-eqb}
 use Rattle.element.specs.declared.FaultKind.{FaultKind}
 use Rattle.element.specs.declared.EndRead.{EndRead}
 use Rattle.element.specs.declared.TagRead.{TagRead}
 use Rattle.element.specs.declared.LengthRead.{LengthRead}
 use Rattle.element.specs.Element.{constructorOf, codeZero, extendedOf}
 use Rattle.element.specs.Fault.{Fault, at}
-use mathlib.Core.Logic.{_⊎_, inl, inr}
+use Rattle.walk.proofs.Views.{length-short}
+use Rattle.walk.proofs.Wholes.{odd}
 use lib.Seq.{length-take-le}
-use Rattle.element.specs.Head.{endOf, tagOf, within, lengthOf}
+use Rattle.element.specs.Head.{endOf, tagOf, lengthOf}
 use Rattle.element.specs.Answers.{fronted, frontOf, wantedItem, walkOf, elementWalk, seriesWalk, span, lengthSize}
 use Rattle.element.specs.Ask.{next, check, askTag}
 use Rattle.element.specs.Parts.{level, place}
 use Rattle.element.proofs.Reading.{tag-size, definite-size, indefinite-size}
-use Rattle.read_place.specs.Places.{base, part, finite, endedOf, unfinishedOf, behindOf, tagPlace, lengthPlace, Shut, Walked, WalkedOut, shortPlace, until, Far, Near, Endless, Finite, opening, cutOff}
-use Rattle.element.proofs.Views.{span-inner, tag-view, tagBy, length-view, lengthBy, span-length, span-get, span-drop, length-sized, SizeIs}
+use Rattle.read_place.specs.Places.{base, part, finite, endedOf, unfinishedOf, behindOf, tagPlace, lengthPlace, Shut, Walked, WalkedOut, until, Far, Near, Finite, opening, cutOff}
+use Rattle.element.proofs.Views.{span-inner, tag-view, tagBy, span-length, span-get, span-drop, length-sized, SizeIs}
 use Rattle.read_place.proofs.Answers.{far}
 use Rattle.read_place.proofs.Fronts.{ended-is, TagHere, tag-here, shut-here, more-here}
 use Rattle.element.specs.declared.Walk.{Walk}
 use Rattle.element.proofs.Whole.{element-size}
 use Rattle.element.proofs.Walking.{thenWalk, grown, grown-zero, grown-grown, element-length, element-primitive, element-definite, element-indefinite, series-ended, series-unfinished, series-more}
+
+-- how many octets a length takes
+pub size-of : (m : List ℕ) (next end : ℕ) → end ≤ length m → (n : LengthRead) → n ≡ lengthOf (span m next end) true → 1 ≤ length (span m next end) → SizeIs (getD m next 0) n
+size-of m next end h n e l = let q : getD (span m next end) 0 0 ≡ getD m next 0 = rw add-zero at (span-get m next end 0 (omega (arith, l, span-length m next end h))) in rw (← e, q) at (length-sized (span m next end) true)
 
 module _ (m : List ℕ) (at end left next : ℕ) (g : at ≤ end) (h : end ≤ length m) (top : length m ≤ 65535) (is : next ≡ tagPlace at (tagOf (span m at end))) where
   pub any-tag : Far next → Walked at end (elementWalk 0 left at (span m at end)) next
@@ -62,11 +67,7 @@ module _ (m : List ℕ) (at end left next : ℕ) (g : at ≤ end) (h : end ≤ l
       module _ (deep : left ≡ 0 → ⊥) where
         any-front : TagRead.Tag (getD m at 0) (here .size) ≡ frontOf left (span m at end)
         unfolding frontOf fronted codeZero
-        any-front = let t = here in rw (t .is, ne-eqb (getD m at 0) 0 z, ne-eqb (getD m at 0) 32 y, lt-ltb 0 left (some-level left deep))
-          where
-            some-level : (l : ℕ) → (l ≡ 0 → ⊥) → 0 < l
-            some-level zero d = absurd (d refl)
-            some-level (suc l) d = omega arith
+        any-front = let t = here in rw (t .is, ne-eqb (getD m at 0) 0 z, ne-eqb (getD m at 0) 32 y, lt-ltb 0 left (omega (arith, deep)))
 
         -- a primitive, or a length that is none
         length-walk : (c : Bool) → c ≡ constructorOf (getD m at 0) → (n : LengthRead) → n ≡ lengthOf (span m next end) c → (r : ℕ) → r ≡ lengthPlace at next end n → (c ≡ true → Far r) → Walked at end (elementWalk 0 left at (span m at end)) r
@@ -94,22 +95,11 @@ module _ (m : List ℕ) (at end left next : ℕ) (g : at ≤ end) (h : end ≤ l
           built : true ≡ constructorOf (getD m at 0)
           unfolding constructorOf
           built = sym (eq-eqb (getD m at 0 / 32 % 2) 1 (odd (getD m at 0 / 32) kind))
-            where
-              odd : (k : ℕ) → (k % 2 ≡ 0 → ⊥) → k % 2 ≡ 1
-              odd k d = by (k % 2) refl (omega arith)
-                where
-                  by : (j : ℕ) → k % 2 ≡ j → k % 2 < 2 → k % 2 ≡ 1
-                  by zero e l = absurd (d e)
-                  by (suc zero) e l = e
-                  by (suc (suc j)) e l = absurd (omega (arith, e, l))
 
           pub any-open-far : (r : ℕ) → r ≡ lengthPlace at next end (lengthOf (span m next end) true) → Far r → Walked at end (elementWalk 0 left at (span m at end)) r
           any-open-far r e f = length-walk true built (lengthOf (span m next end) true) refl r e (λ q. f)
 
           module _ (stop st : ℕ) (stop-is : stop ≡ lengthPlace at next end (lengthOf (span m next end) true)) (open-below : Near stop) (start : st ≡ next + lengthSize (getD m next 0)) where
-            size-of : (n : LengthRead) → lengthOf (span m next end) true ≡ n → 1 ≤ length (span m next end) → SizeIs (getD m next 0) n
-            size-of n e l = let q : getD (span m next end) 0 0 ≡ getD m next 0 = rw add-zero at (span-get m next end 0 (omega (arith, l, span-length m next end h))) in rw (e, q) at (length-sized (span m next end) true)
-
             rest-is : span m next end ≡ drop (here .size) (span m at end)
             rest-is = let t = here in sym (span-drop m at end (t .size) ∙ rw (← (t .place)))
 
@@ -133,45 +123,32 @@ module _ (m : List ℕ) (at end left next : ℕ) (g : at ≤ end) (h : end ≤ l
             indefinite-case r e (Walk.Fault j f) is-i o = rw (inner-indefinite e, ← is-i) o
             indefinite-case r e (Walk.Whole j) is-i o = rw (inner-indefinite e, ← is-i) (omega (arith, o), omega (arith, o))
 
-            inner-walk : (n : LengthRead) → n ≡ lengthOf (span m next end) true → (r : ℕ)
-                → (at < st) × (st ≤ until stop) × (until stop ≤ end) × (WalkedOut (finite stop) st (until stop) (seriesWalk 0 (left - 1) (finite stop) st (part m st stop)) r → Walked at end (elementWalk 0 left at (span m at end)) r)
+            -- the contents are walked, and the element is
+            inner-walk : (n : LengthRead) → n ≡ lengthOf (span m next end) true → (r : ℕ) → WalkedOut (finite stop) st (until stop) (seriesWalk 0 (left - 1) (finite stop) st (part m st stop)) r → Walked at end (elementWalk 0 left at (span m at end)) r
             unfolding lengthPlace SizeIs
-            inner-walk (LengthRead.Fault k) e r = absurd (omega (arith, far k, open-below, (stop-is ∙ ap (lengthPlace at next end) (sym e))))
-            inner-walk (LengthRead.Definite k n) e r =
+            inner-walk (LengthRead.Fault k) e r o = absurd (omega (arith, far k, open-below, (stop-is ∙ ap (lengthPlace at next end) (sym e))))
+            inner-walk (LengthRead.Definite k n) e r o =
                 let t = here in
                 let a : stop ≡ next + (k + n) = stop-is ∙ ap (lengthPlace at next end) (sym e) in
                 let w = definite-size (span m next end) true k n (LengthRead.Definite k n) e refl in
                 let room : next + (k + n) ≤ end = omega (arith, w, span-length m next end h, t .place, t .room) in
-                let size : k ≡ lengthSize (getD m next 0) = size-of (LengthRead.Definite k n) (sym e) (omega (arith, w)) in
+                let size : k ≡ lengthSize (getD m next 0) = size-of m next end h (LengthRead.Definite k n) e (omega (arith, w)) in
                 let low : Finite stop = omega (arith, a, room, h, top) in
                 let same : until stop ≡ stop = omega (arith, low) in
                 let from : st ≡ at + (t .size + k) = omega (arith, start, size, t .place) in
                 let to : at + (t .size + k) + n ≡ stop = omega (arith, a, t .place) in
-                let held : span m (at + (t .size + k)) stop ≡ take n (drop (t .size + k) (span m at end)) = rw (← to) (sym (span-inner m at end (t .size + k) n (omega (arith, room, t .place)) h)) in (
-                  omega (arith, from, t .some),
-                  omega (arith, from, to, same),
-                  omega (arith, same, a, room),
-                  λ o.
-                      definite-case k n r e held to (omega (arith, a, room)) (seriesWalk 0 (left - 1) true (at + (t .size + k)) (span m (at + (t .size + k)) stop)) refl (rw (lt-ltb stop opening low, same, from) at o),
-                )
-            inner-walk LengthRead.Indefinite e r =
+                let held : span m (at + (t .size + k)) stop ≡ take n (drop (t .size + k) (span m at end)) = rw (← to) (sym (span-inner m at end (t .size + k) n (omega (arith, room, t .place)) h)) in
+                definite-case k n r e held to (omega (arith, a, room)) (seriesWalk 0 (left - 1) true (at + (t .size + k)) (span m (at + (t .size + k)) stop)) refl (rw (lt-ltb stop opening low, same, from) at o)
+            inner-walk LengthRead.Indefinite e r o =
                 let t = here in
                 let a : stop ≡ opening + end = stop-is ∙ ap (lengthPlace at next end) (sym e) in
-                let w = indefinite-size (span m next end) true LengthRead.Indefinite e refl in
-                let room : next + 1 ≤ end = omega (arith, w .0, span-length m next end h, t .place, t .room) in
-                let size : 1 ≡ lengthSize (getD m next 0) = size-of LengthRead.Indefinite (sym e) (w .0) in
-                let high : Endless stop = omega (arith, a) in
+                let size : 1 ≡ lengthSize (getD m next 0) = size-of m next end h LengthRead.Indefinite e (indefinite-size (span m next end) true LengthRead.Indefinite e refl .0) in
                 let same : until stop ≡ end = omega (arith, a, h, top) in
-                let from : st ≡ at + (t .size + 1) = omega (arith, start, size, t .place) in (
-                  omega (arith, from, t .some),
-                  omega (arith, from, room, t .place, same),
-                  omega (arith, same),
-                  λ o.
-                      indefinite-case r e (seriesWalk 0 (left - 1) false (at + (t .size + 1)) (span m (at + (t .size + 1)) end)) refl (rw (le-ltb stop opening high, same, from) at o),
-                )
+                let from : st ≡ at + (t .size + 1) = omega (arith, start, size, t .place) in
+                indefinite-case r e (seriesWalk 0 (left - 1) false (at + (t .size + 1)) (span m (at + (t .size + 1)) end)) refl (rw (le-ltb stop opening (omega (arith, a)), same, from) at o)
 
             pub any-open : (r : ℕ) → WalkedOut (finite stop) st (until stop) (seriesWalk 0 (left - 1) (finite stop) st (part m st stop)) r → Walked at end (elementWalk 0 left at (span m at end)) r
-            any-open r o = inner-walk (lengthOf (span m next end) true) refl r .3 o
+            any-open r o = inner-walk (lengthOf (span m next end) true) refl r o
 
 pub walked-near : (p end r : ℕ) (w : Walk) → Walked p end w r → Near r → r ≤ end
 unfolding Walked
@@ -206,10 +183,7 @@ module _ (m : List ℕ) (from stop left at : ℕ) (l : from ≤ at) (g : at ≤ 
 
   pub going-unfinished : (b : Bool) → b ≡ unfinishedOf (endOf (finite stop) (part m at stop)) → b ≡ true → WalkedOut (finite stop) from (until stop) (seriesWalk 0 left (finite stop) from (part m from stop)) (cutOff + at)
   unfolding Going grown WalkedOut base
-  going-unfinished b is t = rw (going, series-unfinished 0 left (finite stop) at (part m at stop) (go (endOf (finite stop) (part m at stop)) is))
-    where
-      go : (e : EndRead) → b ≡ unfinishedOf e → e ≡ EndRead.Unfinished
-      go e i = unfinished-is e b i t
+  going-unfinished b is t = rw (going, series-unfinished 0 left (finite stop) at (part m at stop) (unfinished-is (endOf (finite stop) (part m at stop)) b is t))
 
   module _ (b c : Bool) (is : b ≡ endedOf (endOf (finite stop) (part m at stop))) (also : c ≡ unfinishedOf (endOf (finite stop) (part m at stop))) (no : b ≡ false) (nor : c ≡ false) (r : ℕ)
       (walked : Walked at (until stop) (elementWalk 0 left at (part m at stop)) r) where
@@ -261,77 +235,43 @@ pub length-stands : (m : List ℕ) (at next end stop st : ℕ) → next ≤ end 
 unfolding lengthPlace SizeIs
 length-stands m at next end stop st g h top e l start = go (lengthOf (span m next end) true) refl e
   where
-    size-of : (n : LengthRead) → n ≡ lengthOf (span m next end) true → 1 ≤ length (span m next end) → SizeIs (getD m next 0) n
-    size-of n e l = let q : getD (span m next end) 0 0 ≡ getD m next 0 = rw add-zero at (span-get m next end 0 (omega (arith, l, span-length m next end h))) in rw (← e, q) at (length-sized (span m next end) true)
-
     go : (n : LengthRead) → n ≡ lengthOf (span m next end) true → stop ≡ lengthPlace at next end n → (next < st) × (st ≤ until stop) × (until stop ≤ end)
     go (LengthRead.Fault k) q e = absurd (omega (arith, far k, e, l))
     go (LengthRead.Definite k n) q e =
         let w = definite-size (span m next end) true k n (LengthRead.Definite k n) q refl in
-        let size : k ≡ lengthSize (getD m next 0) = size-of (LengthRead.Definite k n) q (omega (arith, w)) in
+        let size : k ≡ lengthSize (getD m next 0) = size-of m next end h (LengthRead.Definite k n) q (omega (arith, w)) in
         let same : until stop ≡ stop = omega (arith, e, w, span-length m next end h, h, top) in
         (omega (arith, w, start, size), omega (arith, same, e, start, size), omega (arith, same, e, w, span-length m next end h, g))
     go LengthRead.Indefinite q e =
         let w = indefinite-size (span m next end) true LengthRead.Indefinite q refl in
-        let size : 1 ≡ lengthSize (getD m next 0) = size-of LengthRead.Indefinite q (w .0) in
+        let size : 1 ≡ lengthSize (getD m next 0) = size-of m next end h LengthRead.Indefinite q (w .0) in
         let same : until stop ≡ end = omega (arith, e, h, top) in
         (omega (arith, start, size), omega (arith, same, start, size, w .0, span-length m next end h), omega (arith, same))
 
--- A short element: its tag, its length and its contents are told at once
+-- A short element: its tag and its length take an octet each
 
-pub record Shortly (m : List ℕ) (at end r : ℕ) : Type 0 where
-  pub plain : eqb (getD m at 0 % 32) 31 ≡ false
-  pub first : eqb (getD m at 0) 0 ≡ false
-  pub code : eqb (getD m at 0) 32 ≡ false
-  pub low : getD m (at + 1) 0 ≤ 127
-  pub room : at + 2 + getD m (at + 1) 0 ≤ end
-  pub answer : r ≡ at + 2 + getD m (at + 1) 0
-  pub leaf : (getD m at 0 / 32 % 2 ≡ 0) ⊎ (getD m (at + 1) 0 ≡ 0)
-
-shortly : (m : List ℕ) (at end left r : ℕ) → r ≡ shortPlace left at end (getD m at 0) (getD m (at + 1) 0) → 0 < r → (0 < left) × Shortly m at end r
-unfolding shortPlace
-shortly m at end left r is there =
-    go (eqb left 0) (ltb end (at + 2)) (eqb (getD m at 0 % 32) 31) (eqb (getD m at 0) 0) (eqb (getD m at 0) 32) (eqb (getD m (at + 1) 0) 0) (eqb (getD m at 0 / 32 % 2) 1) (ltb 127 (getD m (at + 1) 0)) (ltb end (at + 2 + getD m (at + 1) 0)) refl refl refl refl refl refl refl refl refl is
-  where
-    go : (a b c d e f g h i : Bool) → eqb left 0 ≡ a → ltb end (at + 2) ≡ b → eqb (getD m at 0 % 32) 31 ≡ c → eqb (getD m at 0) 0 ≡ d → eqb (getD m at 0) 32 ≡ e → eqb (getD m (at + 1) 0) 0 ≡ f → eqb (getD m at 0 / 32 % 2) 1 ≡ g → ltb 127 (getD m (at + 1) 0) ≡ h → ltb end (at + 2 + getD m (at + 1) 0) ≡ i
-        → r ≡ cond a 0 (cond b 0 (cond c 0 (cond d 0 (cond e 0 (cond f (at + 2) (cond g 0 (cond h 0 (cond i 0 (at + 2 + getD m (at + 1) 0))))))))) → (0 < left) × Shortly m at end r
-    go true b c d e f g h i ia ib ic id ie iff ig ih ii z = absurd (omega (arith, z, there))
-    go false true c d e f g h i ia ib ic id ie iff ig ih ii z = absurd (omega (arith, z, there))
-    go false false true d e f g h i ia ib ic id ie iff ig ih ii z = absurd (omega (arith, z, there))
-    go false false false true e f g h i ia ib ic id ie iff ig ih ii z = absurd (omega (arith, z, there))
-    go false false false false true f g h i ia ib ic id ie iff ig ih ii z = absurd (omega (arith, z, there))
-    go false false false false false true g h i ia ib ic id ie iff ig ih ii z =
-        let n : getD m (at + 1) 0 ≡ 0 = eqb-true (getD m (at + 1) 0) 0 iff in
-        (omega (arith, eqb-false left 0 ia), record { plain = ic; first = id; code = ie; low = omega (arith, n); room = omega (arith, n, ltb-false end (at + 2) ib); answer = omega (arith, n, z); leaf = inr n })
-    go false false false false false false true h i ia ib ic id ie iff ig ih ii z = absurd (omega (arith, z, there))
-    go false false false false false false false true i ia ib ic id ie iff ig ih ii z = absurd (omega (arith, z, there))
-    go false false false false false false false false true ia ib ic id ie iff ig ih ii z = absurd (omega (arith, z, there))
-    go false false false false false false false false false ia ib ic id ie iff ig ih ii z =
-        (omega (arith, eqb-false left 0 ia), record { plain = ic; first = id; code = ie; low = ltb-false 127 (getD m (at + 1) 0) ih; room = ltb-false end (at + 2 + getD m (at + 1) 0) ii; answer = z; leaf = inl (omega (arith, eqb-false (getD m at 0 / 32 % 2) 1 ig)) })
-
-module _ (m : List ℕ) (at end left r : ℕ) (g : at ≤ end) (h : end ≤ length m) (top : length m ≤ 65535) (deep : 0 < left) (i : Shortly m at end r) where
+module _ (m : List ℕ) (at end left : ℕ) (g : at ≤ end) (h : end ≤ length m) (top : length m ≤ 65535) (deep : 0 < left) (two : at + 2 ≤ end)
+    (plain : getD m at 0 % 32 ≡ 31 → ⊥) (z : getD m at 0 ≡ 0 → ⊥) (y : getD m at 0 ≡ 32 → ⊥) where
   short-tag : at + 1 ≡ tagPlace at (tagOf (span m at end))
   unfolding tagPlace tagBy extendedOf
-  short-tag = rw (tag-view m at end h, ne-eqb (end - at) 0 (λ z. omega (arith, z, i .room)), i .plain)
+  short-tag = rw (tag-view m at end h, ne-eqb (end - at) 0 (λ z. omega (arith, z, two)), ne-eqb (getD m at 0 % 32) 31 plain)
 
-  short-len : (c : Bool) → lengthOf (span m (at + 1) end) c ≡ LengthRead.Definite 1 (getD m (at + 1) 0)
-  unfolding lengthBy within
-  short-len c =
-      rw (length-view m (at + 1) end c h, ne-eqb (end - (at + 1)) 0 (λ z. omega (arith, z, i .room)), lt-ltb (getD m (at + 1) 0) 128 (omega (arith, i .low)), le-leb (getD m (at + 1) 0) (end - (at + 1) - 1) (omega (arith, i .room)))
+  pub short-leaf : getD m at 0 / 32 % 2 ≡ 0 → getD m (at + 1) 0 < 128 → at + 2 + getD m (at + 1) 0 ≤ end → Walked at end (elementWalk 0 left at (span m at end)) (at + 2 + getD m (at + 1) 0)
+  unfolding lengthPlace
+  short-leaf kind low room =
+      any-leaf m at end left (at + 1) g h top short-tag (omega (arith, two, h, top)) z y (λ e. omega (arith, e, deep)) kind (at + 2 + getD m (at + 1) 0)
+      (rw (length-short m (at + 1) end false h (omega (arith, two)) low (omega (arith, room))) (omega arith))
 
-  short-by : (getD m at 0 / 32 % 2 ≡ 0) ⊎ (getD m (at + 1) 0 ≡ 0) → (b : Bool) → eqb (getD m at 0 / 32 % 2) 0 ≡ b → Walked at end (elementWalk 0 left at (span m at end)) r
+  pub short-empty : getD m (at + 1) 0 ≡ 0 → Walked at end (elementWalk 0 left at (span m at end)) (at + 2)
   unfolding lengthPlace lengthSize WalkedOut Shut endOf
-  short-by l true e =
-      any-leaf m at end left (at + 1) g h top short-tag (omega (arith, i .room, h, top)) (eqb-false (getD m at 0) 0 (i .first)) (eqb-false (getD m at 0) 32 (i .code)) (λ z. omega (arith, z, deep)) (eqb-true (getD m at 0 / 32 % 2) 0 e) r (rw (short-len false) (omega (arith, i .answer)))
-  short-by (inl z) false e = absurd (eqb-false (getD m at 0 / 32 % 2) 0 e z)
-  short-by (inr z) false e =
-      let two : r ≡ at + 2 = omega (arith, i .answer, z) in
-      let low : at + 2 < opening = omega (arith, i .room, h, top) in
-      let same : until (at + 2) ≡ at + 2 = omega (arith, low) in
-      let empty : span m (at + 2) (at + 2) ≡ [] = drop-of-length-le (take (at + 2) m) {i = at + 2} (omega (arith, length-take-le (at + 2) m (omega (arith, i .room, h)))) in
-      rw two (any-open m at end left (at + 1) g h top short-tag (omega (arith, i .room, h, top)) (eqb-false (getD m at 0) 0 (i .first)) (eqb-false (getD m at 0) 32 (i .code)) (λ z. omega (arith, z, deep)) (eqb-false (getD m at 0 / 32 % 2) 0 e) (at + 2) (at + 2)
-      (rw (short-len true) (omega (arith, z))) (omega (arith, low)) (rw (le-leb (getD m (at + 1) 0) 128 (omega (arith, i .low))) (omega arith)) (at + 2)
-      (rw (lt-ltb (at + 2) opening low, same, empty, series-ended 0 (left - 1) true (at + 2) [] refl)))
-
-pub short-walk : (m : List ℕ) (at end left r : ℕ) → at ≤ end → end ≤ length m → length m ≤ 65535 → r ≡ shortPlace left at end (getD m at 0) (getD m (at + 1) 0) → 0 < r → Walked at end (elementWalk 0 left at (span m at end)) r
-short-walk m at end left r g h top is there = let i = shortly m at end left r is there in short-by m at end left r g h top (i .0) (i .1) (i .1 .leaf) (eqb (getD m at 0 / 32 % 2) 0) refl
+  short-empty e = by (eqb (getD m at 0 / 32 % 2) 0) refl
+    where
+      by : (b : Bool) → eqb (getD m at 0 / 32 % 2) 0 ≡ b → Walked at end (elementWalk 0 left at (span m at end)) (at + 2)
+      by true k = let s : at + 2 + getD m (at + 1) 0 ≡ at + 2 = omega (arith, e) in rw s at (short-leaf (eqb-true (getD m at 0 / 32 % 2) 0 k) (omega (arith, e)) (omega (arith, e, two)))
+      by false k =
+          let low : at + 2 < opening = omega (arith, two, h, top) in
+          let same : until (at + 2) ≡ at + 2 = omega (arith, low) in
+          let empty : span m (at + 2) (at + 2) ≡ [] = drop-of-length-le (take (at + 2) m) {i = at + 2} (omega (arith, length-take-le (at + 2) m (omega (arith, two, h)))) in
+          any-open m at end left (at + 1) g h top short-tag (omega (arith, two, h, top)) z y (λ z. omega (arith, z, deep)) (eqb-false (getD m at 0 / 32 % 2) 0 k) (at + 2) (at + 2)
+          (rw (length-short m (at + 1) end true h (omega (arith, two)) (omega (arith, e)) (omega (arith, e, two))) (omega (arith, e))) (omega (arith, low)) (rw (le-leb (getD m (at + 1) 0) 128 (omega (arith, e))) (omega arith)) (at + 2)
+          (rw (lt-ltb (at + 2) opening low, same, empty, series-ended 0 (left - 1) true (at + 2) [] refl))

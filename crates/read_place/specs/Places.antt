@@ -1,6 +1,6 @@
 -- A reader's answer as one number: the place behind what was read, or the fault, by kind and place. Contents stand from a place to a stop:
 -- the place where they end, or `opening` and the end of what is around them, if they are indefinite. Assumes nothing: these are definitions.
-use Prim.Native.Nat.{ℕ, _+_, _-_, _/_, _%_, _≤_, _<_}
+use Prim.Native.Nat.{ℕ, _+_, _-_, _%_, _≤_, _<_}
 use mathlib.Core.{Path._≡_, Bool.Bool, Bool.true, Bool.false, Bool.cond, List.List, Option.none}
 use lib.{ListN.length, ListN.getD, Dec.eqb, Dec.ltb, Dec.leb}
 use Rattle.element.specs.{declared.FaultKind.FaultKind, declared.EndRead.EndRead, declared.TagRead.TagRead, declared.LengthRead.LengthRead, declared.Walk.Walk, Fault.Fault, Fault.fault, Head.endOf, Head.lengthOf, Answers.frontOf, Answers.span, Ask.Got, Ask.got, Ask.bad, Ask.Body, Ask.ask, Ask.blamed, Parts.Item, Parts.Where, Parts.place, Parts.done, Parts.level}
@@ -185,10 +185,6 @@ standsOf m at stop tag = cond (eqb at (until stop)) false (eqb (getD m at 0) tag
 unfoldable pub entryPlace : Bool → List ℕ → ℕ → ℕ → ℕ → ℕ
 entryPlace c m at stop tag = cond (standsOf m at stop tag) (lengthPlace at (at + 1) (until stop) (lengthOf (part m (at + 1) stop) c)) (wrongPlace m at stop (base FaultKind.Another))
 
--- the stop of the contents of a constructor whose tag and length take an octet each, the length of indefinite contents too; 0 if none stands here
-unfoldable pub shortStop : ℕ → ℕ → ℕ → ℕ → ℕ → ℕ
-shortStop end at a n tag = cond (ltb end (at + 2)) 0 (cond (eqb a tag) (cond (eqb n 128) (opening + end) (cond (ltb 127 n) 0 (cond (ltb end (at + 2 + n)) 0 (at + 2 + n)))) 0)
-
 -- its contents are not as wanted
 unfoldable pub badPlace : List ℕ → ℕ → ℕ → ℕ → ℕ
 badPlace m at stop tag = cond (leb faults (entryPlace false m at stop tag)) (entryPlace false m at stop tag) (base FaultKind.BadContents + at)
@@ -209,16 +205,3 @@ Walked p end (Walk.Whole n) r = (r ≡ p + n) × (r ≤ end)
 unfoldable pub WalkedOut : Bool → ℕ → ℕ → Walk → ℕ → Type 0
 WalkedOut d p end (Walk.Fault k q) r = r ≡ base k + q
 WalkedOut d p end (Walk.Whole n) r = Shut d p end n r
-
--- the place behind a primitive, or an empty constructor, whose tag and length take an octet each; 0 if none stands here, or no level is left
-unfoldable pub shortPlace : ℕ → ℕ → ℕ → ℕ → ℕ → ℕ
-shortPlace left at end a n =
-    cond (eqb left 0) 0
-    (cond (ltb end (at + 2)) 0
-    (cond (eqb (a % 32) 31) 0
-    (cond (eqb a 0) 0
-    (cond (eqb a 32) 0
-    (cond (eqb n 0) (at + 2)
-    (cond (eqb (a / 32 % 2) 1) 0
-    (cond (ltb 127 n) 0
-    (cond (ltb end (at + 2 + n)) 0 (at + 2 + n)))))))))

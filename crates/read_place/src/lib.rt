@@ -1,16 +1,20 @@
-// Where a reader stands, and what may stand there: ends, tags, lengths, elements that are walked.
+// Where a reader stands, and what may stand there: ends, tags, lengths; `elements` walks those that may be any.
 // Contents stand from a place to a `stop`: the place where they end, or, if they are indefinite, OPEN and the end of what is around them.
 // An answer below FAULT is the place behind what was read, or a stop; from FAULT on it is a fault: kind and place, each kind in a block of OPEN.
+pub mod elements;
+
 ghost use mathlib.Core.Path.{_≡_};
 ghost use mathlib.Core.Bool.{true, false};
-ghost use Prim.Native.Nat.{suc, _+_, _-_, _/_, _%_, _<_, _≤_};
-ghost use Rattle.base.specs.Number.{numberFrom};
-ghost use lib.ListN.{length, getD, take, drop};
-ghost use Rattle.element.specs.Head.{endOf, tagOf, within, lengthOf};
-ghost use Rattle.read_place.specs.Places.{part, finite, Stands, endedOf, unfinishedOf, behindOf, tagPlace, lengthPlace, wrongPlace, standsOf, entryPlace, shortStop, badPlace, countOf, Finishes, nothing, Walked, WalkedOut, shortPlace, until, Ready};
-ghost use Rattle.element.specs.Answers.{elementWalk, seriesWalk, span, longRead, lengthSize};
+ghost use Prim.Native.Nat.{_+_, _<_, _≤_};
+ghost use lib.ListN.{length, getD};
+ghost use Rattle.element.specs.Head.{endOf, tagOf, lengthOf};
+ghost use Rattle.read_place.specs.Places.{part, finite, Stands, endedOf, unfinishedOf, behindOf, tagPlace, lengthPlace, wrongPlace, standsOf, entryPlace, badPlace, countOf, Finishes, nothing, until, Ready};
+ghost use Rattle.element.specs.Answers.{span, longRead};
 ghost use Rattle.read_place.specs.Laying.{layText};
-use base::wide;
+pub use crate::elements::walk_any;
+pub use crate::elements::walk_element;
+use walk::long_count;
+pub use walk::start_of;
 
 pub const OPEN: usize = 65536;
 
@@ -104,7 +108,7 @@ pub fn behind(at: usize, stop: usize) -> usize
 }
 
 // The place behind the tag here.
-fn tag_at(m: &[u8], at: usize, end: usize) -> usize
+pub fn tag_at(m: &[u8], at: usize, end: usize) -> usize
     requires { ⌜ Stands (now m) at end ⌝ }
     ensures { λ r. ⌜ r ≡ tagPlace at (tagOf (span (now (m .entry)) at end)) ⌝ }
 {
@@ -143,26 +147,6 @@ fn tag_at(m: &[u8], at: usize, end: usize) -> usize
     BAD_TAG + at
 }
 
-// Where contents end of whose length the `k` octets behind `from` are the number, and behind these `room` octets stand.
-fn long_count(m: &[u8], at: usize, from: usize, k: usize, room: usize) -> usize
-    requires { ⌜ (from + 1 + k + room ≤ length (now m)) × (length (now m) ≤ 65535) × (at ≤ 65535) ⌝ }
-    ensures { λ r. ⌜ r ≡ lengthPlace at from 0 (within (suc k) (numberFrom 0 (take k (drop (from + 1) (now (m .entry))))) room) ⌝ }
-{
-    let mut value: usize = 0;
-    let mut i = 0;
-    while i < k {
-        if value > room / 256 {
-            return PASSES_END + at;
-        }
-        value = value * 256 + wide(m[from + 1 + i]);
-        i += 1;
-    }
-    if value <= room {
-        return from + (k + 1 + value);
-    }
-    PASSES_END + at
-}
-
 // The stop of contents whose length takes `k` octets behind `from`. Most take one.
 fn long_length(m: &[u8], at: usize, from: usize, end: usize, k: usize) -> usize
     requires { ⌜ Stands (now m) from end × (from < end) × (1 ≤ k) × (at ≤ 65535) ⌝ }
@@ -188,7 +172,7 @@ fn long_length(m: &[u8], at: usize, from: usize, end: usize, k: usize) -> usize
     if one == 0 {
         return BAD_LENGTH + at;
     }
-    long_count(m, at, from, k, left - k)
+    long_count(m, from, k, left - k, PASSES_END + at)
 }
 
 // The stop of contents whose length stands at `from`; the element stands at `at`.
@@ -213,18 +197,6 @@ pub fn length_at(m: &[u8], at: usize, from: usize, end: usize, constructor: bool
         return long_length(m, at, from, end, b - 128);
     }
     CUT_OFF + at
-}
-
-// Where contents begin whose length, which is good, stands at `from`.
-pub fn start_of(m: &[u8], from: usize) -> usize
-    requires { ⌜ (from < length (now m)) × (length (now m) ≤ 65535) ⌝ }
-    ensures { λ r. ⌜ r ≡ from + lengthSize (getD (now (m .entry)) from 0) ⌝ }
-{
-    let b = m[from] as usize;
-    if b <= 128 {
-        return from + 1;
-    }
-    from + (1 + (b - 128))
 }
 
 // What is wrong where none of the expected elements stands: the end (14), a missing end pair (1), a bad tag, code 0, else `other`.
@@ -285,38 +257,25 @@ pub fn stands(m: &[u8], at: usize, stop: usize, tag: u8) -> bool
     m[at] == tag
 }
 
-// The stop of the contents of a constructor of this tag whose length takes one octet; 0 if none stands here. Places are compared, so that the compiler sees that none is a fault.
-fn short_stop(m: &[u8], at: usize, end: usize, tag: u8) -> usize
-    requires { ⌜ Stands (now m) at end ⌝ }
-    ensures { λ r. ⌜ r ≡ shortStop end at (getD (now (m .entry)) at 0) (getD (now (m .entry)) (at + 1) 0) tag ⌝ }
-{
-    if end < at + 2 {
-        return 0;
-    }
-    if m[at] != tag {
-        return 0;
-    }
-    let b = m[at + 1] as usize;
-    if b == 128 {
-        return OPEN + end;
-    }
-    if b > 127 {
-        return 0;
-    }
-    if end < at + 2 + b {
-        return 0;
-    }
-    at + 2 + b
-}
-
 // A constructor of this tag must stand here: the stop of its contents. Most lengths take one octet.
+// Places are compared, so that the compiler sees that none is a fault.
 pub fn entry_at(m: &[u8], at: usize, stop: usize, tag: u8) -> usize
     requires { ⌜ Ready (now m) at stop ⌝ }
     ensures { λ r. ⌜ r ≡ entryPlace true (now (m .entry)) at stop tag ⌝ }
 {
-    let r = short_stop(m, at, stop % OPEN, tag);
-    if r > 0 {
-        return r;
+    let end = stop % OPEN;
+    if at + 2 <= end {
+        if m[at] == tag {
+            let b = m[at + 1] as usize;
+            if b == 128 {
+                return OPEN + end;
+            }
+            if b < 128 {
+                if at + 2 + b <= end {
+                    return at + 2 + b;
+                }
+            }
+        }
     }
     entry_asked(m, at, stop, tag)
 }
@@ -375,105 +334,6 @@ pub fn count_at(m: &[u8], at: usize, stop: usize, tag: u8, most: usize) -> usize
         return 0;
     }
     n
-}
-
-// The place behind a primitive, or an empty constructor, whose tag and length take an octet each; 0 if none stands here, or no level is left.
-fn short_at(m: &[u8], at: usize, end: usize, left: usize) -> usize
-    requires { ⌜ Stands (now m) at end ⌝ }
-    ensures { λ r. ⌜ r ≡ shortPlace left at end (getD (now (m .entry)) at 0) (getD (now (m .entry)) (at + 1) 0) ⌝ }
-{
-    if left == 0 {
-        return 0;
-    }
-    if end < at + 2 {
-        return 0;
-    }
-    let first = m[at];
-    let n = m[at + 1] as usize;
-    if first % 32 == 31 {
-        return 0;
-    }
-    if first == 0 {
-        return 0;
-    }
-    if first == 32 {
-        return 0;
-    }
-    if n == 0 {
-        return at + 2;
-    }
-    if first / 32 % 2 == 1 {
-        return 0;
-    }
-    if n > 127 {
-        return 0;
-    }
-    if end < at + 2 + n {
-        return 0;
-    }
-    at + 2 + n
-}
-
-// Any element, walked to its bottom.
-pub fn walk_any(m: &[u8], at: usize, end: usize, left: usize) -> usize
-    requires { ⌜ Stands (now m) at end ⌝ }
-    ensures { λ r. ⌜ Walked at end (elementWalk 0 left at (span (now (m .entry)) at end)) r ⌝ }
-{
-    let next = tag_at(m, at, end);
-    if next >= FAULT {
-        return next;
-    }
-    let first = m[at];
-    if first == 0 {
-        return CODE_ZERO + at;
-    }
-    if first == 32 {
-        return CODE_ZERO + at;
-    }
-    if left == 0 {
-        return TOO_DEEP + at;
-    }
-    if first / 32 % 2 == 0 {
-        return length_at(m, at, next, end, false);
-    }
-    let stop = length_at(m, at, next, end, true);
-    if stop >= FAULT {
-        return stop;
-    }
-    walk_series(m, start_of(m, next), stop, left - 1)
-}
-
-// The same; most elements are short.
-pub fn walk_element(m: &[u8], at: usize, end: usize, left: usize) -> usize
-    requires { ⌜ Stands (now m) at end ⌝ }
-    ensures { λ r. ⌜ Walked at end (elementWalk 0 left at (span (now (m .entry)) at end)) r ⌝ }
-{
-    let r = short_at(m, at, end, left);
-    if r > 0 {
-        return r;
-    }
-    walk_any(m, at, end, left)
-}
-
-// Elements to the end of their contents.
-fn walk_series(m: &[u8], from: usize, stop: usize, left: usize) -> usize
-    requires { ⌜ Ready (now m) from stop ⌝ }
-    ensures { λ r. ⌜ WalkedOut (finite stop) from (until stop) (seriesWalk 0 left (finite stop) from (part (now (m .entry)) from stop)) r ⌝ }
-{
-    let mut at = from;
-    loop {
-        if ended(m, at, stop) {
-            return behind(at, stop);
-        }
-        if unfinished(m, at, stop) {
-            return CUT_OFF + at;
-        }
-        let r = walk_element(m, at, stop % OPEN, left);
-        if r >= FAULT {
-            return r;
-        }
-        at = r;
-    }
 }
 
 // A place and a length of at most 65,535 as they lie in a record's octets, where the upper two octets of each number are 0.

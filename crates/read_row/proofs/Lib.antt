@@ -1,3 +1,2 @@
+pub mod Pairs
 pub mod Contents
-pub mod ByTag
-pub mod Joined

@@ -3,29 +3,20 @@
 use Prim.Native.Nat.{ℕ}
 use mathlib.Core.{Bool.Bool, Bool.false, Bool.cond, List.List, Option.Option}
 use lib.{Dec.eqb, IntN.ℤ}
-use Rattle.element.specs.{declared.FaultKind.FaultKind, Fault.Text, Fault.withInvokeId, Ask.Body, Ask.ask, Parts.level, Parts.integerItem, Parts.bindBody, Parts.thenBody, Parts.onlyBody, Parts.lastBody, Parts.optBody}
-use Rattle.tcap.specs.{declared.Problem.Problem, Meaning.Code, Meaning.Component, Meaning.last, Meaning.notLast, WellFormed.the93, Productions.idItem, Productions.idOrNullItem, Productions.problemItem, Productions.codeItem, Productions.noted, Productions.levelAt, Productions.bothItem, Productions.invokeBody, Productions.resultBody, Productions.errorBody, Productions.rejectBody, Productions.componentItem}
+use Rattle.element.specs.{declared.FaultKind.FaultKind, Fault.Text, Fault.withInvokeId, Ask.Body, Ask.ask, Parts.level, Parts.integerItem, Parts.bindBody, Parts.thenBody, Parts.onlyBody, Parts.optBody}
+use Rattle.tcap.specs.{declared.Problem.Problem, Meaning.Code, Meaning.Component, Meaning.last, Meaning.notLast, WellFormed.the93, Productions.idOrNullItem, Productions.problemItem, Productions.codeItem, Productions.levelAt, Productions.invokeBody, Productions.resultBody, Productions.errorBody, Productions.rejectBody, Productions.componentItem}
 use Rattle.read_place.specs.Places.{until, finite, part, front, Placed}
 use Rattle.read_place.specs.Leaves.{Left, untold}
-use Rattle.read_place.specs.Laying.{layId, layLinked, layCode, layComponent}
+use Rattle.read_place.specs.Laying.{layCode, layComponent}
 use Rattle.read_part.specs.Parts.{Held, parameterBody, layHeld}
 
--- the contents of each kind, not yet under the component's name
+-- contents that are not yet under the component's name
 
 abbrev pub codedBody : (must : Bool) → ℕ → Body (Code Text × Held must)
 codedBody must left = thenBody (level left) codeItem (parameterBody must left)
 
 abbrev pub linkedBody : Body (Option ℤ × (Code Text × Held false))
 linkedBody = optBody (integerItem 0x80 1) (codedBody false 13)
-
-abbrev pub invokedBody : Body (ℤ × (Option ℤ × (Code Text × Held false)))
-invokedBody = bindBody (levelAt the93 4) noted idItem (λ i. linkedBody)
-
-abbrev pub erredBody : Body (ℤ × (Code Text × Held false))
-erredBody = bindBody (levelAt the93 4) noted idItem (λ i. codedBody false 13)
-
-abbrev pub returnedBody : Body (ℤ × Option (Code Text × Text))
-returnedBody = bindBody (levelAt the93 4) noted idItem (λ i. lastBody (levelAt the93 4) (bothItem the93))
 
 abbrev pub rejectedBody : Body (Option ℤ × Problem)
 rejectedBody = bindBody (levelAt the93 4) withInvokeId idOrNullItem (λ i. onlyBody (levelAt the93 4) problemItem)
@@ -34,9 +25,9 @@ rejectedBody = bindBody (levelAt the93 4) withInvokeId idOrNullItem (λ i. onlyB
 unfoldable pub bodyOf : ℕ → Body (Component Text)
 bodyOf a =
     cond (eqb a 0xA1) (invokeBody the93)
+    (cond (eqb a 0xA2) (resultBody the93 last)
     (cond (eqb a 0xA3) (errorBody the93)
-    (cond (eqb a 0xA4) (rejectBody the93)
-    (cond (eqb a 0xA2) (resultBody the93 last) (resultBody the93 notLast))))
+    (cond (eqb a 0xA4) (rejectBody the93) (resultBody the93 notLast))))
 
 -- one value is laid out, and then another
 abbrev pub layBoth : {A B : Type 0} → (A → List ℕ → List ℕ) → (B → List ℕ → List ℕ) → A × B → List ℕ → List ℕ
@@ -44,9 +35,6 @@ layBoth lay put v l = put (v .1) (lay (v .0) l)
 
 abbrev pub layCoded : (must : Bool) → Code Text × Held must → List ℕ → List ℕ
 layCoded must = layBoth layCode (layHeld must)
-
-abbrev pub layInvoked : ℤ × (Option ℤ × (Code Text × Held false)) → List ℕ → List ℕ
-layInvoked = layBoth layId (layBoth layLinked (layCoded false))
 
 -- a component that must stand at a place, and what it leaves in its row
 abbrev pub ReadsComponent : List ℕ → ℕ → ℕ → ℕ → Type 0

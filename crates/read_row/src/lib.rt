@@ -5,9 +5,9 @@ ghost use Prim.Native.Nat.{_<_, _≤_};
 ghost use lib.ListN.{length};
 ghost use Rattle.read_place.specs.Places.{until, Finishes, Ready};
 ghost use Rattle.read_place.specs.Leaves.{LeavesAll, untold};
-ghost use Rattle.read_place.specs.Laying.{layId, layRejectId, layLinked, layReturned, layProblem, layComponent};
-ghost use Rattle.read_row.specs.Component.{codedBody, linkedBody, invokedBody, erredBody, returnedBody, rejectedBody, bodyOf, layBoth, layCoded, layInvoked, ReadsComponent, LeavesComponent};
-ghost use Rattle.tcap.specs.Productions.{componentItem, rejectBody, bothItem, invokeBody, errorBody, levelAt};
+ghost use Rattle.read_place.specs.Laying.{layRejectId, layLinked, layReturned, layProblem, layComponent};
+ghost use Rattle.read_row.specs.Component.{codedBody, linkedBody, rejectedBody, bodyOf, layBoth, layCoded, ReadsComponent, LeavesComponent};
+ghost use Rattle.tcap.specs.Productions.{componentItem, bothItem, levelAt};
 ghost use Rattle.element.specs.Parts.{lastBody};
 ghost use Rattle.tcap.specs.WellFormed.{the93};
 use read_field::octet_at;
@@ -61,32 +61,6 @@ fn linked_at(m: &[u8], at: usize, stop: usize, row: &mut [u8]) -> usize
     coded_at(m, at, stop, LEFT_AT_4, false, row)
 }
 
-// The contents of an Invoke.
-fn invoke_at(m: &[u8], at: usize, stop: usize, row: &mut [u8]) -> usize
-    requires { ⌜ Ready (now m) at stop × (length (now row) ≡ 24) ⌝ }
-    ensures { λ r. ⌜ Finishes (invokeBody the93) (now (m .entry)) at stop r ⌝ }
-    ensures { λ r. ⌜ LeavesAll layInvoked untold invokedBody (now (m .entry)) at stop (now (row .entry)) (now (row .exit)) ⌝ }
-{
-    let r = id_at(m, at, stop, row);
-    if r >= FAULT {
-        return r;
-    }
-    linked_at(m, r, stop, row)
-}
-
-// The contents of a Return Error.
-fn error_at(m: &[u8], at: usize, stop: usize, row: &mut [u8]) -> usize
-    requires { ⌜ Ready (now m) at stop × (length (now row) ≡ 24) ⌝ }
-    ensures { λ r. ⌜ Finishes (errorBody the93) (now (m .entry)) at stop r ⌝ }
-    ensures { λ r. ⌜ LeavesAll (layBoth layId (layCoded false)) untold erredBody (now (m .entry)) at stop (now (row .entry)) (now (row .exit)) ⌝ }
-{
-    let r = id_at(m, at, stop, row);
-    if r >= FAULT {
-        return r;
-    }
-    coded_at(m, r, stop, LEFT_AT_4, false, row)
-}
-
 // Code and parameter in 30, or nothing: what stands behind the invoke ID of a result.
 fn result_at(m: &[u8], at: usize, stop: usize, row: &mut [u8]) -> usize
     requires { ⌜ Ready (now m) at stop × (length (now row) ≡ 24) ⌝ }
@@ -107,23 +81,10 @@ fn result_at(m: &[u8], at: usize, stop: usize, row: &mut [u8]) -> usize
     leave(m, r, stop)
 }
 
-// The contents of a result, last or not.
-fn returned_at(m: &[u8], at: usize, stop: usize, row: &mut [u8]) -> usize
-    requires { ⌜ Ready (now m) at stop × (length (now row) ≡ 24) ⌝ }
-    ensures { λ r. ⌜ Finishes returnedBody (now (m .entry)) at stop r ⌝ }
-    ensures { λ r. ⌜ LeavesAll (layBoth layId layReturned) untold returnedBody (now (m .entry)) at stop (now (row .entry)) (now (row .exit)) ⌝ }
-{
-    let r = id_at(m, at, stop, row);
-    if r >= FAULT {
-        return r;
-    }
-    result_at(m, r, stop, row)
-}
-
 // The contents of a Reject.
 fn reject_at(m: &[u8], at: usize, stop: usize, row: &mut [u8]) -> usize
     requires { ⌜ Ready (now m) at stop × (length (now row) ≡ 24) ⌝ }
-    ensures { λ r. ⌜ Finishes (rejectBody the93) (now (m .entry)) at stop r ⌝ }
+    ensures { λ r. ⌜ Finishes rejectedBody (now (m .entry)) at stop r ⌝ }
     ensures { λ r. ⌜ LeavesAll (layBoth layRejectId layProblem) untold rejectedBody (now (m .entry)) at stop (now (row .entry)) (now (row .exit)) ⌝ }
 {
     let r = reject_id_at(m, at, stop, row);
@@ -137,7 +98,7 @@ fn reject_at(m: &[u8], at: usize, stop: usize, row: &mut [u8]) -> usize
     leave(m, s, stop)
 }
 
-// The contents of a component by its tag.
+// The contents of a component by its tag: an invoke ID, which a Reject may lack, and what follows it.
 fn contents_at(m: &[u8], at: usize, stop: usize, tag: u8, row: &mut [u8]) -> usize
     requires { ⌜ Ready (now m) at stop × (componentItem the93 .mine tag ≡ true) × (length (now row) ≡ 24) ⌝ }
     ensures { λ r. ⌜ Finishes (bodyOf tag) (now (m .entry)) at stop r ⌝ }
@@ -145,15 +106,27 @@ fn contents_at(m: &[u8], at: usize, stop: usize, tag: u8, row: &mut [u8]) -> usi
 {
     row[0] = tag;
     if tag == 0xA1 {
-        return invoke_at(m, at, stop, row);
+        let r = id_at(m, at, stop, row);
+        if r >= FAULT {
+            return r;
+        }
+        return linked_at(m, r, stop, row);
     }
     if tag == 0xA3 {
-        return error_at(m, at, stop, row);
+        let r = id_at(m, at, stop, row);
+        if r >= FAULT {
+            return r;
+        }
+        return coded_at(m, r, stop, LEFT_AT_4, false, row);
     }
     if tag == 0xA4 {
         return reject_at(m, at, stop, row);
     }
-    returned_at(m, at, stop, row)
+    let r = id_at(m, at, stop, row);
+    if r >= FAULT {
+        return r;
+    }
+    result_at(m, r, stop, row)
 }
 
 // Whether a first octet is the tag of a component.

@@ -1,13 +1,13 @@
 -- What the walkers answer. Assumes nothing.
 use Prim.Native.Nat.{ℕ, zero, suc, _+_, _-_, _/_, _%_, _≤_, _<_}
 use mathlib.Core.Path.{_≡_, refl, sym, ap, _∙_}
-use mathlib.Core.Bool.{Bool, true, false, cond, false≢true}
+use mathlib.Core.Bool.{Bool, true, false, false≢true}
 use mathlib.Core.List.{List}
 use native.Mathlib.Omega.{arith}
 use native.Mathlib.Nat.{add-zero}
 use lib.ListN.{length, getD, drop}
-use lib.Dec.{eqb, ltb}
-use borrow.Author.Tests.{ltb-false, eqb-true, eqb-false, lt-ltb, eq-eqb, ne-eqb}
+use lib.Dec.{eqb}
+use borrow.Author.Tests.{eqb-true, eqb-false, lt-ltb, eq-eqb, ne-eqb}
 use Rattle.element.specs.declared.FaultKind.{FaultKind}
 use Rattle.element.specs.declared.EndRead.{EndRead}
 use Rattle.element.specs.declared.TagRead.{TagRead}
@@ -19,19 +19,34 @@ use Rattle.element.specs.Answers.{fronted, frontOf, span, lengthSize, elementWa
 use Rattle.element.proofs.Reading.{FrontIs, front-says, tag-first, front-size, definite-size, indefinite-size}
 use Rattle.element.proofs.Whole.{Wanted, element-sound, element-size, series-all, series-before-pair}
 use Rattle.element.proofs.Walking.{thenWalk, grown, element-fault, element-length, element-primitive, element-definite, element-indefinite, series-ended, series-more}
-use Rattle.walk.specs.Walks.{tagEnd, contentsEnd, shortEnd, wholePlace, pairPlace}
+use Rattle.walk.specs.Walks.{tagEnd, contentsEnd, wholePlace, pairPlace}
 use Rattle.element.proofs.Views.{span-length, span-get, span-drop, span-inner, endBy, end-view, lengthBy, length-view, SizeIs, length-sized}
 use Rattle.walk.proofs.Views.{length-short, front-zero, front-one}
 
-whole-bad : (at : ℕ) (w : Walk) → ((n : ℕ) → w ≡ Walk.Whole n → ⊥) → 0 ≡ wholePlace at w
-unfolding wholePlace
-whole-bad at (Walk.Fault k q) never = refl
-whole-bad at (Walk.Whole n) never = absurd (never n refl)
+-- how a place behind a series answers for a fault, and for elements in front of it
+pub record Places (place : ℕ → Walk → ℕ) : Type 0 where
+  faulty : (at : ℕ) (k : FaultKind) (q : ℕ) → place at (Walk.Fault k q) ≡ 0
+  grows : (at n : ℕ) (w : Walk) → place at (grown n w) ≡ place (at + n) w
 
-pair-bad : (at : ℕ) (w : Walk) → ((n : ℕ) → w ≡ Walk.Whole n → ⊥) → 0 ≡ pairPlace at w
-unfolding pairPlace
-pair-bad at (Walk.Fault k q) never = refl
-pair-bad at (Walk.Whole n) never = absurd (never n refl)
+pub whole-places : Places wholePlace
+unfolding wholePlace grown
+whole-places = record { faulty = λ at k q. refl; grows = grows }
+  where
+    grows : (at n : ℕ) (w : Walk) → wholePlace at (grown n w) ≡ wholePlace (at + n) w
+    grows at n (Walk.Fault k q) = refl
+    grows at n (Walk.Whole j) = omega arith
+
+pub pair-places : Places pairPlace
+unfolding pairPlace grown
+pair-places = record { faulty = λ at k q. refl; grows = grows }
+  where
+    grows : (at n : ℕ) (w : Walk) → pairPlace at (grown n w) ≡ pairPlace (at + n) w
+    grows at n (Walk.Fault k q) = refl
+    grows at n (Walk.Whole j) = omega arith
+
+bad-place : (place : ℕ → Walk → ℕ) → Places place → (at : ℕ) (w : Walk) → ((n : ℕ) → w ≡ Walk.Whole n → ⊥) → 0 ≡ place at w
+bad-place place by at (Walk.Fault k q) never = sym (by .faulty at k q)
+bad-place place by at (Walk.Whole n) never = absurd (never n refl)
 
 no-level : (l p n : ℕ) (part : List ℕ) → l ≡ 0 → elementWalk 0 l p part ≡ Walk.Whole n → ⊥
 unfolding Wanted IsElement
@@ -48,13 +63,8 @@ front-any (suc l) p deep = go (tagOf p)
     go (TagRead.Fault k) = refl
     go (TagRead.Tag a s) = rw (lt-ltb 0 (suc l) (omega arith))
 
-odd : (k : ℕ) → (k % 2 ≡ 0 → ⊥) → k % 2 ≡ 1
-odd k d = by (k % 2) refl (omega arith)
-  where
-    by : (j : ℕ) → k % 2 ≡ j → k % 2 < 2 → k % 2 ≡ 1
-    by zero e l = absurd (d e)
-    by (suc zero) e l = e
-    by (suc (suc j)) e l = absurd (omega (arith, e, l))
+pub odd : (k : ℕ) → (k % 2 ≡ 0 → ⊥) → k % 2 ≡ 1
+odd k d = omega (arith, d)
 
 -- the tag here, of one octet or more
 record Tagged (m : List ℕ) (at end left from : ℕ) : Type 0 where
@@ -88,7 +98,7 @@ module _ (m : List ℕ) (at end from : ℕ) (g : at ≤ end) (h : end ≤ length
 
 module _ (m : List ℕ) (at end left : ℕ) (g : at ≤ end) (h : end ≤ length m) where
   pub whole-deep : left ≡ 0 → 0 ≡ wholePlace at (elementWalk 0 left at (span m at end))
-  whole-deep e = whole-bad at (elementWalk 0 left at (span m at end)) (λ n w. no-level left at n (span m at end) e w)
+  whole-deep e = bad-place wholePlace whole-places at (elementWalk 0 left at (span m at end)) (λ n w. no-level left at n (span m at end) e w)
 
   module _ (from : ℕ) (deep : left ≡ 0 → ⊥) (told : from ≡ tagEnd at (frontOf 1 (span m at end))) where
     pub whole-tag : from ≡ 0 → 0 ≡ wholePlace at (elementWalk 0 left at (span m at end))
@@ -156,7 +166,7 @@ module _ (m : List ℕ) (at end left : ℕ) (g : at ≤ end) (h : end ≤ length
               go (Walk.Whole j) f = omega (arith, f)
 
         -- contents that end with their octets
-        module _ (b : getD m from 0 ≡ 128 → ⊥) (stop : ℕ) (until : stop ≡ contentsEnd from (lengthOf (span m from end) false)) where
+        module _ (b : getD m from 0 ≡ 128 → ⊥) (stop : ℕ) (until : stop ≡ contentsEnd from 0 (lengthOf (span m from end) false)) where
           either-form : (c : Bool) → lengthOf (span m from end) false ≡ lengthOf (span m from end) c
           unfolding lengthBy
           either-form c = rw (length-view m from end false h, length-view m from end c h, ne-eqb (getD m from 0) 128 b)
@@ -165,7 +175,7 @@ module _ (m : List ℕ) (at end left : ℕ) (g : at ≤ end) (h : end ≤ length
           unfolding contentsEnd
           whole-stopped z = go (lengthOf (span m from end) false) refl until
             where
-              go : (n : LengthRead) → n ≡ lengthOf (span m from end) false → stop ≡ contentsEnd from n → 0 ≡ wholePlace at (elementWalk 0 left at (span m at end))
+              go : (n : LengthRead) → n ≡ lengthOf (span m from end) false → stop ≡ contentsEnd from 0 n → 0 ≡ wholePlace at (elementWalk 0 left at (span m at end))
               go (LengthRead.Fault k) e q = length-bad (constructorOf (getD m at 0)) refl k (e ∙ either-form (constructorOf (getD m at 0)))
               go (LengthRead.Definite k n) e q = absurd (omega (arith, z, q, definite-size (span m from end) false k n (LengthRead.Definite k n) e refl))
               go LengthRead.Indefinite e q = absurd (false≢true (indefinite-size (span m from end) false LengthRead.Indefinite e refl .1))
@@ -175,7 +185,7 @@ module _ (m : List ℕ) (at end left : ℕ) (g : at ≤ end) (h : end ≤ length
             unfolding contentsEnd wholePlace
             whole-leaf kind = go (lengthOf (span m from end) false) refl until
               where
-                go : (n : LengthRead) → n ≡ lengthOf (span m from end) false → stop ≡ contentsEnd from n → stop ≡ wholePlace at (elementWalk 0 left at (span m at end))
+                go : (n : LengthRead) → n ≡ lengthOf (span m from end) false → stop ≡ contentsEnd from 0 n → stop ≡ wholePlace at (elementWalk 0 left at (span m at end))
                 go (LengthRead.Fault k) e q = absurd (ends q)
                 go (LengthRead.Definite k n) e q =
                     let t = tagged in
@@ -187,7 +197,7 @@ module _ (m : List ℕ) (at end left : ℕ) (g : at ≤ end) (h : end ≤ length
             unfolding contentsEnd SizeIs
             lasts = go (lengthOf (span m from end) false) refl until
               where
-                go : (n : LengthRead) → n ≡ lengthOf (span m from end) false → stop ≡ contentsEnd from n → (k : ℕ) × (n : ℕ) × (LengthRead.Definite k n ≡ lengthOf (span m from end) false) × (k ≡ lengthSize (getD m from 0)) × (stop ≡ from + (k + n)) × (1 ≤ k) × (stop ≤ end)
+                go : (n : LengthRead) → n ≡ lengthOf (span m from end) false → stop ≡ contentsEnd from 0 n → (k : ℕ) × (n : ℕ) × (LengthRead.Definite k n ≡ lengthOf (span m from end) false) × (k ≡ lengthSize (getD m from 0)) × (stop ≡ from + (k + n)) × (1 ≤ k) × (stop ≤ end)
                 go (LengthRead.Fault k) e q = absurd (ends q)
                 go (LengthRead.Definite k n) e q =
                     let w = definite-size (span m from end) false k n (LengthRead.Definite k n) e refl in
@@ -214,34 +224,16 @@ module _ (m : List ℕ) (at end left : ℕ) (g : at ≤ end) (h : end ≤ length
                   go (Walk.Fault j q) is-i all to l = refl
                   go (Walk.Whole j) is-i all to l = omega (arith, to, series-all 0 (left - 1) st (span m st stop) j is-i, span-length m st stop l, shut-room)
 
--- A short element
+-- A primitive whose tag and length take an octet each
 
-module _ (m : List ℕ) (at end left : ℕ) (g : at ≤ end) (h : end ≤ length m) where
-  short-by : 0 < left → at + 2 + getD m (at + 1) 0 ≤ end → eqb (getD m at 0 % 32) 31 ≡ false → eqb (getD m at 0) 0 ≡ false → eqb (getD m at 0 / 32 % 2) 1 ≡ false → getD m (at + 1) 0 ≤ 127 → at + 2 + getD m (at + 1) 0 ≡ wholePlace at (elementWalk 0 left at (span m at end))
-  short-by deep room plain some leaf low =
-      let k : getD m at 0 / 32 % 2 ≡ 0 = omega (arith, eqb-false (getD m at 0 / 32 % 2) 1 leaf) in
-      let y : getD m at 0 ≡ 32 → ⊥ = λ e. omega (arith, k, e) in
-      let tag = front-one m at end h g (λ e. omega (arith, e, room)) (eqb-false (getD m at 0) 0 some) y (eqb-false (getD m at 0 % 32) 31 plain) in
-      let len : at + 2 + getD m (at + 1) 0 ≡ at + 1 + (1 + getD m (at + 1) 0) = omega arith in
-      whole-leaf m at end left g h (at + 1) (λ e. omega (arith, e, deep)) tag (λ e. omega (arith, e)) (λ e. omega (arith, e, room)) (λ e. omega (arith, e, low)) (at + 2 + getD m (at + 1) 0)
-      (len ∙ length-short m (at + 1) end (omega (arith, room)) h (omega (arith, low)) (omega (arith, room))) (λ e. omega (arith, e)) k
-
-  pub short-walk : (r : ℕ) → r ≡ shortEnd left at (end - at) (getD m at 0) (getD m (at + 1) 0) → 0 < r → r ≡ wholePlace at (elementWalk 0 left at (span m at end))
-  unfolding shortEnd
-  short-walk r is there =
-      go (eqb left 0) (ltb (end - at) 2) (eqb (getD m at 0 % 32) 31) (eqb (getD m at 0) 0) (eqb (getD m at 0 / 32 % 2) 1) (ltb 127 (getD m (at + 1) 0)) (ltb (end - at - 2) (getD m (at + 1) 0)) refl refl refl refl refl refl refl is
-    where
-      go : (a b c d e f i : Bool) → eqb left 0 ≡ a → ltb (end - at) 2 ≡ b → eqb (getD m at 0 % 32) 31 ≡ c → eqb (getD m at 0) 0 ≡ d → eqb (getD m at 0 / 32 % 2) 1 ≡ e → ltb 127 (getD m (at + 1) 0) ≡ f → ltb (end - at - 2) (getD m (at + 1) 0) ≡ i
-          → r ≡ cond a 0 (cond b 0 (cond c 0 (cond d 0 (cond e 0 (cond f 0 (cond i 0 (at + 2 + getD m (at + 1) 0))))))) → r ≡ wholePlace at (elementWalk 0 left at (span m at end))
-      go true b c d e f i ia ib ic id ie iff ii z = absurd (omega (arith, z, there))
-      go false true c d e f i ia ib ic id ie iff ii z = absurd (omega (arith, z, there))
-      go false false true d e f i ia ib ic id ie iff ii z = absurd (omega (arith, z, there))
-      go false false false true e f i ia ib ic id ie iff ii z = absurd (omega (arith, z, there))
-      go false false false false true f i ia ib ic id ie iff ii z = absurd (omega (arith, z, there))
-      go false false false false false true i ia ib ic id ie iff ii z = absurd (omega (arith, z, there))
-      go false false false false false false true ia ib ic id ie iff ii z = absurd (omega (arith, z, there))
-      go false false false false false false false ia ib ic id ie iff ii z =
-          z ∙ short-by (omega (arith, eqb-false left 0 ia)) (omega (arith, ltb-false (end - at) 2 ib, ltb-false (end - at - 2) (getD m (at + 1) 0) ii)) ic id ie (ltb-false 127 (getD m (at + 1) 0) iff)
+pub short-walk : (m : List ℕ) (at end left : ℕ) → at ≤ end → end ≤ length m → 0 < left → 2 ≤ end - at → (getD m at 0 % 32 ≡ 31 → ⊥) → (getD m at 0 ≡ 0 → ⊥) → getD m at 0 / 32 % 2 ≡ 0 → getD m (at + 1) 0 < 128 → getD m (at + 1) 0 ≤ end - at - 2
+    → at + 2 + getD m (at + 1) 0 ≡ wholePlace at (elementWalk 0 left at (span m at end))
+unfolding contentsEnd
+short-walk m at end left g h deep two plain some leaf low room =
+    let y : getD m at 0 ≡ 32 → ⊥ = λ e. omega (arith, leaf, e) in
+    let tag = front-one m at end h (omega (arith, two)) some y plain in
+    let len : at + 2 + getD m (at + 1) 0 ≡ contentsEnd (at + 1) 0 (lengthOf (span m (at + 1) end) false) = rw (length-short m (at + 1) end false h (omega (arith, two)) low (omega (arith, room, two))) (omega arith) in
+    whole-leaf m at end left g h (at + 1) (λ e. omega (arith, e, deep)) tag (λ e. omega (arith, e)) (λ e. omega (arith, e, two)) (λ e. omega (arith, e, low)) (at + 2 + getD m (at + 1) 0) len (λ e. omega (arith, e)) leaf
 
 -- A series, of which the elements from `from` to `at` are walked
 
@@ -251,27 +243,6 @@ Going place d m from end left at = place from (seriesWalk 0 left d from (span m 
 pub going-start : (place : ℕ → Walk → ℕ) (d : Bool) (m : List ℕ) (from end left : ℕ) → Going place d m from end left from
 unfolding Going
 going-start place d m from end left = refl
-
--- how a place behind a series answers for a fault, and for elements in front of it
-pub record Places (place : ℕ → Walk → ℕ) : Type 0 where
-  pub faulty : (at : ℕ) (k : FaultKind) (q : ℕ) → place at (Walk.Fault k q) ≡ 0
-  pub grows : (at n : ℕ) (w : Walk) → place at (grown n w) ≡ place (at + n) w
-
-pub whole-places : Places wholePlace
-unfolding wholePlace grown
-whole-places = record { faulty = λ at k q. refl; grows = grows }
-  where
-    grows : (at n : ℕ) (w : Walk) → wholePlace at (grown n w) ≡ wholePlace (at + n) w
-    grows at n (Walk.Fault k q) = refl
-    grows at n (Walk.Whole j) = omega arith
-
-pub pair-places : Places pairPlace
-unfolding pairPlace grown
-pair-places = record { faulty = λ at k q. refl; grows = grows }
-  where
-    grows : (at n : ℕ) (w : Walk) → pairPlace at (grown n w) ≡ pairPlace (at + n) w
-    grows at n (Walk.Fault k q) = refl
-    grows at n (Walk.Whole j) = omega arith
 
 module _ (place : ℕ → Walk → ℕ) (by : Places place) (d : Bool) (m : List ℕ) (from end left at : ℕ) (l : from ≤ at) (g : at ≤ end) (h : end ≤ length m) (going : Going place d m from end left at)
     (more : endOf d (span m at end) ≡ EndRead.More) (r : ℕ) (is : r ≡ wholePlace at (elementWalk 0 left at (span m at end))) where
@@ -283,7 +254,7 @@ module _ (place : ℕ → Walk → ℕ) (by : Places place) (d : Bool) (m : List
       go (Walk.Fault k q) e o = rw (going, series-more 0 left d at (span m at end) more, e, by .faulty at k q)
       go (Walk.Whole n) e o = absurd (omega (arith, z, o, element-size 0 left at (span m at end) n e))
 
-  pub going-on : (r ≡ 0 → ⊥) → (at < r) × (r ≤ end) × Going place d m from end left r
+  going-on : (r ≡ 0 → ⊥) → (at < r) × (r ≤ end) × Going place d m from end left r
   unfolding Going wholePlace thenWalk
   going-on z = go (elementWalk 0 left at (span m at end)) refl is
     where
@@ -292,6 +263,19 @@ module _ (place : ℕ → Walk → ℕ) (by : Places place) (d : Bool) (m : List
       go (Walk.Whole n) e o =
           let s = element-size 0 left at (span m at end) n e in
           (omega (arith, o, s), omega (arith, o, s, span-length m at end h, g), rw (going, series-more 0 left d at (span m at end) more, e, by .grows, span-drop m at end n, ← o))
+
+  module _ (some : r ≡ 0 → ⊥) where
+    pub going-less : end - r < end - at
+    going-less = let o = going-on some in omega (arith, o .0, o .1)
+
+    pub going-from : from ≤ r
+    going-from = omega (arith, going-on some .0, l)
+
+    pub going-to : r ≤ end
+    going-to = going-on some .1
+
+    pub going-again : Going place d m from end left r
+    going-again = going-on some .2
 
 -- definite contents
 abbrev pub Shutting : List ℕ → ℕ → ℕ → ℕ → ℕ → Type 0
@@ -302,28 +286,13 @@ module _ (m : List ℕ) (from end left at : ℕ) (l : from ≤ at) (g : at ≤ e
   unfolding Going wholePlace endBy
   shut-ended e = rw (going, series-ended 0 left true at (span m at end) (end-view m at end h true ∙ rw (eq-eqb (end - at) 0 (omega (arith, e))))) (omega (arith, e))
 
-  module _ (inner : at ≡ end → ⊥) (r : ℕ) (is : r ≡ wholePlace at (elementWalk 0 left at (span m at end))) where
-    shut-more : endOf true (span m at end) ≡ EndRead.More
+  module _ (inner : at ≡ end → ⊥) where
+    pub shut-more : endOf true (span m at end) ≡ EndRead.More
     unfolding endBy
     shut-more = end-view m at end h true ∙ rw (ne-eqb (end - at) 0 (λ z. inner (omega (arith, z, g))))
 
-    pub shut-bad : r ≡ 0 → 0 ≡ wholePlace from (seriesWalk 0 left true from (span m from end))
-    shut-bad z = going-bad wholePlace whole-places true m from end left at l g h going shut-more r is z
-
-    shut-on : (r ≡ 0 → ⊥) → (at < r) × (r ≤ end) × Shutting m from end left r
-    shut-on z = going-on wholePlace whole-places true m from end left at l g h going shut-more r is z
-
-    pub shut-less : (r ≡ 0 → ⊥) → end - r < end - at
-    shut-less z = let o = shut-on z in omega (arith, o .0, o .1)
-
-    pub shut-from : (r ≡ 0 → ⊥) → from ≤ r
-    shut-from z = omega (arith, shut-on z .0, l)
-
-    pub shut-to : (r ≡ 0 → ⊥) → r ≤ end
-    shut-to z = shut-on z .1
-
-    pub shut-again : (r ≡ 0 → ⊥) → Shutting m from end left r
-    shut-again z = shut-on z .2
+    pub shut-bad : (r : ℕ) → r ≡ wholePlace at (elementWalk 0 left at (span m at end)) → r ≡ 0 → 0 ≡ wholePlace from (seriesWalk 0 left true from (span m from end))
+    shut-bad r is z = going-bad wholePlace whole-places true m from end left at l g h going shut-more r is z
 
 -- indefinite contents
 abbrev pub Opening : List ℕ → ℕ → ℕ → ℕ → ℕ → Type 0
@@ -332,7 +301,7 @@ Opening m from end left at = Going pairPlace false m from end left at
 module _ (m : List ℕ) (from end left at : ℕ) (l : from ≤ at) (g : at ≤ end) (h : end ≤ length m) (going : Opening m from end left at) where
   pub open-cut : end - at < 2 → 0 ≡ pairPlace from (seriesWalk 0 left false from (span m from end))
   unfolding Going
-  open-cut e = rw going (pair-bad at (seriesWalk 0 left false at (span m at end)) (λ n w. omega (arith, e, series-before-pair 0 left at (span m at end) n w, span-length m at end h)))
+  open-cut e = rw going (bad-place pairPlace pair-places at (seriesWalk 0 left false at (span m at end)) (λ n w. omega (arith, e, series-before-pair 0 left at (span m at end) n w, span-length m at end h)))
 
   module _ (two : 2 ≤ end - at) where
     some : end - at ≡ 0 → ⊥
@@ -352,31 +321,16 @@ module _ (m : List ℕ) (from end left at : ℕ) (l : from ≤ at) (g : at ≤ e
         where
           go : (b : Bool) → eqb left 0 ≡ b → 0 ≡ wholePlace at (elementWalk 0 left at (span m at end))
           go true e = whole-deep m at end left g h (eqb-true left 0 e)
-          go false e = whole-tag m at end left g h 0 (eqb-false left 0 e) (front-zero m at end h g (λ z. omega (arith, z, two)) zeroed) refl
+          go false e = whole-tag m at end left g h 0 (eqb-false left 0 e) (front-zero m at end h (omega (arith, two)) zeroed) refl
 
       pub open-zero : (getD m (at + 1) 0 ≡ 0 → ⊥) → 0 ≡ pairPlace from (seriesWalk 0 left false from (span m from end))
       unfolding endBy
       open-zero e = going-bad pairPlace pair-places false m from end left at l g h going (end-view m at end h false ∙ rw (ne-eqb (end - at) 0 some, eq-eqb (getD m at 0) 0 zeroed, ne-eqb (end - at) 1 single, ne-eqb (getD m (at + 1) 0) 0 e)) 0 code-zero refl
 
-    module _ (first : getD m at 0 ≡ 0 → ⊥) (r : ℕ) (is : r ≡ wholePlace at (elementWalk 0 left at (span m at end))) where
-      open-more : endOf false (span m at end) ≡ EndRead.More
+    module _ (first : getD m at 0 ≡ 0 → ⊥) where
+      pub open-more : endOf false (span m at end) ≡ EndRead.More
       unfolding endBy
       open-more = end-view m at end h false ∙ rw (ne-eqb (end - at) 0 some, ne-eqb (getD m at 0) 0 first)
 
-      pub open-bad : r ≡ 0 → 0 ≡ pairPlace from (seriesWalk 0 left false from (span m from end))
-      open-bad z = going-bad pairPlace pair-places false m from end left at l g h going open-more r is z
-
-      open-on : (r ≡ 0 → ⊥) → (at < r) × (r ≤ end) × Opening m from end left r
-      open-on z = going-on pairPlace pair-places false m from end left at l g h going open-more r is z
-
-      pub open-less : (r ≡ 0 → ⊥) → end - r < end - at
-      open-less z = let o = open-on z in omega (arith, o .0, o .1)
-
-      pub open-from : (r ≡ 0 → ⊥) → from ≤ r
-      open-from z = omega (arith, open-on z .0, l)
-
-      pub open-to : (r ≡ 0 → ⊥) → r ≤ end
-      open-to z = open-on z .1
-
-      pub open-again : (r ≡ 0 → ⊥) → Opening m from end left r
-      open-again z = open-on z .2
+      pub open-bad : (r : ℕ) → r ≡ wholePlace at (elementWalk 0 left at (span m at end)) → r ≡ 0 → 0 ≡ pairPlace from (seriesWalk 0 left false from (span m from end))
+      open-bad r is z = going-bad pairPlace pair-places false m from end left at l g h going open-more r is z

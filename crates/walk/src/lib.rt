@@ -6,13 +6,13 @@ ghost use lib.ListN.{length, getD, take, drop};
 ghost use Rattle.base.specs.Number.{numberFrom};
 ghost use Rattle.element.specs.Head.{within, lengthOf};
 ghost use Rattle.element.specs.Answers.{frontOf, span, longRead, lengthSize, elementWalk, seriesWalk};
-ghost use Rattle.walk.specs.Walks.{Within, tagEnd, longEnd, contentsEnd, shortEnd, wholePlace, pairPlace};
+ghost use Rattle.walk.specs.Walks.{Within, Extended, tagEnd, contentsEnd, wholePlace, pairPlace};
 use base::wide;
 
 // The place behind the tag of more than one octet that begins here.
 fn long_tag(m: &[u8], at: usize, end: usize) -> usize
-    requires { ⌜ Within (now m) at end ⌝ }
-    ensures { λ r. ⌜ r ≡ longEnd at (end - at) (getD (now (m .entry)) (at + 1) 0) (getD (now (m .entry)) (at + 2) 0) (getD (now (m .entry)) (at + 3) 0) ⌝ }
+    requires { ⌜ Within (now m) at end × Extended (end - at) (getD (now m) at 0) ⌝ }
+    ensures { λ r. ⌜ r ≡ tagEnd at (frontOf 1 (span (now (m .entry)) at end)) ⌝ }
 {
     let left = end - at;
     if left <= 1 {
@@ -48,32 +48,33 @@ fn tag_end(m: &[u8], at: usize, end: usize) -> usize
     requires { ⌜ Within (now m) at end ⌝ }
     ensures { λ r. ⌜ r ≡ tagEnd at (frontOf 1 (span (now (m .entry)) at end)) ⌝ }
 {
-    if at == end {
+    let left = end - at;
+    if left == 0 {
         return 0;
     }
     let first = m[at];
+    if first % 32 == 31 {
+        return long_tag(m, at, end);
+    }
     if first == 0 {
         return 0;
     }
     if first == 32 {
         return 0;
     }
-    if first % 32 != 31 {
-        return at + 1;
-    }
-    long_tag(m, at, end)
+    at + 1
 }
 
-// Where contents end of whose length the `k` octets behind `from` are the number, and behind these `room` octets stand.
-fn long_count(m: &[u8], from: usize, k: usize, room: usize) -> usize
+// Where contents end of whose length the `k` octets behind `from` are the number, and behind these `room` octets stand; `past` if they pass these.
+pub fn long_count(m: &[u8], from: usize, k: usize, room: usize, past: usize) -> usize
     requires { ⌜ from + 1 + k + room ≤ length (now m) ⌝ }
-    ensures { λ r. ⌜ r ≡ contentsEnd from (within (suc k) (numberFrom 0 (take k (drop (from + 1) (now (m .entry))))) room) ⌝ }
+    ensures { λ r. ⌜ r ≡ contentsEnd from past (within (suc k) (numberFrom 0 (take k (drop (from + 1) (now (m .entry))))) room) ⌝ }
 {
     let mut value: usize = 0;
     let mut i = 0;
     while i < k {
         if value > room / 256 {
-            return 0;
+            return past;
         }
         value = value * 256 + wide(m[from + 1 + i]);
         i += 1;
@@ -81,13 +82,13 @@ fn long_count(m: &[u8], from: usize, k: usize, room: usize) -> usize
     if value <= room {
         return from + (k + 1 + value);
     }
-    0
+    past
 }
 
 // Where contents end whose length takes `k` octets behind `from`. Most take one.
 fn long_end(m: &[u8], from: usize, end: usize, k: usize) -> usize
     requires { ⌜ Within (now m) from end × (from < end) × (1 ≤ k) ⌝ }
-    ensures { λ r. ⌜ r ≡ contentsEnd from (longRead (span (now (m .entry)) from end) k) ⌝ }
+    ensures { λ r. ⌜ r ≡ contentsEnd from 0 (longRead (span (now (m .entry)) from end) k) ⌝ }
 {
     if k > 126 {
         return 0;
@@ -109,17 +110,17 @@ fn long_end(m: &[u8], from: usize, end: usize, k: usize) -> usize
     if one == 0 {
         return 0;
     }
-    long_count(m, from, k, left - k)
+    long_count(m, from, k, left - k, 0)
 }
 
 // Where contents end whose length, which is not 80, stands at `from`.
 fn contents_end(m: &[u8], from: usize, end: usize) -> usize
     requires { ⌜ Within (now m) from end × (from < end) × (getD (now m) from 0 ≡ 128 → ⊥) ⌝ }
-    ensures { λ r. ⌜ r ≡ contentsEnd from (lengthOf (span (now (m .entry)) from end) false) ⌝ }
+    ensures { λ r. ⌜ r ≡ contentsEnd from 0 (lengthOf (span (now (m .entry)) from end) false) ⌝ }
 {
     let b = m[from] as usize;
     if b < 128 {
-        if b < end - from {
+        if from + (1 + b) <= end {
             return from + (1 + b);
         }
         return 0;
@@ -128,7 +129,7 @@ fn contents_end(m: &[u8], from: usize, end: usize) -> usize
 }
 
 // Where contents begin whose length, which is good, stands at `from`.
-fn start_of(m: &[u8], from: usize) -> usize
+pub fn start_of(m: &[u8], from: usize) -> usize
     requires { ⌜ from < length (now m) ⌝ }
     ensures { λ r. ⌜ r ≡ from + lengthSize (getD (now (m .entry)) from 0) ⌝ }
 {
@@ -137,38 +138,6 @@ fn start_of(m: &[u8], from: usize) -> usize
         return from + 1;
     }
     from + (1 + (b - 128))
-}
-
-// The place behind a primitive whose tag and length take an octet each; 0 if none stands here, or no level is left.
-fn short_whole(m: &[u8], at: usize, end: usize, left: usize) -> usize
-    requires { ⌜ Within (now m) at end ⌝ }
-    ensures { λ r. ⌜ r ≡ shortEnd left at (end - at) (getD (now (m .entry)) at 0) (getD (now (m .entry)) (at + 1) 0) ⌝ }
-{
-    if left == 0 {
-        return 0;
-    }
-    let room = end - at;
-    if room < 2 {
-        return 0;
-    }
-    let first = m[at];
-    let n = m[at + 1] as usize;
-    if first % 32 == 31 {
-        return 0;
-    }
-    if first == 0 {
-        return 0;
-    }
-    if first / 32 % 2 == 1 {
-        return 0;
-    }
-    if n > 127 {
-        return 0;
-    }
-    if n > room - 2 {
-        return 0;
-    }
-    at + 2 + n
 }
 
 // Any element, walked to its bottom; `left` is the number of levels left, its own among them.
@@ -202,14 +171,28 @@ pub fn whole_at(m: &[u8], at: usize, end: usize, left: usize) -> usize
     shut_at(m, start_of(m, from), stop, left - 1)
 }
 
-// The same; most elements are short.
+// The same; most elements are primitives whose tag and length take an octet each.
 fn next_at(m: &[u8], at: usize, end: usize, left: usize) -> usize
     requires { ⌜ Within (now m) at end ⌝ }
     ensures { λ r. ⌜ r ≡ wholePlace at (elementWalk 0 left at (span (now (m .entry)) at end)) ⌝ }
 {
-    let r = short_whole(m, at, end, left);
-    if r > 0 {
-        return r;
+    let room = end - at;
+    if left > 0 {
+        if room >= 2 {
+            let first = m[at];
+            let n = m[at + 1] as usize;
+            if first % 32 != 31 {
+                if first != 0 {
+                    if first / 32 % 2 == 0 {
+                        if n < 128 {
+                            if n <= room - 2 {
+                                return at + 2 + n;
+                            }
+                        }
+                    }
+                }
+            }
+        }
     }
     whole_at(m, at, end, left)
 }

@@ -8,37 +8,21 @@ use Rattle.read_component.proofs.Ids.{octet-inside, told-wrong, told-en
 use Rattle.read_component.proofs.known_id.Statement.{statement}
 use Rattle.read_component.proofs.known_id.Tie as tie
 
-returns : tie.Need-returns
-returns c = search (needs, told-entry)
-
-start-of-requires : tie.Need-start-of-requires
-start-of-requires c κs = search (needs, entry-inside)
-
-octet-at-requires : tie.Need-octet-at-requires
-octet-at-requires c κs = search (needs, entry-from, entry-to)
-
-returns-2 : tie.Need-returns-2
-returns-2 c = search (needs, told-none)
-
 add-result : tie.Need-add-result
-add-result c = let h = octet-inside (c .before .before .before .before .before .before .before .before .before .args .m .now) (c .before .before .before .before .before .before .before .before .before .args .at) (c .before .before .before .before .before .before .before .before .before .args .stop) (c .before .before .before .before .before .before .before .before .before .pre .0 .0 .1) (c .before .before .before .before .before .before .before .before .before .pre .1) _ (c .before .before .before .before .before .before .is-component .ensures) (c .before .before .before .before .before .if1 .taken) _ (c .before .before .before .before .entry-asked .ensures) (c .before .before .before .before .before .before .before .before .before .pre .0 .0 .2) (c .before .before .before .if2 .left) _ (c .before .before .start-of .ensures) _ (c .before .octet-at .ensures) (c .if3 .left) in omega (arith, h, c .before .before .before .before .before .before .before .before .before .pre .0 .0 .2)
+add-result c =
+    let start = c .before .before .before .before .before .before .before .before .before in
+    let inside = octet-inside (start .args .m .now) (start .args .at) (start .args .stop) (start .pre .0 .0 .1) (start .pre .1) _ (c .before .before .before .before .before .before .is-component .ensures) (c .before .before .before .before .before .if1 .taken) _ (c .before .before .before .before .entry-asked .ensures) (start .pre .0 .0 .2) (c .before .before .before .if2 .left) _ (c .before .before .start-of .ensures) _ (c .before .octet-at .ensures) (c .if3 .left) in
+    omega (arith, inside, start .pre .0 .0 .2)
 
 shared-slice-read-result : tie.Need-shared-slice-read-result
-shared-slice-read-result c = octet-inside (c .before .before .before .before .before .before .before .before .before .before .args .m .now) (c .before .before .before .before .before .before .before .before .before .before .args .at) (c .before .before .before .before .before .before .before .before .before .before .args .stop) (c .before .before .before .before .before .before .before .before .before .before .pre .0 .0 .1) (c .before .before .before .before .before .before .before .before .before .before .pre .1) _ (c .before .before .before .before .before .before .before .is-component .ensures) (c .before .before .before .before .before .before .if1 .taken) _ (c .before .before .before .before .before .entry-asked .ensures) (c .before .before .before .before .before .before .before .before .before .before .pre .0 .0 .2) (c .before .before .before .before .if2 .left) _ (c .before .before .before .start-of .ensures) _ (c .before .before .octet-at .ensures) (c .before .if3 .left)
-
-cast-result : tie.Need-cast-result
-cast-result c = omega (arith, c .shared-slice-known3 .given (c .before .before .before .start-of .result + 2))
-
-add-result-2 : tie.Need-add-result-2
-add-result-2 c = omega (arith, c .shared-slice-known3 .given (c .before .before .before .start-of .result + 2))
+shared-slice-read-result c =
+    let start = c .before .before .before .before .before .before .before .before .before .before in
+    octet-inside (start .args .m .now) (start .args .at) (start .args .stop) (start .pre .0 .0 .1) (start .pre .1) _ (c .before .before .before .before .before .before .before .is-component .ensures) (c .before .before .before .before .before .before .if1 .taken) _ (c .before .before .before .before .before .entry-asked .ensures) (start .pre .0 .0 .2) (c .before .before .before .before .if2 .left) _ (c .before .before .before .start-of .ensures) _ (c .before .before .octet-at .ensures) (c .before .if3 .left)
 
 returns-3 : tie.Need-returns-3
 returns-3 c =
     let low : getD (c .before .before .before .before .before .before .before .before .before .before .args .m .now) (c .before .before .before .start-of .result + 2) 0 < 256 = omega (arith, c .shared-slice-known3 .given (c .before .before .before .start-of .result + 2)) in
     (search (told-id, low), omega (arith, low))
-
-returns-4 : tie.Need-returns-4
-returns-4 c = search (needs, told-wrong)
 
 pub known-id-spec : {M : Type 1} → statement M
 known-id-spec =
@@ -47,14 +31,14 @@ known-id-spec =
     (λ c. search needs)
     (λ c κs. search needs)
     (λ c κs. search needs)
-    returns
+    (λ c. search (needs, told-entry))
     (λ c. search needs)
-    start-of-requires
-    octet-at-requires
-    returns-2
+    (λ c κs. search (needs, entry-inside))
+    (λ c κs. search (needs, entry-from, entry-to))
+    (λ c. search (needs, told-none))
     add-result
     shared-slice-read-result
-    cast-result
-    add-result-2
+    (λ c. omega (arith, c .shared-slice-known3 .given (c .before .before .before .start-of .result + 2)))
+    (λ c. omega (arith, c .shared-slice-known3 .given (c .before .before .before .start-of .result + 2)))
     returns-3
-    returns-4)
+    (λ c. search (needs, told-wrong)))

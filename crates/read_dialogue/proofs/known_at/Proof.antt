@@ -1,41 +1,21 @@
 -- `known_at` meets its contract. Assumes nothing.
 use borrow.Author.Needs.{needs}
 use Rattle.read_place.proofs.Optional.{entry-inside, entry-from, entry-to, reads-within}
-use Rattle.read_place.proofs.Leaves.{leaves-far}
-use Rattle.read_dialogue.proofs.Pdus.{known-entry, known-far, known-near}
-use Rattle.read_dialogue.proofs.PdusLeft.{known-left}
+use Rattle.read_pdu.proofs.Taking.{opens-far, opens, sole-far, sole}
 use Rattle.read_dialogue.proofs.known_at.Statement.{statement}
 use Rattle.read_dialogue.proofs.known_at.Tie as tie
-
-returns : tie.Need-returns
-returns c = search (known-entry, leaves-far)
-
-start-of-requires : tie.Need-start-of-requires
-start-of-requires c κs = search (needs, entry-inside)
-
-pdu-at-requires : tie.Need-pdu-at-requires
-pdu-at-requires c κs = search (needs, entry-from, entry-to)
-
-returns-2 : tie.Need-returns-2
-returns-2 c = search (known-far, leaves-far)
-
-leave-requires : tie.Need-leave-requires
-leave-requires c κs = search (needs, reads-within, entry-to)
-
-returns-3 : tie.Need-returns-3
-returns-3 c = search (known-near, known-left)
 
 pub known-at-spec : {M : Type 1} → statement M
 known-at-spec =
     tie.close
     (tie.spec
     (λ c κs. search needs)
-    returns
+    (λ c. search opens-far)
     (λ c. search needs)
-    start-of-requires
-    pdu-at-requires
+    (λ c κs. search (needs, entry-inside))
+    (λ c κs. search (needs, entry-from, entry-to))
     (λ c. search needs)
-    returns-2
-    leave-requires
+    (λ c. search (opens, sole-far))
+    (λ c κs. search (needs, reads-within, entry-to))
     (λ c. search needs)
-    returns-3)
+    (λ c. search (opens, sole)))

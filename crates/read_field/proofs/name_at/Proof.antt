@@ -6,20 +6,8 @@ use Rattle.read_field.proofs.Fields.{name-none, name-good, name-bad, co
 use Rattle.read_field.proofs.name_at.Statement.{statement}
 use Rattle.read_field.proofs.name_at.Tie as tie
 
-returns : tie.Need-returns
-returns c = search name-none
-
-piece-requires : tie.Need-piece-requires
-piece-requires c κs = search count-more
-
 add-result-2 : tie.Need-add-result-2
 add-result-2 c = let h = count-room (now (c .before .before .before .before .before .before .args .m)) _ _ 6 _ _ (c .before .before .before .before .count-at .ensures) (c .before .before .before .if1 .left) in omega (arith, h)
-
-returns-2 : tie.Need-returns-2
-returns-2 c = search name-good
-
-returns-3 : tie.Need-returns-3
-returns-3 c = search name-bad
 
 pub name-at-spec : {M : Type 1} → statement M
 name-at-spec =
@@ -27,12 +15,12 @@ name-at-spec =
     (tie.spec
     (λ c κs. search needs)
     (λ c κs. search needs)
-    returns
+    (λ c. search name-none)
     (λ c. search needs)
-    piece-requires
+    (λ c κs. search count-more)
     (λ c κs. search needs)
     (λ c. search needs)
     add-result-2
-    returns-2
+    (λ c. search name-good)
     (λ c. search needs)
-    returns-3)
+    (λ c. search name-bad))

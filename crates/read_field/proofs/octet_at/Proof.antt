@@ -8,12 +8,9 @@ use Rattle.read_field.proofs.Fields.{id-none, id-good}
 use Rattle.read_field.proofs.octet_at.Statement.{statement}
 use Rattle.read_field.proofs.octet_at.Tie as tie
 
-returns : tie.Need-returns
-returns c = search id-none
-
 returns-2 : tie.Need-returns-2
 returns-2 c = let low : (i : ℕ) → getD (now (c .before .before .before .args .m)) i 0 < 256 = λ i. omega (arith, c .before .before .shared-slice-known .given i) in search (id-good, low)
 
 pub octet-at-spec : {M : Type 1} → statement M
 octet-at-spec =
-    tie.close (tie.spec (λ c κs. search needs) (λ c κs. search needs) returns (λ c. search needs) returns-2)
+    tie.close (tie.spec (λ c κs. search needs) (λ c κs. search needs) (λ c. search id-none) (λ c. search needs) returns-2)

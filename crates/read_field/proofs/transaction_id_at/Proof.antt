@@ -7,16 +7,7 @@ use Rattle.read_field.proofs.Choices.{transaction-none, transaction-goo
 use Rattle.read_field.proofs.transaction_id_at.Statement.{statement}
 use Rattle.read_field.proofs.transaction_id_at.Tie as tie
 
-returns : tie.Need-returns
-returns c = search transaction-none
-
-add-result-2 : tie.Need-add-result-2
-add-result-2 c = let h = count-room (now (c .before .before .before .args .m)) _ _ _ _ _ (c .before .count-at .ensures) (c .if1 .left) in omega (arith, h)
-
-returns-2 : tie.Need-returns-2
-returns-2 c = search transaction-good
-
 pub transaction-id-at-spec : {M : Type 1} → statement M
 transaction-id-at-spec =
     tie.close
-    (tie.spec (λ c κs. search needs) (λ c κs. search needs) returns (λ c. search needs) add-result-2 returns-2)
+    (tie.spec (λ c κs. search needs) (λ c κs. search needs) (λ c. search transaction-none) (λ c. search needs) (λ c. let h = count-room (now (c .before .before .before .args .m)) _ _ _ 4 _ (c .before .count-at .ensures) (c .if1 .left) in omega (arith, h)) (λ c. search transaction-good))

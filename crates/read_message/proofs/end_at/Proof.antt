@@ -1,23 +1,25 @@
 -- `end_at` meets its contract. Assumes nothing.
-use borrow.Author.Needs.{needs}
-use native.Mathlib.Omega.{arith}
 use denote.Ref.{now}
-use Rattle.read_place.proofs.Optional.{reads-within}
-use Rattle.read_message.proofs.Portions.{finish-far, finish-near}
-use Rattle.read_message.proofs.Leaving.{finish-left-far, finish-left}
+use borrow.Author.Needs.{needs}
+use Rattle.read_message.proofs.Told.{end-there, end-fault}
 use Rattle.read_message.proofs.end_at.Statement.{statement}
 use Rattle.read_message.proofs.end_at.Tie as tie
 
 returns : tie.Need-returns
-returns c = (finish-far _ _ _ _ (c .before .before .before .id-at .ensures .0) (c .if1 .taken), finish-left-far _ _ _ _ (c .before .before .before .id-at .ensures .0) _ _ (c .before .before .before .id-at .ensures .1) (c .if1 .taken))
-
-tail-at-requires : tie.Need-tail-at-requires
-tail-at-requires c κs = omega (arith, reads-within _ (now (c .before .before .before .before .before .before .before .before .args .m)) _ _ _ (c .before .before .before .before .id-at .ensures .0) (c .before .if1 .left))
+returns c =
+    let a = c .before .before .before .before .before .before .before .before .args in
+    let told = c .before .before .portion-fault .ensures in
+    end-fault (now (a .m)) (a .at) (a .stop) _ (c .before .before .before .before .before .leave .ensures) (now (a .out)) (c .before .before .before .before .if1 .taken) (c .before .before .before .before .before .before .before .before .pre .1) _ (told .0) _ (told .1)
 
 returns-2 : tie.Need-returns-2
-returns-2 c = (finish-near _ _ _ _ (c .before .before .before .before .before .before .before .id-at .ensures .0) (c .before .before .before .before .if1 .left) _ (c .before .before .tail-at .ensures .0), finish-left _ _ _ _ (c .before .before .before .before .before .before .before .id-at .ensures .0) _ _ (c .before .before .before .before .before .before .before .id-at .ensures .1) (c .before .before .before .before .if1 .left) _ (c .before .before .tail-at .ensures .1))
+returns-2 c = let a = c .before .before .before .before .args in end-there (now (a .m)) (a .at) (a .stop) _ (c .before .leave .ensures) (now (a .out)) (c .if1 .left)
 
 pub end-at-spec : {M : Type 1} → statement M
 end-at-spec =
     tie.close
-    (tie.spec (λ c κs. search needs) (λ c. search needs) returns tail-at-requires (λ c. search needs) returns-2)
+    (tie.spec
+    (λ c κs. search needs)
+    (λ c κs. search needs)
+    (λ c. search needs)
+    returns
+    returns-2)

@@ -1,29 +1,20 @@
 -- `id_at` meets its contract. Assumes nothing.
-use borrow.Author.Needs.{needs}
 use native.Mathlib.Omega.{arith}
-use lib.ListN.{length-set}
 use denote.Ref.{now}
-use Rattle.read_message.proofs.Fields.{reads-as, id-told, id-laid, id-room}
+use lib.ListN.{length-set}
+use borrow.Author.Needs.{needs}
+use Rattle.read_message.proofs.Fields.{id-fault, id-laid, id-room}
 use Rattle.read_message.proofs.id_at.Statement.{statement}
 use Rattle.read_message.proofs.id_at.Tie as tie
 
 returns : tie.Need-returns
-returns c = (reads-as _ _ _ _ _ _ (c .before .before .before .before .before .transaction-id-at .ensures) (c .before .before .portion-fault .ensures .0), id-told _ _ _ _ _ (c .before .before .before .before .before .transaction-id-at .ensures) _ _ _ _ (c .before .before .before .before .if1 .taken) (omega arith) (c .before .before .portion-fault .ensures .1))
+returns c = id-fault _ _ _ _ _ (c .before .before .before .before .before .transaction-id-at .ensures) (c .before .before .before .before .if1 .taken) _ _ _ _ (omega arith) _ (c .before .before .portion-fault .ensures .0) (c .before .before .portion-fault .ensures .1)
 
-sub-put-text : tie.Need-sub-put-text
-sub-put-text c = omega (arith, id-room _ (now (c .before .before .before .before .before .args .m)) _ _ _ (c .before .before .transaction-id-at .ensures) (search needs) (c .before .if1 .left))
+room : tie.Need-sub-put-text
+room c = omega (arith, id-room _ (now (c .before .before .before .before .before .args .m)) _ _ _ (c .before .before .transaction-id-at .ensures) (search needs) (c .before .if1 .left))
 
-sub-put-text-2 : tie.Need-sub-put-text-2
-sub-put-text-2 c = omega (arith, id-room _ (now (c .before .before .before .before .before .args .m)) _ _ _ (c .before .before .transaction-id-at .ensures) (search needs) (c .before .if1 .left))
-
-put-text-requires : tie.Need-put-text-requires
-put-text-requires c κs = simp length-set (omega arith)
-
-same-length-2 : tie.Need-same-length-2
-same-length-2 c = omega (arith, length-set (now (c .before .before .before .before .before .before .before .before .args .out)) (c .before .before .before .before .before .before .before .before .args .flag) 1)
-
-returns-2 : tie.Need-returns-2
-returns-2 c = search (needs, id-laid)
+room-2 : tie.Need-sub-put-text-2
+room-2 c = omega (arith, id-room _ (now (c .before .before .before .before .before .args .m)) _ _ _ (c .before .before .transaction-id-at .ensures) (search needs) (c .before .if1 .left))
 
 pub id-at-spec : {M : Type 1} → statement M
 id-at-spec =
@@ -35,8 +26,8 @@ id-at-spec =
     returns
     (λ c. search needs)
     (λ c. search needs)
-    sub-put-text
-    sub-put-text-2
-    put-text-requires
-    same-length-2
-    returns-2)
+    room
+    room-2
+    (λ c κs. simp length-set (omega arith))
+    (λ c. omega (arith, length-set (now (c .before .before .before .before .before .before .before .before .args .out)) (c .before .before .before .before .before .before .before .before .args .flag) 1))
+    (λ c. id-laid _ _ _ _ _ (c .before .before .before .before .before .transaction-id-at .ensures) (search needs) (c .before .before .before .before .if1 .left) (omega arith) _ _ _ _ (c .before .before .put-text .ensures)))

@@ -1,29 +1,29 @@
 -- `last_components_at` meets its contract. Assumes nothing.
-use borrow.Author.Needs.{needs}
 use native.Mathlib.Omega.{arith}
 use denote.Ref.{now}
+use borrow.Author.Needs.{needs}
+use mathlib.Core.Path.{refl}
+use Rattle.read_place.specs.Blames.{Blames}
+use Rattle.read_place.specs.Laying.{layComponents}
 use Rattle.read_place.proofs.Optional.{reads-within}
-use Rattle.read_place.specs.Places.{nothing}
-use Rattle.read_message.proofs.Portions.{end-none, end-far, end-near}
-use Rattle.read_message.proofs.Fields.{finishes-as}
-use Rattle.read_message.proofs.Leaving.{listed-none, listed-far, listed-near, listed-after}
+use Rattle.tcap.specs.WellFormed.{the93}
+use Rattle.tcap.specs.Productions.{componentsItem}
+use Rattle.read_row.proofs.Pairs.{last-out, last-fault, last-end}
+use Rattle.read_message.specs.Messages.{layListed}
 use Rattle.read_message.proofs.last_components_at.Statement.{statement}
 use Rattle.read_message.proofs.last_components_at.Tie as tie
 
 returns : tie.Need-returns
-returns c = (end-none _ _ _ _ _ (c .before .before .ended .ensures) (omega arith) (omega arith) (c .before .if1 .taken) _ (c .behind .ensures), listed-none (now (c .before .before .before .before .before .args .m)) (c .before .before .before .before .before .args .at) (c .before .before .before .before .before .args .stop) _ (c .before .before .ended .ensures) (c .before .if1 .taken) (now (c .before .before .before .before .before .args .out)))
+unfolding layListed
+returns c = last-out Blames 15 (componentsItem the93) layListed _ _ _ (omega arith) (omega arith) _ (c .before .before .ended .ensures) (c .before .if1 .taken) _ (c .behind .ensures) _ (λ o. refl)
 
 returns-2 : tie.Need-returns-2
-returns-2 c = (end-far _ _ _ _ _ (c .before .before .before .before .before .before .ended .ensures) (c .before .before .before .before .before .if1 .left) _ (c .before .before .before .components-at .ensures .0) (c .if2 .taken), listed-far _ _ _ _ (c .before .before .before .before .before .before .ended .ensures) (c .before .before .before .before .before .if1 .left) _ (c .before .before .before .components-at .ensures .0) _ _ (c .before .before .before .components-at .ensures .1) (c .if2 .taken))
-
-leave-requires : tie.Need-leave-requires
-leave-requires c κs = omega (arith, reads-within _ (now (c .before .before .before .before .before .before .before .before .before .args .m)) _ _ _ (c .before .before .before .components-at .ensures .0) (c .if2 .left))
+returns-2 c = last-fault Blames 15 refl (componentsItem the93) layComponents _ _ _ _ _ _ (c .before .before .before .components-at .ensures) _ (c .before .before .before .before .before .before .ended .ensures) (c .before .before .before .before .before .if1 .left) layListed (c .if2 .taken)
 
 returns-3 : tie.Need-returns-3
-returns-3 c = (end-near _ _ _ _ _ (c .before .before .before .before .before .before .before .before .before .before .before .before .ended .ensures) (c .before .before .before .before .before .before .before .before .before .before .before .if1 .left) _ (c .before .before .before .before .before .before .before .before .before .components-at .ensures .0) (c .before .before .before .before .before .before .if2 .left) _ (finishes-as nothing (now (c .before .before .before .before .before .before .before .before .before .before .before .before .before .before .before .args .m)) (c .before .before .before .before .before .before .before .before .before .components-at .result) (c .before .before .before .before .before .before .before .before .before .before .before .before .before .before .before .args .stop) (c .before .before .before .before .before .leave .result) (c .before .before .portion-fault .result) (c .before .before .before .before .before .leave .ensures) (c .before .before .portion-fault .ensures .0)), listed-after _ _ _ _ (c .before .before .before .before .before .before .before .before .before .before .before .before .ended .ensures) (c .before .before .before .before .before .before .before .before .before .before .before .if1 .left) _ (c .before .before .before .before .before .before .before .before .before .components-at .ensures .0) _ _ (c .before .before .before .before .before .before .before .before .before .components-at .ensures .1) (c .before .before .before .before .before .before .if2 .left) _ (c .before .before .before .before .before .leave .ensures) (c .before .before .before .before .if3 .taken) (omega arith) _ (c .before .before .portion-fault .ensures .1))
-
-returns-4 : tie.Need-returns-4
-returns-4 c = (end-near _ _ _ _ _ (c .before .before .before .before .before .before .before .before .ended .ensures) (c .before .before .before .before .before .before .before .if1 .left) _ (c .before .before .before .before .before .components-at .ensures .0) (c .before .before .if2 .left) _ (c .before .leave .ensures), listed-near _ _ _ _ (c .before .before .before .before .before .before .before .before .ended .ensures) (c .before .before .before .before .before .before .before .if1 .left) _ (c .before .before .before .before .before .components-at .ensures .0) _ _ (c .before .before .before .before .before .components-at .ensures .1) (c .before .before .if2 .left) _ (c .before .leave .ensures) (c .if3 .left))
+unfolding layListed
+returns-3 c =
+    last-end Blames 15 refl (componentsItem the93) layComponents _ _ _ _ _ _ (c .before .before .before .before .before .before .before .components-at .ensures) (c .before .before .before .before .if2 .left) _ _ (c .before .before .end-at .ensures) _ (c .before .before .before .before .before .before .before .before .before .before .ended .ensures) (c .before .before .before .before .before .before .before .before .before .if1 .left) layListed (λ a l. refl)
 
 pub last-components-at-spec : {M : Type 1} → statement M
 last-components-at-spec =
@@ -35,9 +35,6 @@ last-components-at-spec =
     (λ c κs. search needs)
     (λ c. search needs)
     returns-2
-    leave-requires
-    (λ c κs. search needs)
+    (λ c κs. omega (arith, reads-within _ (now (c .before .before .before .before .before .before .before .before .before .before .args .m)) _ _ _ (c .before .before .before .before .components-at .ensures .0) (c .before .if2 .left)))
     (λ c. search needs)
-    returns-3
-    (λ c. search needs)
-    returns-4)
+    returns-3)

@@ -8,12 +8,6 @@ use Rattle.read_part.proofs.Laid.{fault-one, octet-inside, id-left}
 use Rattle.read_part.proofs.id_at.Statement.{statement}
 use Rattle.read_part.proofs.id_at.Tie as tie
 
-returns : tie.Need-returns
-returns c = fault-one _ _ _ _ _ _ _ _ (c .before .octet-at .ensures) (c .if1 .taken)
-
-shared-slice-read-row : tie.Need-shared-slice-read-row
-shared-slice-read-row c = octet-inside _ _ _ _ (search needs) 2 (omega arith, omega arith, omega arith) (c .before .before .octet-at .ensures) (c .before .if1 .left)
-
 returns-2 : tie.Need-returns-2
 returns-2 c = let low : (i : ℕ) → getD (now (c .before .before .before .before .before .args .m)) i 0 < 256 = λ i. omega (arith, c .before .before .before .before .shared-slice-known .given i) in (c .before .before .octet-at .ensures, id-left _ _ _ _ (search needs) 2 (omega arith, omega arith, omega arith) (c .before .before .octet-at .ensures) (c .before .if1 .left) low _)
 
@@ -22,10 +16,10 @@ id-at-spec =
     tie.close
     (tie.spec
     (λ c κs. search needs)
-    returns
+    (λ c. fault-one _ _ _ _ _ _ _ _ (c .before .octet-at .ensures) (c .if1 .taken))
     (λ c. search needs)
     (λ c. search needs)
-    shared-slice-read-row
+    (λ c. octet-inside _ _ _ _ (search needs) 2 (omega arith, omega arith, omega arith) (c .before .before .octet-at .ensures) (c .before .if1 .left))
     (λ c. search needs)
     (λ c. search needs)
     returns-2)

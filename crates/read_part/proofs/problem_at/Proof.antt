@@ -1,21 +1,8 @@
 -- `problem_at` meets its contract. Assumes nothing.
 use borrow.Author.Needs.{needs}
-use Rattle.read_field.proofs.Choices.{problem-invoke, problem-result, problem-error, problem-general}
-use Rattle.read_part.proofs.Laid.{invoke-problem-left, result-problem-left, error-problem-left, general-problem-left}
+use Rattle.read_part.proofs.Laid.{invoke-both, result-both, error-both, general-both}
 use Rattle.read_part.proofs.problem_at.Statement.{statement}
 use Rattle.read_part.proofs.problem_at.Tie as tie
-
-returns : tie.Need-returns
-returns c = search (problem-invoke, invoke-problem-left)
-
-returns-2 : tie.Need-returns-2
-returns-2 c = search (problem-result, result-problem-left)
-
-returns-3 : tie.Need-returns-3
-returns-3 c = search (problem-error, error-problem-left)
-
-returns-4 : tie.Need-returns-4
-returns-4 c = search (problem-general, general-problem-left)
 
 pub problem-at-spec : {M : Type 1} → statement M
 problem-at-spec =
@@ -24,15 +11,15 @@ problem-at-spec =
     (λ c κs. search needs)
     (λ c κs. search needs)
     (λ c. search needs)
-    returns
+    (λ c. invoke-both _ _ _ _ (search needs) _ _ _ (c .before .before .before .before .if1 .taken) (c .before .before .before .before .before .stands .ensures) (c .before .before .problem-of .ensures))
     (λ c κs. search needs)
     (λ c κs. search needs)
     (λ c. search needs)
-    returns-2
+    (λ c. result-both _ _ _ _ (search needs) _ _ _ (c .before .before .before .before .if2 .taken) (c .before .before .before .before .before .stands2 .ensures) (c .before .before .problem-of2 .ensures))
     (λ c κs. search needs)
     (λ c κs. search needs)
     (λ c. search needs)
-    returns-3
+    (λ c. error-both _ _ _ _ (search needs) _ _ _ (c .before .before .before .before .if3 .taken) (c .before .before .before .before .before .stands3 .ensures) (c .before .before .problem-of3 .ensures))
     (λ c κs. search needs)
     (λ c. search needs)
-    returns-4)
+    (λ c. general-both _ _ _ _ (search needs) _ _ _ _ _ (c .before .before .before .before .before .before .before .before .before .stands .ensures) (c .before .before .before .before .before .before .before .stands2 .ensures) (c .before .before .before .before .before .stands3 .ensures) (c .before .before .before .before .before .before .before .before .if1 .left) (c .before .before .before .before .before .before .if2 .left) (c .before .before .before .before .if3 .left) (c .before .before .problem-of4 .ensures)))

@@ -4,12 +4,6 @@ use Rattle.read_part.proofs.Laid.{fault-one, small-inside, small-left}
 use Rattle.read_part.proofs.problem_of.Statement.{statement}
 use Rattle.read_part.proofs.problem_of.Tie as tie
 
-returns : tie.Need-returns
-returns c = fault-one _ _ _ _ _ _ _ _ (c .before .small-at .ensures) (c .if1 .taken)
-
-shared-slice-read-row : tie.Need-shared-slice-read-row
-shared-slice-read-row c = small-inside _ _ _ _ (search needs) _ _ (c .before .before .before .before .before .pre .1) (c .before .before .small-at .ensures) (c .before .if1 .left)
-
 returns-2 : tie.Need-returns-2
 returns-2 c = (c .before .before .small-at .ensures, small-left _ _ _ _ (search needs) _ _ (c .before .before .before .before .before .pre .1) (c .before .before .small-at .ensures) (c .before .if1 .left) _)
 
@@ -18,10 +12,10 @@ problem-of-spec =
     tie.close
     (tie.spec
     (λ c κs. search needs)
-    returns
+    (λ c. fault-one _ _ _ _ _ _ _ _ (c .before .small-at .ensures) (c .if1 .taken))
     (λ c. search needs)
     (λ c. search needs)
-    shared-slice-read-row
+    (λ c. small-inside _ _ _ _ (search needs) _ _ (c .before .before .before .before .before .pre .1) (c .before .before .small-at .ensures) (c .before .if1 .left))
     (λ c. search needs)
     (λ c. search needs)
     returns-2)

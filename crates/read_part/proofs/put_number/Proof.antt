@@ -6,18 +6,6 @@ use Rattle.read_part.proofs.Laid.{number-laid}
 use Rattle.read_part.proofs.put_number.Statement.{statement}
 use Rattle.read_part.proofs.put_number.Tie as tie
 
-slice-write-out-2 : tie.Need-slice-write-out-2
-slice-write-out-2 c = simp length-set (omega arith)
-
-slice-write-out-3 : tie.Need-slice-write-out-3
-slice-write-out-3 c = simp length-set (omega arith)
-
-slice-write-out-4 : tie.Need-slice-write-out-4
-slice-write-out-4 c = simp length-set (omega arith)
-
-returns : tie.Need-returns
-returns c = number-laid _ _ _
-
 pub put-number-spec : {M : Type 1} → statement M
 put-number-spec =
     tie.close
@@ -26,12 +14,12 @@ put-number-spec =
     (λ c. search needs)
     (λ c. search needs)
     (λ c. search needs)
-    slice-write-out-2
+    (λ c. simp length-set (omega arith))
     (λ c. search needs)
     (λ c. search needs)
-    slice-write-out-3
+    (λ c. simp length-set (omega arith))
     (λ c. search needs)
     (λ c. search needs)
-    slice-write-out-4
+    (λ c. simp length-set (omega arith))
     (λ c. search needs)
-    returns)
+    (λ c. number-laid _ _ _))

@@ -4,11 +4,5 @@ use Rattle.read_place.proofs.Fronts.{bad-far, bad-near}
 use Rattle.read_place.proofs.bad_field.Statement.{statement}
 use Rattle.read_place.proofs.bad_field.Tie as tie
 
-returns : tie.Need-returns
-returns c = search bad-far
-
-returns-2 : tie.Need-returns-2
-returns-2 c = search bad-near
-
 pub bad-field-spec : {M : Type 1} → statement M
-bad-field-spec = tie.close (tie.spec (λ c κs. search needs) returns (λ c. search needs) returns-2)
+bad-field-spec = tie.close (tie.spec (λ c κs. search needs) (λ c. search bad-far) (λ c. search needs) (λ c. search bad-near))

@@ -4,12 +4,6 @@ use Rattle.read_place.proofs.Fronts.{leave-ended, leave-wrong}
 use Rattle.read_place.proofs.left_at.Statement.{statement}
 use Rattle.read_place.proofs.left_at.Tie as tie
 
-returns : tie.Need-returns
-returns c = search leave-ended
-
-returns-2 : tie.Need-returns-2
-returns-2 c = search leave-wrong
-
 pub left-at-spec : {M : Type 1} → statement M
 left-at-spec =
-    tie.close (tie.spec (λ c κs. search needs) (λ c κs. search needs) returns (λ c κs. search needs) returns-2)
+    tie.close (tie.spec (λ c κs. search needs) (λ c κs. search needs) (λ c. search leave-ended) (λ c κs. search needs) (λ c. search leave-wrong))

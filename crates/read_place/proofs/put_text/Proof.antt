@@ -6,18 +6,6 @@ use Rattle.read_place.proofs.Laid.{text-laid}
 use Rattle.read_place.proofs.put_text.Statement.{statement}
 use Rattle.read_place.proofs.put_text.Tie as tie
 
-slice-write-out-2 : tie.Need-slice-write-out-2
-slice-write-out-2 c = simp length-set (omega arith)
-
-slice-write-out-3 : tie.Need-slice-write-out-3
-slice-write-out-3 c = simp length-set (omega arith)
-
-slice-write-out-4 : tie.Need-slice-write-out-4
-slice-write-out-4 c = simp length-set (omega arith)
-
-returns : tie.Need-returns
-returns c = text-laid _ _ _ _
-
 pub put-text-spec : {M : Type 1} → statement M
 put-text-spec =
     tie.close
@@ -27,12 +15,12 @@ put-text-spec =
     (λ c. search needs)
     (λ c. search needs)
     (λ c. search needs)
-    slice-write-out-2
+    (λ c. simp length-set (omega arith))
     (λ c. search needs)
     (λ c. search needs)
-    slice-write-out-3
+    (λ c. simp length-set (omega arith))
     (λ c. search needs)
     (λ c. search needs)
-    slice-write-out-4
+    (λ c. simp length-set (omega arith))
     (λ c. search needs)
-    returns)
+    (λ c. text-laid _ _ _ _))

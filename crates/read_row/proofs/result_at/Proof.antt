@@ -1,32 +1,34 @@
 -- `result_at` meets its contract. Assumes nothing.
 use borrow.Author.Needs.{needs}
+use native.Mathlib.Omega.{arith}
+use denote.Ref.{now}
+use mathlib.Core.Path.{refl}
+use Rattle.tcap.specs.WellFormed.{the93}
+use Rattle.tcap.specs.Productions.{bothItem}
+use Rattle.read_place.specs.Leaves.{untold}
+use Rattle.read_place.specs.Laying.{layReturned}
 use Rattle.read_place.proofs.Optional.{entry-inside, entry-from, entry-to}
-use Rattle.read_row.proofs.Contents.{result-none, result-entry, result-far, result-near, result-within}
-use Rattle.read_part.proofs.Laid.{fault-all}
-use Rattle.read_row.proofs.Joined.{result-left-none, result-left}
+use Rattle.read_row.proofs.Pairs.{last-out}
+use Rattle.read_row.proofs.Contents.{result-entry, result-fault, result-end, result-within}
 use Rattle.read_row.proofs.result_at.Statement.{statement}
 use Rattle.read_row.proofs.result_at.Tie as tie
 
 returns : tie.Need-returns
-returns c = search (result-none, result-left-none)
-
-returns-2 : tie.Need-returns-2
-returns-2 c = fault-all _ _ _ _ (c .before .before .before .before .before .before .args .stop) (c .before .entry-at .result) _ _ (search result-entry) (c .if2 .taken)
-
-start-of-requires : tie.Need-start-of-requires
-start-of-requires c κs = search (needs, entry-inside)
-
-coded-at-requires : tie.Need-coded-at-requires
-coded-at-requires c κs = search (needs, entry-from, entry-to)
+unfolding layReturned
+returns c = last-out untold 13 (bothItem the93) layReturned _ _ _ (omega arith) (omega arith) _ (c .before .before .ended .ensures) (c .before .if1 .taken) _ (c .behind .ensures) _ (λ o. refl)
 
 returns-3 : tie.Need-returns-3
-returns-3 c = fault-all _ _ _ _ (c .before .before .before .before .before .before .before .before .before .before .before .before .args .stop) (c .before .before .before .coded-at .result) _ _ (search result-far) (c .if3 .taken)
+returns-3 c =
+    result-fault _ _ _ (omega arith) (omega arith) _ (c .before .before .before .before .before .before .before .before .before .ended .ensures) (c .before .before .before .before .before .before .before .before .if1 .left) _ (c .before .before .before .before .before .before .before .entry-at .ensures) _ _ (omega arith) (c .before .before .before .before .before .before .if2 .left) _ (c .before .before .before .before .before .start-of .ensures) _ (c .before .before .before .coded-at .ensures) (c .if3 .taken)
 
 leave-requires : tie.Need-leave-requires
-leave-requires c κs = search (needs, result-within)
+leave-requires c κs =
+    let within = result-within (now (c .before .before .before .before .before .before .before .before .before .before .before .before .args .m)) _ _ (omega arith) (omega arith) _ (c .before .before .before .before .before .before .before .before .before .ended .ensures) (c .before .before .before .before .before .before .before .before .if1 .left) _ (c .before .before .before .before .before .before .before .entry-at .ensures) _ _ (omega arith) (c .before .before .before .before .before .before .if2 .left) _ (c .before .before .before .before .before .start-of .ensures) _ (c .before .before .before .coded-at .ensures) (c .if3 .left) in
+    ((within, search needs, search needs), search needs)
 
 returns-4 : tie.Need-returns-4
-returns-4 c = search (result-near, result-left)
+returns-4 c =
+    result-end _ _ _ (omega arith) (omega arith) _ (c .before .before .before .before .before .before .before .before .before .before .ended .ensures) (c .before .before .before .before .before .before .before .before .before .if1 .left) _ (c .before .before .before .before .before .before .before .before .entry-at .ensures) _ _ (omega arith) (c .before .before .before .before .before .before .before .if2 .left) _ (c .before .before .before .before .before .before .start-of .ensures) _ (c .before .before .before .before .coded-at .ensures) (c .before .if3 .left) _ (c .leave .ensures)
 
 pub result-at-spec : {M : Type 1} → statement M
 result-at-spec =
@@ -36,10 +38,10 @@ result-at-spec =
     (λ c κs. search needs)
     returns
     (λ c κs. search needs)
-    returns-2
+    (λ c. result-entry _ _ _ (omega arith) (omega arith) _ (c .before .before .before .ended .ensures) (c .before .before .if1 .left) _ (c .before .entry-at .ensures) _ _ (c .if2 .taken))
     (λ c. search needs)
-    start-of-requires
-    coded-at-requires
+    (λ c κs. search (needs, entry-inside))
+    (λ c κs. search (needs, entry-from, entry-to))
     (λ c. search needs)
     returns-3
     leave-requires

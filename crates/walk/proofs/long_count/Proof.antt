@@ -9,32 +9,14 @@ use mathlib.Core.Path.{_≡_}
 use Rattle.walk.proofs.long_count.Statement.{statement}
 use Rattle.walk.proofs.long_count.Tie as tie
 
-abbrev Inv-loop : tie.InvT-loop
-Inv-loop m from k room value₀ i₀ value i = (i ≤ k) × (numberFrom 0 (lengthOctets m from k) ≡ numberFrom value (drop i (lengthOctets m from k)))
-
-abbrev μ-loop : tie.MeasureT-loop
-μ-loop m from k room value₀ i₀ value i = k - i
-
-returns : tie.Need-returns Inv-loop μ-loop
-returns c = search place-early
-
-loop-again : tie.Need-loop-again Inv-loop μ-loop
-loop-again c = (search needs, search place-next)
-
-returns-2 : tie.Need-returns-2 Inv-loop μ-loop
-returns-2 c = search place-within
-
-returns-3 : tie.Need-returns-3 Inv-loop μ-loop
-returns-3 c = search place-past
-
 pub long-count-spec : {M : Type 1} → statement M
 long-count-spec =
     tie.close
     (tie.spec
-    Inv-loop
-    μ-loop
+    (λ m from k room past value₀ i₀ value i. (i ≤ k) × (numberFrom 0 (lengthOctets m from k) ≡ numberFrom value (drop i (lengthOctets m from k))))
+    (λ m from k room past value₀ i₀ value i. k - i)
     (λ c. search needs)
-    returns
+    (λ c. search place-early)
     (λ c. search needs)
     (λ c. search needs)
     (λ c. search needs)
@@ -43,9 +25,9 @@ long-count-spec =
     (λ c. search needs)
     (λ c. search needs)
     (λ c. search needs)
-    loop-again
+    (λ c. (search needs, search place-next))
     (λ c. search needs)
     (λ c. search needs)
     (λ c. search needs)
-    returns-2
-    returns-3)
+    (λ c. search place-within)
+    (λ c. search place-past))

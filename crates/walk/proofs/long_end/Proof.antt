@@ -1,8 +1,8 @@
 -- `long_end` meets its contract. Assumes nothing.
 use Rattle.element.specs.Form.{fewestOf}
 use Rattle.element.specs.Answers.{longRead}
-use Rattle.element.proofs.Views.{longBy, long-view}
-use Rattle.walk.proofs.Views.{long-low, long-one, long-past, long-more}
+use Rattle.element.proofs.Views.{longBy, long-view, low-place}
+use Rattle.walk.proofs.Views.{long-one, long-past, long-more}
 use Rattle.walk.specs.Walks.{contentsEnd}
 use Prim.Native.Nat.{_+_}
 use native.Mathlib.Omega.{arith}
@@ -11,49 +11,23 @@ use borrow.Author.Needs.{needs}
 use Rattle.walk.proofs.long_end.Statement.{statement}
 use Rattle.walk.proofs.long_end.Tie as tie
 
-returns : tie.Need-returns
-unfolding contentsEnd longRead longBy fewestOf
-returns c = search (tests, long-view)
-
-returns-2 : tie.Need-returns-2
-unfolding contentsEnd longRead longBy fewestOf
-returns-2 c = search (tests, long-view)
-
-cast-one : tie.Need-cast-one
-cast-one c = omega (arith, c .shared-slice-known2 .given (c .before .before .before .before .args .from + 1))
-
-returns-3 : tie.Need-returns-3
-returns-3 c = search long-low
-
-returns-4 : tie.Need-returns-4
-returns-4 c = search long-one
-
-returns-5 : tie.Need-returns-5
-returns-5 c = search long-past
-
-returns-6 : tie.Need-returns-6
-unfolding contentsEnd longRead longBy fewestOf
-returns-6 c = search (tests, long-view)
-
-returns-7 : tie.Need-returns-7
-returns-7 c = search long-more
-
 pub long-end-spec : {M : Type 1} → statement M
+unfolding contentsEnd
 long-end-spec =
     tie.close
     (tie.spec
-    returns
+    (λ c. unfold longRead longBy fewestOf in search (tests, long-view))
     (λ c. search needs)
     (λ c. search needs)
-    returns-2
+    (λ c. unfold longRead longBy fewestOf in search (tests, long-view))
     (λ c. search needs)
     (λ c. search needs)
-    cast-one
-    returns-3
+    (λ c. omega (arith, c .shared-slice-known2 .given (c .before .before .before .before .args .from + 1)))
+    (λ c. search low-place)
     (λ c. search needs)
     (λ c. search needs)
-    returns-4
-    returns-5
-    returns-6
+    (λ c. search long-one)
+    (λ c. search long-past)
+    (λ c. unfold longRead longBy fewestOf in search (tests, long-view))
     (λ c κs. search needs)
-    returns-7)
+    (λ c. search long-more))
