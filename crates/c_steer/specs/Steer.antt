@@ -1,8 +1,7 @@
 -- What C is told of a steering: docs/LAYOUT.md, "Answer". Assumes nothing: these are definitions.
-use Prim.Native.Nat.{ℕ, _+_, _*_, _^_}
+use Prim.Native.Nat.{ℕ, _*_, _^_}
 use mathlib.Core.{List.List}
-use Rattle.steering.specs.{declared.Steered.Steered, Layout.ruleSize, Layout.rulesIn, Steering.steering}
-use Rattle.layout.specs.Layout.{recordSize}
+use Rattle.steering.specs.{declared.Steered.Steered, Layout.rulesIn, Steering.steering}
 use Rattle.c_answer.specs.Answer.{noRule, refusalBits}
 
 -- Steering: the message m, and the octets of the rules; 32..63: a link
@@ -14,7 +13,3 @@ steeredBits (Steered.Refused f) = refusalBits f
 
 unfoldable pub steerAnswer : List ℕ → List ℕ → ℕ
 steerAnswer m rules = steeredBits (steering m (rulesIn rules))
-
--- version 2, and the sizes of a rule and a record
-abbrev pub layoutBits : ℕ
-layoutBits = 2 * 2 ^ 24 + ruleSize * 2 ^ 16 + recordSize

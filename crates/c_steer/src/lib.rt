@@ -1,6 +1,6 @@
-// A steering for C, and the sizes of a rule and a record: docs/LAYOUT.md.
+// A steering for C: docs/LAYOUT.md.
 ghost use mathlib.Core.Path.{_≡_};
-ghost use Rattle.c_steer.specs.Steer.{steeredBits, steerAnswer, layoutBits};
+ghost use Rattle.c_steer.specs.Steer.{steeredBits, steerAnswer};
 use c_answer::refusal_bits;
 use steering::Steered;
 
@@ -18,13 +18,6 @@ fn steered_bits(steered: Steered) -> u64
 pub fn steer_answer(message: &[u8], rules: &[u8]) -> u64
     ensures { λ r. ⌜ r ≡ steerAnswer (now (message .entry)) (now (rules .entry)) ⌝ }
 {
-    let steered = steering::steer_octets(message, rules);
+    let steered = steer_octets::steer_octets(message, rules);
     steered_bits(steered)
-}
-
-// Version, rule size and record size, to be held against the header.
-pub fn layout_answer() -> u32
-    ensures { λ r. ⌜ r ≡ layoutBits ⌝ }
-{
-    layout::VERSION * 16777216 + layout::RULE_SIZE * 65536 + layout::RECORD_SIZE
 }

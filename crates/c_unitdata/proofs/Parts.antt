@@ -5,7 +5,7 @@ use native.Mathlib.Omega.{arith}
 use mathlib.Core.Path.{_≡_, refl}
 use mathlib.Core.List.{List}
 use lib.ListN.{length, getD}
-use Rattle.sccp.specs.declared.{Part.Part, Unitdata.Unitdata, UnitdataFault.UnitdataFault, UnitdataRead.UnitdataRead, writing.UnitdataWriteFault.UnitdataWriteFault, writing.UnitdataWritten.UnitdataWritten}
+use Rattle.sccp.specs.declared.{Part.Part, Unitdata.Unitdata, UnitdataFault.UnitdataFault, UnitdataRead.UnitdataRead, UnitdataWriteFault.UnitdataWriteFault, UnitdataWritten.UnitdataWritten}
 use Rattle.sccp.specs.Unitdata.{readUnitdata, unitdataNumber, unitdataStatus}
 use Rattle.sccp.specs.Standing.{Stands}
 use Rattle.sccp.specs.Writing.{writingUnitdata, unitdataWriteNumber, unitdataWriteStatus}

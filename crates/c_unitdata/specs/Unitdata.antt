@@ -2,7 +2,7 @@
 use Prim.Native.Nat.{ℕ, _+_, _*_, _%_, _^_}
 use mathlib.Core.{List.List}
 use lib.{ListN.length}
-use Rattle.sccp.specs.{declared.Part.Part, declared.UnitdataRead.UnitdataRead, declared.writing.UnitdataWritten.UnitdataWritten, Unitdata.readUnitdata, Unitdata.unitdataNumber, Writing.writingUnitdata, Writing.unitdataWriteNumber}
+use Rattle.sccp.specs.{declared.Part.Part, declared.UnitdataRead.UnitdataRead, declared.UnitdataWritten.UnitdataWritten, Unitdata.readUnitdata, Unitdata.unitdataNumber, Writing.writingUnitdata, Writing.unitdataWriteNumber}
 use Rattle.c_answer.specs.Answer.{lengthBits}
 
 -- 17 bits: 0..8 a place, 9..16 a length

@@ -5,11 +5,11 @@ ghost use Rattle.c_unitdata.specs.Unitdata.{partBits, unitdataBits, unit
 ghost use Rattle.sccp.specs.Writing.{leavesUnitdata};
 use sccp::Part;
 use sccp::UnitdataRead;
-use sccp::read_unitdata;
-use sccp::unitdata_number;
-use sccp::writing::UnitdataWritten;
-use sccp::writing::unitdata_write_number;
-use sccp::writing::write_unitdata;
+use sccp::UnitdataWritten;
+use sccp_read::read_unitdata;
+use sccp_read::unitdata_number;
+use sccp_write::unitdata_write_number;
+use sccp_write::write_unitdata;
 
 // Place and length side by side.
 fn part_bits(part: Part) -> u64

@@ -14,11 +14,11 @@ use Rattle.tcap.specs.declared.{Record.Record, Outcome.Outcome}
 use Rattle.tcap.specs.Record.{blankRow, meaningOf, Same}
 use Rattle.tcap.specs.Reading.{reading}
 use Rattle.write_check_row.specs.Verdict.{counted, allParts, allRanges, allLie, allShaped}
-use Rattle.writer.specs.declared.{WriteFault.WriteFault, Written.Written}
-use Rattle.writer.specs.Writing.{writeNumber, messageOf, writing, RefusedWith, leaves, Writes}
-use Rattle.writer.specs.Octets.{writingOctets, leavesOctets}
-use Rattle.writer.proofs.Promises.{success, success-buffer, reads-back}
-use Rattle.writer.proofs.Standing.{octets-fit}
+use Rattle.writing.specs.declared.{WriteFault.WriteFault, Written.Written}
+use Rattle.writing.specs.Writing.{writeNumber, messageOf, writing, RefusedWith, leaves, Writes}
+use Rattle.writing.specs.Octets.{writingOctets, leavesOctets}
+use Rattle.writing.proofs.Promises.{success, success-buffer, reads-back}
+use Rattle.writing.proofs.Standing.{octets-fit}
 use Rattle.layout.specs.Layout.{mostRows, recordSize, isRecord, recordIn, recordOctets}
 use Rattle.layout.specs.Fits.{RecordFits}
 use Rattle.layout.proofs.RoundTrip as layout

@@ -6,12 +6,12 @@ use mathlib.Core.Logic.{_↔_, _⊎_, inl, inr}
 use mathlib.Core.Bool.{true, false}
 use mathlib.Core.List.{List}
 use lib.ListN.{length}
-use Rattle.writer.specs.declared.{WriteFault.WriteFault, Written.Written}
-use Rattle.writer.specs.Writing.{writeNumber, writing}
-use Rattle.writer.specs.Octets.{writingOctets, leavesOctets}
-use Rattle.writer.specs.Shortest.{WritesShortest, Says, Refuses}
-use Rattle.writer.proofs.Promises.{success}
-use Rattle.writer.proofs.Shortest.{octets-shortest, says-same}
+use Rattle.writing.specs.declared.{WriteFault.WriteFault, Written.Written}
+use Rattle.writing.specs.Writing.{writeNumber, writing}
+use Rattle.writing.specs.Octets.{writingOctets, leavesOctets}
+use Rattle.writing.specs.Shortest.{WritesShortest, Says, Refuses}
+use Rattle.writing.proofs.Promises.{success}
+use Rattle.writing.proofs.Shortest.{octets-shortest, says-same}
 use Rattle.layout.specs.Layout.{isRecord, recordIn}
 use Rattle.c_answer.specs.Answer.{lengthBits}
 use Rattle.c_write.specs.Write.{writtenBits, writeAnswer}

@@ -2,7 +2,7 @@
 use Prim.Native.Nat.{ℕ}
 use mathlib.Core.{List.List}
 use lib.{ListN.length}
-use Rattle.writer.specs.{declared.Written.Written, Writing.writeNumber, Octets.writingOctets}
+use Rattle.writing.specs.{declared.Written.Written, Writing.writeNumber, Octets.writingOctets}
 use Rattle.c_answer.specs.Answer.{lengthBits}
 
 -- Writing: the octets o of a record, the material m, and the room for the message, which is then `leavesOctets o m out`

@@ -1,10 +1,10 @@
 // A writing for C: docs/LAYOUT.md.
 ghost use mathlib.Core.Path.{_≡_};
-ghost use Rattle.writer.specs.Octets.{leavesOctets};
-ghost use Rattle.writer.specs.Writing.{writeNumber};
+ghost use Rattle.writing.specs.Octets.{leavesOctets};
+ghost use Rattle.writing.specs.Writing.{writeNumber};
 ghost use Rattle.c_write.specs.Write.{writtenBits, writeAnswer};
-use writer::WriteFault;
-use writer::Written;
+use writing::WriteFault;
+use writing::Written;
 
 // Document 01's number of a refused writing.
 fn write_number(fault: WriteFault) -> u64

@@ -2,12 +2,13 @@
 ghost use mathlib.Core.Path.{_≡_};
 ghost use Rattle.c_read.specs.Read.{readAnswer, readRoom};
 ghost use Rattle.c_write.specs.Write.{writeAnswer};
-ghost use Rattle.c_steer.specs.Steer.{steerAnswer, layoutBits};
+ghost use Rattle.c_steer.specs.Steer.{steerAnswer};
+ghost use Rattle.c_layout.specs.Sizes.{layoutBits};
 ghost use Rattle.c_list.specs.List.{listAnswer, listRoom};
 ghost use Rattle.c_unitdata.specs.Unitdata.{unitdataAnswer, unitdataWriteAnswer};
 ghost use Rattle.sccp.specs.Writing.{leavesUnitdata};
-ghost use Rattle.table_octets.specs.Octets.{replying, leaving, replyNumber};
-ghost use Rattle.writer.specs.Octets.{leavesOctets};
+ghost use Rattle.table_layout.specs.Octets.{replying, leaving, replyNumber};
+ghost use Rattle.writing.specs.Octets.{leavesOctets};
 
 // Reads a message into the room for a record: 0, or the refusal. Too little room is 25, before all else, and a refusal leaves the room alone.
 #[no_mangle]
@@ -55,7 +56,7 @@ pub extern "C" fn goldenskep_transaction(
     ensures { λ r. ⌜ r ≡ replyNumber (replying (now (table .entry)) event (now (ours .entry)) (now (partner .entry))) ⌝ }
     ensures { λ _. ⌜ now (table .exit) ≡ leaving (now (table .entry)) event (now (ours .entry)) (now (partner .entry)) ⌝ }
 {
-    table_octets::step_number(table, event, ours, partner)
+    table_number::step_number(table, event, ours, partner)
 }
 
 // Version, rule size and record size, to be held against the header.
@@ -63,7 +64,7 @@ pub extern "C" fn goldenskep_transaction(
 pub extern "C" fn goldenskep_layout() -> u32
     ensures { λ r. ⌜ r ≡ layoutBits ⌝ }
 {
-    c_steer::layout_answer()
+    c_layout::layout_answer()
 }
 
 // Where the parts of a unitdata stand, or the refusal.

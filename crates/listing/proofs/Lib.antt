@@ -1,4 +1,3 @@
-pub mod Rows
 pub mod Longest
 pub mod Room
 pub mod Specimens

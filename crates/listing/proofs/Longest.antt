@@ -30,8 +30,9 @@ use Rattle.tcap.proofs.Refusals.{numbered}
 use Rattle.tcap.proofs.Promises.{located-reads}
 use Rattle.digits.specs.Digits.{decimal, signed, hex, number, value}
 use Rattle.digits.proofs.Digits.{tens, decimal-few, signed-few, hex-length}
-use Rattle.listing.specs.Fields.{kindText, dialogueText, wordText, idText, linkedText, placeText, parameterText, problemOf, problemText, answerText, stringText, transactionText, origText, destText, idsText, codeText}
-use Rattle.listing.specs.Listing.{refusalText, rejectText, codedText, returnedText, partsText, rowText, rowsText, headText, recordText, outcomeText, listingOf}
+use Rattle.listing_fields.specs.Fields.{kindText, dialogueText, wordText, idText, linkedText, placeText, parameterText, problemOf, problemText, answerText, stringText, transactionText, origText, destText, idsText, codeText}
+use Rattle.listing_lines.specs.Lines.{refusalText, rejectText, codedText, returnedText, partsText, rowText, rowsText, headText}
+use Rattle.listing.specs.Listing.{recordText, outcomeText, listingOf}
 
 -- 49 for the first line, 69 for each of 16 components; a refusal has less
 abbrev pub longestListing : ℕ

@@ -9,8 +9,9 @@ use Rattle.element.specs.Fault.{numberOf}
 use Rattle.tcap.specs.Reading.{reading}
 use Rattle.tcap.proofs.Computing.{outcomeOf}
 use Rattle.digits.specs.Digits.{lastDigits, decimal, signed, hexDigit, hex, number, value}
-use Rattle.listing.specs.Fields.{kindText, dialogueText, wordText, idText, linkedText, placeText, parameterText, problemOf, problemText, answerText, stringText, transactionText, origText, destText, idsText, codeText}
-use Rattle.listing.specs.Listing.{refusalText, rejectText, codedText, returnedText, partsText, rowText, rowsText, headText, recordText, outcomeText, listingOf}
+use Rattle.listing_fields.specs.Fields.{kindText, dialogueText, wordText, idText, linkedText, placeText, parameterText, problemOf, problemText, answerText, stringText, transactionText, origText, destText, idsText, codeText}
+use Rattle.listing_lines.specs.Lines.{refusalText, rejectText, codedText, returnedText, partsText, rowText, rowsText, headText}
+use Rattle.listing.specs.Listing.{recordText, outcomeText, listingOf}
 
 pub record Listed : Type 0 where
   pub octets : List ℕ

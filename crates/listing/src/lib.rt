@@ -1,13 +1,10 @@
 // Lists a reading as text in a lent buffer.
-mod field;
-mod line;
-
 ghost use mathlib.Core.Path.{_≡_};
 ghost use Rattle.base.specs.Put.{Put};
 ghost use Rattle.listing.specs.Listing.{recordText, listingOf, listedOf, bufferAfter};
-use crate::line::put_head;
-use crate::line::put_refusal;
-use crate::line::put_rows;
+use listing_lines::put_head;
+use listing_lines::put_refusal;
+use listing_lines::put_rows;
 use tcap::Outcome;
 use tcap::Reading;
 use tcap::Record;

@@ -14,9 +14,9 @@ use Rattle.digits.proofs.Digits.{hex-length}
 use Rattle.tcap.specs.declared.{Record.Record, Refusal.Refusal, Outcome.Outcome, Reading.Reading}
 use Rattle.tcap.specs.Reading.{reading}
 use Rattle.tcap.proofs.Promises.{accepted-reads}
-use Rattle.writer.specs.declared.{WriteFault.WriteFault, Written.Written}
-use Rattle.writer.specs.Writing.{messageOf, writing, leaves, Writes}
-use Rattle.writer.proofs.Promises.{success, success-buffer, leaves-message, leaves-alone, read-written}
+use Rattle.writing.specs.declared.{WriteFault.WriteFault, Written.Written}
+use Rattle.writing.specs.Writing.{messageOf, writing, leaves, Writes}
+use Rattle.writing.proofs.Promises.{success, success-buffer, leaves-message, leaves-alone, read-written}
 use Rattle.readings.specs.Rewritten.{ofAccepted, rewritten, lineOf}
 
 module _ (r : Record) (m out : List ℕ) where

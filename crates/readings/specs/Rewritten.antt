@@ -4,7 +4,7 @@ use mathlib.Core.List.{List, [], _++_}
 use Rattle.base.specs.Text.{text}
 use Rattle.digits.specs.Digits.{hex}
 use Rattle.tcap.specs.declared.{Outcome.Outcome, Reading.Reading}
-use Rattle.writer.specs.Writing.{messageOf}
+use Rattle.writing.specs.Writing.{messageOf}
 
 -- nothing of a message that was refused
 unfoldable pub ofAccepted : Outcome → List ℕ → List ℕ

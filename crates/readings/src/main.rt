@@ -6,7 +6,7 @@ ghost use lib.ListN.{length, take};
 ghost use Rattle.io.specs.Counts.{Counts};
 ghost use Rattle.base.specs.Put.{Put};
 ghost use Rattle.tcap.specs.Reading.{reading};
-ghost use Rattle.writer.specs.Writing.{Writes};
+ghost use Rattle.writing.specs.Writing.{Writes};
 ghost use Rattle.readings.specs.Rewritten.{rewritten, lineOf};
 use base::put_octet;
 use base::put_part;
@@ -19,8 +19,8 @@ use report::list_into;
 use tcap::Outcome;
 use tcap::Reading;
 use tcap::Record;
-use writer::Written;
 use writer::write;
+use writing::Written;
 
 // A message, read so many times more.
 fn read_again(message: &[u8], more: usize) -> Reading

@@ -1,4 +1,3 @@
-pub mod Reading
 pub mod Ranges
 pub mod Standing
 pub mod Promises

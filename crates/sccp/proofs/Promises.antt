@@ -8,7 +8,7 @@ use mathlib.Core.List.{List}
 use lib.ListN.{length, getD, drop}
 use lib.Dec.{leb, eqb}
 use borrow.Author.Tests.{eqb-true, eq-eqb, leb-true, leb-false, le-leb, lt-leb}
-use Rattle.sccp.specs.declared.{Unitdata.Unitdata, UnitdataFault.UnitdataFault, UnitdataRead.UnitdataRead, writing.UnitdataWriteFault.UnitdataWriteFault, writing.UnitdataWritten.UnitdataWritten}
+use Rattle.sccp.specs.declared.{Unitdata.Unitdata, UnitdataFault.UnitdataFault, UnitdataRead.UnitdataRead, UnitdataWriteFault.UnitdataWriteFault, UnitdataWritten.UnitdataWritten}
 use Rattle.sccp.specs.Unitdata.{partAt, inside, separate, addressed, unless, judged, readUnitdata, unitdataNumber, unitdataStatus}
 use Rattle.sccp.specs.Standing.{Inside, Separate, Addressed, unitdataAt, Stands, Ranged, laidOut, octetsOf}
 use Rattle.sccp.specs.Writing.{unitdataOctets, inRange, writingUnitdata, behind, leavesUnitdata, unitdataWriteNumber, unitdataWriteStatus}

@@ -9,7 +9,7 @@ use lib.Dec.{leb}
 use borrow.Author.Tests.{leb-true, le-leb, lt-leb}
 use Rattle.base.specs.Put.{Put}
 use Rattle.base.proofs.Puts.{put-front}
-use Rattle.sccp.specs.declared.writing.{UnitdataWriteFault.UnitdataWriteFault, UnitdataWritten.UnitdataWritten}
+use Rattle.sccp.specs.declared.{UnitdataWriteFault.UnitdataWriteFault, UnitdataWritten.UnitdataWritten}
 use Rattle.sccp.specs.Standing.{Ranged}
 use Rattle.sccp.specs.Writing.{mostAddressed, mostData, counted, unitdataOctets, inRange, writingUnitdata, behind, leavesUnitdata}
 

@@ -4,7 +4,7 @@ use Prim.Native.Nat.{ℕ}
 use mathlib.Core.Path.{_≡_, refl}
 use mathlib.Core.List.{List, [], _∷_, _++_, map}
 use lib.ListN.{take, replicate}
-use Rattle.sccp.specs.declared.{UnitdataRead.UnitdataRead, writing.UnitdataWritten.UnitdataWritten}
+use Rattle.sccp.specs.declared.{UnitdataRead.UnitdataRead, UnitdataWritten.UnitdataWritten}
 use Rattle.sccp.specs.Unitdata.{apart, separate, judged, readUnitdata, unitdataNumber}
 use Rattle.sccp.specs.Writing.{unitdataOctets, inRange, writingUnitdata, behind, leavesUnitdata, unitdataWriteNumber}
 

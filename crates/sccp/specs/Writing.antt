@@ -2,7 +2,7 @@
 use Prim.Native.Nat.{ℕ, _+_}
 use mathlib.Core.{Bool.Bool, Bool._&&_, List.List, List._∷_, List._++_}
 use lib.{ListN.length, ListN.drop, Dec.leb}
-use Rattle.sccp.specs.declared.{writing.UnitdataWriteFault.UnitdataWriteFault, writing.UnitdataWritten.UnitdataWritten}
+use Rattle.sccp.specs.declared.{UnitdataWriteFault.UnitdataWriteFault, UnitdataWritten.UnitdataWritten}
 use Rattle.sccp.specs.Unitdata.{typeOctet, unless}
 
 -- the numbers of document 02

@@ -4,10 +4,8 @@ pub mod octets;
 ghost use mathlib.Core.Path.{_≡_};
 ghost use Prim.Native.Nat.{_≤_};
 ghost use lib.ListN.{length};
-ghost use Rattle.tcap.specs.Reading.{reading};
-ghost use Rattle.steering.specs.Layout.{rulesIn};
-ghost use Rattle.steering.specs.Looked.{firstIn, KeyIs};
-ghost use Rattle.steering.specs.Steering.{kindFits, codeFits, ruleFits, firstFit, chosen, answered, steering};
+ghost use Rattle.steering.specs.Looked.{firstIn};
+ghost use Rattle.steering.specs.Steering.{kindFits, codeFits, chosen, answered};
 use crate::octets::signed_in;
 use base::piece;
 use tcap::Outcome;
@@ -61,7 +59,7 @@ pub enum Choice {
 }
 
 // The local operation code of the first component, from the octets of a record. The count is asked first: where there is no component, the octets behind the head mean nothing.
-fn first_in(octets: &[u8]) -> FirstCode
+pub fn first_in(octets: &[u8]) -> FirstCode
     requires { ⌜ 56 ≤ length (now octets) ⌝ }
     ensures { λ r. ⌜ r ≡ firstIn (now (octets .entry)) ⌝ }
 {
@@ -77,23 +75,8 @@ fn first_in(octets: &[u8]) -> FirstCode
     FirstCode::Local(signed_in(piece(octets, 52, 4)))
 }
 
-// Reads a message, once, for what the rules look at. Of a refused one nothing but the outcome matters.
-fn key_of(message: &[u8]) -> Key
-    ensures { λ r. ⌜ KeyIs (reading (now (message .entry)) .outcome) (reading (now (message .entry))) r ⌝ }
-{
-    let mut octets = [0u8; 428];
-    let outcome = read::read_octets(message, &mut octets);
-    let tag = octets[0];
-    let first = first_in(&octets);
-    Key {
-        outcome: outcome,
-        tag: tag,
-        first: first,
-    }
-}
-
 // A message's tag is one of the five, so any other number fits nothing.
-fn kind_fits(asked: u8, tag: u8) -> bool
+pub fn kind_fits(asked: u8, tag: u8) -> bool
     ensures { λ r. ⌜ r ≡ kindFits asked tag ⌝ }
 {
     if asked == ANY_KIND {
@@ -103,7 +86,7 @@ fn kind_fits(asked: u8, tag: u8) -> bool
 }
 
 // A code is asked of an Invoke with a local code, and of nothing else.
-fn code_fits(asked: RuleCode, first: FirstCode) -> bool
+pub fn code_fits(asked: RuleCode, first: FirstCode) -> bool
     ensures { λ r. ⌜ r ≡ codeFits asked first ⌝ }
 {
     match asked {
@@ -113,32 +96,6 @@ fn code_fits(asked: RuleCode, first: FirstCode) -> bool
             FirstCode::Local(value) => wanted == value,
         },
     }
-}
-
-// Whether a rule fits a message of this tag and first component.
-fn rule_fits(rule: Rule, tag: u8, first: FirstCode) -> bool
-    ensures { λ r. ⌜ r ≡ ruleFits rule tag first ⌝ }
-{
-    let code = rule.code;
-    if kind_fits(rule.kind, tag) {
-        return code_fits(code, first);
-    }
-    false
-}
-
-// Proved by hand, since it walks a slice of structs: every test is in `rule_fits`.
-fn first_fit(rules: &[Rule], tag: u8, first: FirstCode) -> Choice
-    ensures { λ r. ⌜ r ≡ firstFit (now (rules .entry)) tag first ⌝ }
-{
-    let mut i = 0;
-    while i < rules.len() {
-        let rule = rules[i];
-        if rule_fits(rule, tag, first) {
-            return Choice::Link(rule.link);
-        }
-        i = i + 1;
-    }
-    Choice::NoRule
 }
 
 // What the rules say of a message that was read.
@@ -152,31 +109,11 @@ fn link_of(choice: Choice) -> Steered
 }
 
 // An unreadable message gets the reader's refusal, whatever the rules say.
-fn answer(outcome: Outcome, choice: Choice) -> Steered
+pub fn answer(outcome: Outcome, choice: Choice) -> Steered
     ensures { λ r. ⌜ r ≡ answered outcome choice ⌝ }
 {
     match outcome {
         Outcome::Accepted => link_of(choice),
         Outcome::Refused(refusal) => Steered::Refused(refusal),
     }
-}
-
-// The link of the first rule that fits a message, "no rule", or the reader's refusal. Proved by hand, since it takes a slice of structs: three calls, and no test.
-pub fn steer(message: &[u8], rules: &[Rule]) -> Steered
-    ensures { λ r. ⌜ r ≡ steering (now (message .entry)) (now (rules .entry)) ⌝ }
-{
-    let key = key_of(message);
-    let choice = first_fit(rules, key.tag, key.first);
-    answer(key.outcome, choice)
-}
-
-// What `steer` answers, over rules as octets.
-pub fn steer_octets(message: &[u8], rules: &[u8]) -> Steered
-    ensures { λ r. ⌜ r ≡ steering (now (message .entry)) (rulesIn (now (rules .entry))) ⌝ }
-{
-    let key = key_of(message);
-    let outcome = key.outcome;
-    let first = key.first;
-    let choice = octets::first_in(rules, key.tag, first);
-    answer(outcome, choice)
 }

@@ -1,10 +1,10 @@
 // The table of open transactions as 768 octets that a program in C keeps, changed in place: 64 entries of 12, in the layout of docs/LAYOUT.md.
 ghost use mathlib.Core.Path.{_≡_};
-ghost use Prim.Native.Nat.{_≤_, _<_};
+ghost use Prim.Native.Nat.{_≤_};
 ghost use lib.ListN.{length};
 ghost use Rattle.transaction_states.specs.Events.{beginsOf, takenOf};
-ghost use Rattle.open_transactions.specs.Table.{holds, refusalNumber, isFree, findFrom, beginDeed, otherDeed, foundDeed, deedOf, Inside, Doable};
-ghost use Rattle.table_octets.specs.Octets.{tableSize, eventIn, entriesIn, octetsDone, replying, leaving, doneNumber, takenNumber, replyNumber, InTable, Known};
+ghost use Rattle.open_transactions.specs.Table.{holds, isFree, findFrom, beginDeed, otherDeed, foundDeed, deedOf, Inside, Doable};
+ghost use Rattle.table_layout.specs.Octets.{tableSize, eventIn, entriesIn, octetsDone, replying, leaving, Known};
 use base::after;
 use entry_octets::ENTRY_SIZE;
 use entry_octets::id_word;
@@ -13,6 +13,7 @@ use entry_octets::put_blank;
 use entry_octets::put_entry;
 use entry_octets::put_partner;
 use entry_octets::state_in;
+use table_layout::Reply;
 use transaction_states::Begins;
 use transaction_states::Deed;
 use transaction_states::Event;
@@ -32,12 +33,6 @@ use transaction_states::told_by;
 const ENTRIES: usize = 64;
 
 pub const TABLE_SIZE: usize = 768;
-
-// How a call on lent octets ends.
-pub enum Reply {
-    NoRoom,
-    Answer(Taken),
-}
 
 // The page's order, each sent then received.
 fn event_in(number: u8) -> Event
@@ -192,47 +187,4 @@ pub fn step_octets(table: &mut [u8], number: u8, ours: &[u8], partner: &[u8]) ->
     let deed = choose_in(table, event, ours, partner);
     let taken = carry_out_in(table, deed, ours, told);
     Reply::Answer(taken)
-}
-
-fn refusal_number(refusal: TableRefusal) -> u64
-    ensures { λ r. ⌜ r ≡ refusalNumber refusal ⌝ }
-{
-    match refusal {
-        TableRefusal::BadId => 40,
-        TableRefusal::InUse => 41,
-        TableRefusal::Unknown => 41,
-        TableRefusal::NotAllowed => 42,
-        TableRefusal::Full => 43,
-    }
-}
-
-// What was done in which room, above the status, which is 0.
-fn done_number(what: u64, room: usize) -> u64
-    requires { ⌜ (what < 4) × (room < 64) ⌝ }
-    ensures { λ r. ⌜ r ≡ doneNumber what room ⌝ }
-{
-    what * 256 + room as u64 * 65536
-}
-
-fn taken_number(taken: Taken) -> u64
-    requires { ⌜ InTable taken ⌝ }
-    ensures { λ r. ⌜ r ≡ takenNumber taken ⌝ }
-{
-    match taken {
-        Taken::Refused(refusal) => refusal_number(refusal),
-        Taken::Opened(room) => done_number(1, room),
-        Taken::Kept(room) => done_number(2, room),
-        Taken::Closed(room) => done_number(3, room),
-    }
-}
-
-// The same step, answered in one number: the status in its lowest octet, then what was done, then the entry.
-pub fn step_number(table: &mut [u8], number: u8, ours: &[u8], partner: &[u8]) -> u64
-    ensures { λ r. ⌜ r ≡ replyNumber (replying (now (table .entry)) number (now (ours .entry)) (now (partner .entry))) ⌝ }
-    ensures { λ r. ⌜ now (table .exit) ≡ leaving (now (table .entry)) number (now (ours .entry)) (now (partner .entry)) ⌝ }
-{
-    match step_octets(table, number, ours, partner) {
-        Reply::NoRoom => 25,
-        Reply::Answer(taken) => taken_number(taken),
-    }
 }

@@ -1,22 +1,16 @@
-// Whether a record may be written, and how many octets the message has, told in one pass.
+// Whether a dialogue portion may be written, and how many octets it has, told in one pass.
 ghost use mathlib.Core.Path.{_≡_};
 ghost use Rattle.tcap.specs.declared.Dialogue.{Dialogue};
-ghost use Rattle.write_check_row.specs.Verdict.{origThere, destThere, causeThere};
-ghost use Rattle.write_check.specs.Whole.{externalJudged, pduJudged, numberJudged, sourceJudged, origFits, destFits, restFits, partsJudged, infoJudged, contextJudged, outsideJudged, answerJudged, dialogueJudged, origJudged, destJudged, portionOf, behindJudged, messageJudged};
+ghost use Rattle.write_check.specs.Whole.{externalJudged, pduJudged, numberJudged, sourceJudged, infoJudged, contextJudged, outsideJudged, answerJudged, dialogueJudged};
 use tcap::Diagnostic;
 use tcap::Dialogue;
 use tcap::LEFT_AT_5;
 use tcap::LEFT_AT_7;
 use tcap::MOST_ABORT_SOURCE;
 use tcap::MOST_CAUSE;
-use tcap::MOST_COMPONENTS;
 use tcap::MOST_PROVIDER_DIAGNOSTIC;
 use tcap::MOST_RESULT;
-use tcap::MOST_TRANSACTION_ID_OCTETS;
 use tcap::MOST_USER_DIAGNOSTIC;
-use tcap::MessageKind;
-use tcap::OptionalDest;
-use tcap::OptionalOrig;
 use tcap::OptionalSpan;
 use tcap::Span;
 use tcap::name_kind;
@@ -29,7 +23,6 @@ use write_check_row::octet_judged;
 use write_check_row::octets_judged;
 use write_check_row::octets_of;
 use write_check_row::series_judged;
-use write_check_row::sized_judged;
 
 // BE around a series of 28, which stand at level 7.
 fn info_judged(info: OptionalSpan, material: &[u8]) -> Judged
@@ -144,7 +137,7 @@ fn outside_octets_judged(name: Span, octets: Span, material: &[u8]) -> Judged
     external_judged(outside_judged(name, material), held)
 }
 
-fn dialogue_judged(dialogue: Dialogue, material: &[u8]) -> Judged
+pub fn dialogue_judged(dialogue: Dialogue, material: &[u8]) -> Judged
     ensures { λ r. ⌜ r ≡ dialogueJudged (now (material .entry)) dialogue ⌝ }
 {
     match dialogue {
@@ -166,175 +159,4 @@ fn dialogue_judged(dialogue: Dialogue, material: &[u8]) -> Judged
         ),
         Dialogue::OutsideOctets { name, octets } => outside_octets_judged(name, octets, material),
     }
-}
-
-// 48 and an ID.
-fn orig_judged(orig: OptionalOrig, material: &[u8]) -> Judged
-    ensures { λ r. ⌜ r ≡ origJudged (now (material .entry)) orig ⌝ }
-{
-    match orig {
-        OptionalOrig::NoOrig => Judged::Fine(0),
-        OptionalOrig::Orig(id) => {
-            let octets = id.0.octets;
-            around(sized_judged(octets, MOST_TRANSACTION_ID_OCTETS, material))
-        }
-    }
-}
-
-// 49 and an ID.
-fn dest_judged(dest: OptionalDest, material: &[u8]) -> Judged
-    ensures { λ r. ⌜ r ≡ destJudged (now (material .entry)) dest ⌝ }
-{
-    match dest {
-        OptionalDest::NoDest => Judged::Fine(0),
-        OptionalDest::Dest(id) => {
-            let octets = id.0.octets;
-            around(sized_judged(octets, MOST_TRANSACTION_ID_OCTETS, material))
-        }
-    }
-}
-
-// 6C around the components; no component, no 6C.
-pub fn portion_judged(count: usize, components: Judged) -> Judged
-    ensures { λ r. ⌜ r ≡ portionOf count components ⌝ }
-{
-    if count == 0 {
-        return Judged::Fine(0);
-    }
-    around(components)
-}
-
-// The two IDs, and what follows them.
-fn behind_judged(orig: OptionalOrig, dest: OptionalDest, rest: Judged, material: &[u8]) -> Judged
-    ensures { λ r. ⌜ r ≡ behindJudged (now (material .entry)) orig dest rest ⌝ }
-{
-    let behind = both(dest_judged(dest, material), rest);
-    both(orig_judged(orig, material), behind)
-}
-
-fn orig_there(orig: OptionalOrig) -> bool
-    ensures { λ r. ⌜ r ≡ origThere orig ⌝ }
-{
-    match orig {
-        OptionalOrig::NoOrig => false,
-        OptionalOrig::Orig(id) => true,
-    }
-}
-
-fn dest_there(dest: OptionalDest) -> bool
-    ensures { λ r. ⌜ r ≡ destThere dest ⌝ }
-{
-    match dest {
-        OptionalDest::NoDest => false,
-        OptionalDest::Dest(id) => true,
-    }
-}
-
-fn cause_there(dialogue: Dialogue) -> bool
-    ensures { λ r. ⌜ r ≡ causeThere dialogue ⌝ }
-{
-    match dialogue {
-        Dialogue::NoDialogue => false,
-        Dialogue::Cause(n) => true,
-        Dialogue::Request { name, info } => false,
-        Dialogue::Response {
-            name,
-            result,
-            diagnostic,
-            info,
-        } => false,
-        Dialogue::DialogueAbort { source, info } => false,
-        Dialogue::Unidialogue { name, info } => false,
-        Dialogue::OutsideElement { name, element } => false,
-        Dialogue::OutsideOctets { name, octets } => false,
-    }
-}
-
-// Begin and Continue have an originating ID, the others none.
-fn orig_fits(kind: MessageKind, orig: OptionalOrig) -> bool
-    ensures { λ r. ⌜ r ≡ origFits kind (origThere orig) ⌝ }
-{
-    let there = orig_there(orig);
-    match kind {
-        MessageKind::Unidirectional => !there,
-        MessageKind::Begin => there,
-        MessageKind::End => !there,
-        MessageKind::Continue => there,
-        MessageKind::Abort => !there,
-    }
-}
-
-// End, Continue and Abort have a destination ID, the others none.
-fn dest_fits(kind: MessageKind, dest: OptionalDest) -> bool
-    ensures { λ r. ⌜ r ≡ destFits kind (destThere dest) ⌝ }
-{
-    let there = dest_there(dest);
-    match kind {
-        MessageKind::Unidirectional => !there,
-        MessageKind::Begin => !there,
-        MessageKind::End => there,
-        MessageKind::Continue => there,
-        MessageKind::Abort => there,
-    }
-}
-
-// A cause is for an Abort, which has no component; a Unidirectional has one at least.
-fn rest_fits(kind: MessageKind, dialogue: Dialogue, count: usize) -> bool
-    ensures { λ r. ⌜ r ≡ restFits kind (causeThere dialogue) count ⌝ }
-{
-    let cause = cause_there(dialogue);
-    match kind {
-        MessageKind::Unidirectional => {
-            if cause {
-                return false;
-            }
-            count >= 1
-        }
-        MessageKind::Begin => !cause,
-        MessageKind::End => !cause,
-        MessageKind::Continue => !cause,
-        MessageKind::Abort => count == 0,
-    }
-}
-
-// The parts that a kind has, and the count.
-fn parts_judged(
-    kind: MessageKind,
-    orig: OptionalOrig,
-    dest: OptionalDest,
-    dialogue: Dialogue,
-    count: usize,
-) -> Judged
-    ensures { λ r. ⌜ r ≡ partsJudged kind orig dest dialogue count ⌝ }
-{
-    if !orig_fits(kind, orig) {
-        return Judged::Bad(4);
-    }
-    if !dest_fits(kind, dest) {
-        return Judged::Bad(4);
-    }
-    if !rest_fits(kind, dialogue, count) {
-        return Judged::Bad(4);
-    }
-    if count > MOST_COMPONENTS {
-        return Judged::Bad(3);
-    }
-    Judged::Fine(0)
-}
-
-// The message around its components.
-pub fn message_judged(
-    kind: MessageKind,
-    orig: OptionalOrig,
-    dest: OptionalDest,
-    dialogue: Dialogue,
-    count: usize,
-    portion: Judged,
-    material: &[u8],
-) -> Judged
-    ensures { λ r. ⌜ r ≡ messageJudged (now (material .entry)) kind orig dest dialogue count portion ⌝ }
-{
-    let rest = both(dialogue_judged(dialogue, material), portion);
-    let whole = around(behind_judged(orig, dest, rest, material));
-    both(parts_judged(kind, orig, dest, dialogue, count), whole)
 }

@@ -1,6 +1,4 @@
 // Whether the parts of a record may be written, and how many octets they take, told in one pass.
-pub mod row;
-
 ghost use mathlib.Core.Path.{_≡_};
 ghost use mathlib.Core.Bool.{true};
 ghost use Prim.Native.Nat.{_+_, min, max};

@@ -2,24 +2,11 @@
 pub mod octets;
 
 ghost use mathlib.Core.Path.{_≡_};
-ghost use Rattle.writer.specs.Writing.{faultAt, Writes};
+ghost use Rattle.writing.specs.Writing.{faultAt, Writes};
 use crate::octets::write_octets;
 use tcap::Record;
-
-// Why a record is not written; document 01 numbers these 24, 23, 21, 22 and 25.
-pub enum WriteFault {
-    WrongParts,
-    OutOfRange,
-    OutOfMaterial,
-    Unshaped,
-    NoRoom,
-}
-
-// How many octets were written, or why none were.
-pub enum Written {
-    Length(usize),
-    Refused(WriteFault),
-}
+pub use writing::WriteFault;
+pub use writing::Written;
 
 // The refusal by its rank: what comes first over the whole record ranks highest.
 fn fault_at(rank: u8) -> WriteFault

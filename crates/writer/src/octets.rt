@@ -1,9 +1,7 @@
 // Writing a record that stands as octets, as a program in C passes it: docs/LAYOUT.md. Its rows are taken from the octets one by one, and no record is made.
 ghost use mathlib.Core.Path.{_≡_};
 ghost use lib.ListN.{length};
-ghost use Rattle.writer.specs.Octets.{writingOctets, leavesOctets};
-use crate::WriteFault;
-use crate::Written;
+ghost use Rattle.writing.specs.Octets.{writingOctets, leavesOctets};
 use crate::fault_at;
 use tcap::MOST_OCTETS;
 use unpack::head::dest_in;
@@ -14,8 +12,10 @@ use unpack::head::orig_in;
 use unpack::number::number_at;
 use unpack::rows_looked;
 use write_check_row::Judged;
-use write_check_row::row::rows_judged;
+use write_check_rows::rows_judged;
 use write_put::put_message;
+use writing::WriteFault;
+use writing::Written;
 
 // What `write` answers and leaves for the record that the octets stand for; octets that are no record are wrong parts.
 pub fn write_octets(octets: &[u8], material: &[u8], out: &mut [u8]) -> Written
@@ -35,8 +35,16 @@ pub fn write_octets(octets: &[u8], material: &[u8], out: &mut [u8]) -> Written
     let count = number_at(octets, 4) as usize;
     let looked = rows_looked(octets);
     let components = rows_judged(octets, looked, material);
-    let portion = write_check::portion_judged(count, components);
-    match write_check::message_judged(kind, orig, dest, dialogue, count, portion, material) {
+    let portion = write_check_message::portion_judged(count, components);
+    match write_check_message::message_judged(
+        kind,
+        orig,
+        dest,
+        dialogue,
+        count,
+        portion,
+        material,
+    ) {
         Judged::Bad(rank) => Written::Refused(fault_at(rank)),
         Judged::Fine(size) => {
             if size > MOST_OCTETS {

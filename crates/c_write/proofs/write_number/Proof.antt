@@ -1,6 +1,6 @@
 -- By the fault. Assumes nothing.
 use borrow.Author.Needs.{needs}
-use Rattle.writer.specs.Writing.{writeNumber}
+use Rattle.writing.specs.Writing.{writeNumber}
 use Rattle.c_write.proofs.write_number.Statement.{statement}
 use Rattle.c_write.proofs.write_number.Tie as tie
 

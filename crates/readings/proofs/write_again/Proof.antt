@@ -1,7 +1,7 @@
 -- What one writing leaves, the next leaves too, and fewer are left. Assumes nothing.
 use borrow.Author.Needs.{needs}
 use mathlib.Core.Path.{_∙_}
-use Rattle.writer.specs.Writing.{Writes}
+use Rattle.writing.specs.Writing.{Writes}
 use Rattle.readings.proofs.Rewriting.{writes-length, writes-same, writes-again}
 use Rattle.readings.proofs.write_again.Statement.{statement}
 use Rattle.readings.proofs.write_again.Tie as tie

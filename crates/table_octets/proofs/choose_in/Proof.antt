@@ -2,7 +2,7 @@
 use native.Mathlib.Omega.{arith}
 use Rattle.open_transactions.specs.Table.{deedOf}
 use Rattle.open_transactions.proofs.Doing.{found-inside}
-use Rattle.table_octets.proofs.Entries.{length-entries}
+use Rattle.table_layout.proofs.Entries.{length-entries}
 use borrow.Author.Needs.{needs}
 use Rattle.table_octets.proofs.choose_in.Statement.{statement}
 use Rattle.table_octets.proofs.choose_in.Tie as tie

@@ -1,6 +1,6 @@
 -- By whether the ID is known, then by the state of its entry. Assumes nothing.
 use native.Mathlib.Omega.{arith}
-use Rattle.table_octets.proofs.Entries.{other-in}
+use Rattle.table_layout.proofs.Entries.{other-in}
 use Rattle.open_transactions.proofs.Doing.{inside-at}
 use Rattle.open_transactions.specs.Table.{otherDeed}
 use borrow.Author.Needs.{needs}

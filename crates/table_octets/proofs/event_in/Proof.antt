@@ -1,6 +1,6 @@
 -- By the nine numbers. Assumes nothing.
 use borrow.Author.Tests.{eq-eqb, ne-eqb}
-use Rattle.table_octets.specs.Octets.{eventIn}
+use Rattle.table_layout.specs.Octets.{eventIn}
 use Rattle.table_octets.proofs.event_in.Statement.{statement}
 use Rattle.table_octets.proofs.event_in.Tie as tie
 

@@ -2,12 +2,12 @@
 use borrow.Author.Needs.{needs}
 use native.Mathlib.Omega.{arith}
 use mathlib.Core.Path.{_≡_, refl, sym, _∙_}
-use Rattle.table_octets.proofs.Entries.{at-none}
-use Rattle.table_octets.proofs.Walking.{walk-found, walk-on}
+use Rattle.table_layout.proofs.Entries.{at-none}
+use Rattle.table_layout.proofs.Walking.{walk-found, walk-on}
 use Prim.Native.Nat.{_-_, _%_, _≤_}
 use lib.ListN.{drop, length-drop}
 use Rattle.open_transactions.specs.Table.{holds, findFrom}
-use Rattle.table_octets.specs.Octets.{entriesIn}
+use Rattle.table_layout.specs.Octets.{entriesIn}
 use Rattle.table_octets.proofs.find_in.Statement.{statement}
 use Rattle.table_octets.proofs.find_in.Tie as tie
 

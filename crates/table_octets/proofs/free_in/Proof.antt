@@ -2,11 +2,11 @@
 use borrow.Author.Needs.{needs}
 use native.Mathlib.Omega.{arith}
 use mathlib.Core.Path.{_≡_, refl, sym, _∙_}
-use Rattle.table_octets.proofs.Entries.{at-here, at-next, at-none, free-at}
+use Rattle.table_layout.proofs.Entries.{at-here, at-next, at-none, free-at}
 use Prim.Native.Nat.{_*_, _-_, _≤_}
 use lib.ListN.{drop}
 use Rattle.open_transactions.specs.Table.{isFree, findFrom}
-use Rattle.table_octets.specs.Octets.{entriesIn}
+use Rattle.table_layout.specs.Octets.{entriesIn}
 use Rattle.table_octets.proofs.free_in.Statement.{statement}
 use Rattle.table_octets.proofs.free_in.Tie as tie
 

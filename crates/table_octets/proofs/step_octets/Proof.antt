@@ -3,11 +3,11 @@ use borrow.Author.Needs.{needs}
 use native.Mathlib.Omega.{arith}
 use mathlib.Core.Path.{ap}
 use borrow.Author.Tests.{lt-ltb, le-ltb}
-use Rattle.table_octets.specs.declared.{Reply.Reply}
-use Rattle.table_octets.specs.Octets.{replying, leaving}
+use Rattle.table_layout.specs.declared.{Reply.Reply}
+use Rattle.table_layout.specs.Octets.{replying, leaving}
 use Rattle.open_transactions.proofs.Doing.{deed-doable}
-use Rattle.table_octets.proofs.Entries.{length-entries}
-use Rattle.table_octets.proofs.Learning.{deed-known}
+use Rattle.table_layout.proofs.Entries.{length-entries}
+use Rattle.table_layout.proofs.Learning.{deed-known}
 use Rattle.table_octets.proofs.step_octets.Statement.{statement}
 use Rattle.table_octets.proofs.step_octets.Tie as tie
 

@@ -1,7 +1,7 @@
 -- The record is laid out, and written as the octets that it stands in. Assumes nothing.
 use borrow.Author.Needs.{needs}
 use native.Mathlib.Omega.{arith}
-use Rattle.writer.proofs.Laid.{laid-writes}
+use Rattle.writing.proofs.Laid.{laid-writes}
 use Rattle.writer.proofs.write.Statement.{statement}
 use Rattle.writer.proofs.write.Tie as tie
 

@@ -18,9 +18,9 @@ use Rattle.write_check_row.specs.Judged.{rankOf, listed, rowsJudged}
 use Rattle.write_check.specs.Whole.{portionOf, messageJudged}
 use Rattle.write_put.proofs.Parts.{record-parts, orig-lies, dest-lies, dialogue-lies, rows-lie}
 use Rattle.layout.specs.Layout.{recordSize, areRows, isRecord, recordIn, rowsIn, rowsLooked}
-use Rattle.writer.proofs.Answers.{full-writes, put-room, put-writes}
-use Rattle.writer.proofs.Told.{fine-tells, fine-listed, may-be-put}
-use Rattle.writer.proofs.Standing.{head-record, no-head, too-short, octets-fit, rowsOf, counted-in, are, judgment, octets-judged, octets-write, octets-none, bad-octets}
+use Rattle.writing.proofs.Answers.{full-writes, put-room, put-writes}
+use Rattle.writing.proofs.Told.{fine-tells, fine-listed, may-be-put}
+use Rattle.writing.proofs.Standing.{head-record, no-head, too-short, octets-fit, rowsOf, counted-in, are, judgment, octets-judged, octets-write, octets-none, bad-octets}
 use Rattle.writer.proofs.octets.write_octets.Statement.{statement}
 use Rattle.writer.proofs.octets.write_octets.Tie as tie
 
