@@ -15,12 +15,12 @@ use Rattle.base.specs.Text.{text}
 use Rattle.base.specs.Value.{Every, Maybe}
 use Rattle.base.proofs.Numbers.{holds-small}
 use Rattle.base.proofs.Values.{every-parts}
-use Rattle.primitive.specs.Primitive.{between, identifierOk, numbers}
+use Rattle.primitive.specs.Primitive.{between, mostIdentifierOctets, identifierOk, numbers}
 use Rattle.element.specs.Fault.{numberOf, Text, Owner, portion, dialogue, component, Fault, fault}
 use Rattle.element.specs.Ask.{Got, got, bad, check}
 use Rattle.tcap.specs.declared.{OptionalOrig.OptionalOrig, OptionalDest.OptionalDest, InvokeId.InvokeId, Problem.Problem, Dialogue.Dialogue as DialogueField, MessageKind.MessageKind, ComponentKind.ComponentKind, Answer.Answer, Ground.Ground}
 use Rattle.tcap.specs.Meaning.{Originating, orig, Destination, dest, Code, local, global, Component, invoke, last, notLast, error, reject, Dialogue, request, unidialogue, response, aborted, single, octets, Ending, silent, cause, says, Message, unidirectional, begin, finish, continue, abort}
-use Rattle.tcap.specs.WellFormed.{Rules, mostOctets, mostComponents, the93, idOk, InvokeIdOk, CodeOk, ProblemOk, ComponentOk, ComponentsOk, BothOk, EndingOk, OrigOk, DestOk, WellFormedUpTo}
+use Rattle.tcap.specs.WellFormed.{Rules, mostOctets, mostComponents, mostTransactionIdOctets, mostCause, mostGeneralProblem, mostInvokeProblem, mostResultProblem, mostErrorProblem, the93, idOk, InvokeIdOk, CodeOk, ProblemOk, ComponentOk, ComponentsOk, BothOk, EndingOk, OrigOk, DestOk, WellFormedUpTo}
 use Rattle.tcap.specs.Record.{spanOf, spanField, origField, destField, idField, linkedField, codeField, bothField, rowOf, dialogueField, endingField, portionField, blankRow, recordFrom, recordOf}
 use Rattle.tcap.specs.Reading.{locatedUpTo, groundOf, byOwner, answerFor, refusalOf, answered, readingUpTo, reading}
 use Rattle.tcap.proofs.Strings.{octetsOf, codeAs, bothAs, componentAs, endingAs, origAs, destAs, forget, Strings, optionStrings, whole, seriesStrings, codeStrings, bothStrings, componentStrings, dialogueStrings, origStrings, destStrings, restStrings, strings}
@@ -97,10 +97,10 @@ problem-by t n h k = word (text " problem:") and one-digit t h and word (text ":
 
 problem-few : (q : Problem) → ProblemOk q → Within 12 (problemText q)
 unfolding problemText
-problem-few (Problem.General n) h = problem-by 0 n (omega arith) (omega (arith, leb-true n 2 h))
-problem-few (Problem.OfInvoke n) h = problem-by 1 n (omega arith) (omega (arith, leb-true n 7 h))
-problem-few (Problem.OfResult n) h = problem-by 2 n (omega arith) (omega (arith, leb-true n 2 h))
-problem-few (Problem.OfError n) h = problem-by 3 n (omega arith) (omega (arith, leb-true n 4 h))
+problem-few (Problem.General n) h = problem-by 0 n (omega arith) (omega (arith, leb-true n mostGeneralProblem h))
+problem-few (Problem.OfInvoke n) h = problem-by 1 n (omega arith) (omega (arith, leb-true n mostInvokeProblem h))
+problem-few (Problem.OfResult n) h = problem-by 2 n (omega arith) (omega (arith, leb-true n mostResultProblem h))
+problem-few (Problem.OfError n) h = problem-by 3 n (omega arith) (omega (arith, leb-true n mostErrorProblem h))
 
 reject-few : (q : Problem) → ProblemOk q → Within 16 (rejectText q)
 unfolding rejectText
@@ -142,7 +142,7 @@ portion-few (some d) = dialogue-few d
 ending-few : (rules : Rules) (e : Ending Text) → EndingOk rules (endingAs octetsOf e) → Within 9 (dialogueText (endingField e))
 unfolding dialogueText
 ending-few rules silent h = no-dialogue
-ending-few rules (cause n) h = wider (word (text " cause:") and one-digit n (omega (arith, leb-true n 4 h))) 9 (omega arith)
+ending-few rules (cause n) h = wider (word (text " cause:") and one-digit n (omega (arith, leb-true n mostCause h))) 9 (omega arith)
 ending-few rules (says d) h = dialogue-few d
 
 -- octets of the message, in hex
@@ -160,7 +160,7 @@ module _ (m : List ℕ) (short : length m ≤ mostOctets) where
   code-few : (c : Code Text) → CodeOk (codeAs octetsOf c) → Within 40 (codeText m (codeField c))
   unfolding codeText identifierOk
   code-few (local z) h = wider (word (text " local:") and code-signed z h) 40 (omega arith)
-  code-few (global t) h = word (text " global:") and string-few m t 16 (between-most 1 16 (t .1) (and-eq-true-iff (between 1 16 (t .1)) (numbers (t .1) true) .0 h .0))
+  code-few (global t) h = word (text " global:") and string-few m t mostIdentifierOctets (between-most 1 mostIdentifierOctets (t .1) (and-eq-true-iff (between 1 mostIdentifierOctets (t .1)) (numbers (t .1) true) .0 h .0))
 
   place-few : (t : Text) → AllSit (whole t) → Within 8 (placeText (spanOf t))
   unfolding placeText Every Sits
@@ -211,11 +211,11 @@ module _ (m : List ℕ) (short : length m ≤ mostOctets) where
 
   orig-few : (o : Originating Text) → OrigOk (origAs octetsOf o) → Within 9 (origText m (origField o))
   unfolding origText transactionText idOk
-  orig-few (orig t) h = word (text " ") and string-few m t 4 (between-most 1 4 (t .1) h)
+  orig-few (orig t) h = word (text " ") and string-few m t mostTransactionIdOctets (between-most 1 mostTransactionIdOctets (t .1) h)
 
   dest-few : (e : Destination Text) → DestOk (destAs octetsOf e) → Within 9 (destText m (destField e))
   unfolding destText transactionText idOk
-  dest-few (dest t) h = word (text " ") and string-few m t 4 (between-most 1 4 (t .1) h)
+  dest-few (dest t) h = word (text " ") and string-few m t mostTransactionIdOctets (between-most 1 mostTransactionIdOctets (t .1) h)
 
   no-orig : Within 9 (origText m OptionalOrig.NoOrig)
   unfolding origText

@@ -7,7 +7,7 @@ use mathlib.Core.List.{List}
 use lib.ListN.{length, getD}
 use lib.Dec.{leb}
 use borrow.Author.Tests.{leb-true}
-use Rattle.tcap.specs.WellFormed.{idOk}
+use Rattle.tcap.specs.WellFormed.{mostTransactionIdOctets, idOk}
 use Rattle.transaction_states.specs.declared.{State.State, Event.Event, Move.Move, Room.Room, Begins.Begins, Deed.Deed, Taken.Taken}
 use Rattle.open_transactions.specs.declared.{Entry.Entry, Table.Table}
 use Rattle.transaction_states.specs.Events.{moveOf, beginsOf, tells, toldBy, idsOk, opening, moving, takenOf}
@@ -33,7 +33,7 @@ other-at es e r i v d n k f m h = let l : i < length es = omega (arith, n, insid
 -- IDs that are taken have 4 octets at most
 id-short : (c : List ℕ) → idOk c ≡ true → length c < 5
 unfolding idOk
-id-short c e = omega (arith, leb-true (length c) 4 (and-eq-true-iff (leb 1 (length c)) (leb (length c) 4) .0 e .1))
+id-short c e = omega (arith, leb-true (length c) mostTransactionIdOctets (and-eq-true-iff (leb 1 (length c)) _ .0 e .1))
 
 pub record Short (e : Event) (o p : List ℕ) : Type 0 where
   pub ours : length o < 5

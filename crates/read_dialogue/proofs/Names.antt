@@ -165,7 +165,8 @@ module _ (m : List ℕ) (at stop r : ℕ) (n : Text) (old new : List ℕ) where
   by-outside mid z false false e q =
       record {
         reads = q n .reads;
-        left = both-left _ old mid new (rw z (ask-sound (λ a k. layDialogue a old ≡ layElse a (layName n old)) (front (level 1) FaultKind.Another (heldItem the93 n false false)) (finite stop) at (part m at stop) (λ v e f. let z : _≡_ {A = ℕ} 0 1 = cc in absurd (omega arith)) (λ h i m. then-blamed (λ f. f) (else-named n old (eqb (firstOf h) 160) _ _)))) (q n .left);
+        left = both-left _ old mid new (rw z (ask-sound (λ a k. layDialogue a old ≡ layElse a (layName n old)) (front (level 1) FaultKind.Another (heldItem the93 n false false)) (finite stop) at (part m at stop)
+            (λ v e f. let z : _≡_ {A = ℕ} 0 1 = cc in absurd (omega arith)) (λ h i m. then-blamed (λ f. f) (else-named n old (eqb (firstOf h) 160) _ _)))) (q n .left);
       }
 
   by-known : (k : ℕ) (s u : Bool) → k ≡ kindOf s u → (k ≡ 0 → ⊥) → Takes layDialogue (aroundItem 160 (onlyBody (level 12) (pduItem (eqb k 1)))) m at stop r old new → Takes layDialogue (heldItem the93 n s u) m at stop r old new

@@ -18,14 +18,14 @@ use Rattle.element.specs.Fault.{Text, Fault, fault, at, withOrigId}
 use Rattle.element.specs.Head.{endOf, lengthOf}
 use Rattle.element.specs.Answers.{frontOf, lengthSize}
 use Rattle.element.specs.Ask.{Got, got, bad, next, check, blamed, definite, indefinite, Head, head, Body, askLength, atEnd, ask}
-use Rattle.element.specs.Parts.{Item, level, leafItem, inside, aroundItem, orItem, bindBody, mapBody, thenBody}
+use Rattle.element.specs.Parts.{Item, level, leafItem, inside, aroundItem, bindBody, mapBody, thenBody}
 use Rattle.element.proofs.Asking.{Then, the-fact, fact, then-next, then-blamed, ask-sound}
 use Rattle.element.proofs.Reading.{definite-size}
 use Rattle.element.proofs.Views.{span-length, span-take}
 use Rattle.tcap.specs.declared.OptionalOrig.{OptionalOrig}
 use Rattle.tcap.specs.Meaning.{Originating, orig, Message, unidirectional, begin, finish, continue, abort, silent}
 use Rattle.tcap.specs.WellFormed.{mostTransactionIdOctets, the93, idOk}
-use Rattle.tcap.specs.Productions.{origItem, destItem, carried, tailBody, uniBody, beginBody, endBody, continueBody, abortBody, messageItem}
+use Rattle.tcap.specs.Productions.{origItem, destItem, carried, tailBody, beginBody, continueBody, messageItem}
 use Rattle.tcap.specs.Record.{origField}
 use Rattle.tcap.specs.Reading.{learnt, idFirst, unknownTag, unknownBody, textOf, unknownOrig, readFirst, locatedUpTo}
 use Rattle.tcap.proofs.Places.{origOf}
@@ -35,42 +35,18 @@ use Rattle.read_place.proofs.Answers.{far-fault, placed-near}
 use Rattle.read_place.proofs.Fronts.{byFront, ask-front}
 use Rattle.read_place.proofs.Onto.{ask-bind, ask-map}
 use Rattle.read_place.proofs.Bodies.{placed-where}
-use Rattle.read_place.proofs.Items.{Entered, ask-entered, front-octet, or-left, or-right}
+use Rattle.read_place.proofs.Items.{Entered, ask-entered, front-octet}
 use Rattle.read_place.proofs.Around.{around-ask}
 use Rattle.read_place.proofs.Values.{leaf-stood}
 use Rattle.read_field.proofs.Choices.{reads-map, transaction-sized}
-use Rattle.read_message.proofs.Whole.{alone-is, first-is, all-of-it, alone-to}
+use Rattle.read_message.proofs.Whole.{by-tag as by-its-tag, alone-is, first-is, all-of-it, alone-to}
+use Rattle.read_message.specs.Messages.{bodyOf}
 use Rattle.read_refusal.specs.Told.{constructorTag, idSought, OrigTold}
 use Rattle.read_refusal.proofs.Unknown.{text-next, Strange, strange-of, unsought-of, first-as, unknown-ask}
 use Rattle.read_refusal.proofs.Bare.{Said, Any, said-got, said-next, said-check, said-blamed, ask-said, Bare, bare-ask, map-bare, leaf-bare, uni-bare, end-bare, abort-bare}
 
 abbrev kinds : Item (Message Text)
 kinds = messageItem the93
-
-abbrev unis : Item (Message Text)
-unis = aroundItem 97 (uniBody the93)
-
-abbrev begins : Item (Message Text)
-begins = aroundItem 98 (beginBody the93)
-
-abbrev ends : Item (Message Text)
-ends = aroundItem 100 (endBody the93)
-
-abbrev continues : Item (Message Text)
-continues = aroundItem 101 (continueBody the93)
-
-abbrev aborts : Item (Message Text)
-aborts = aroundItem 103 (abortBody the93)
-
--- the last two, the last three, all but the first
-abbrev continuers : Item (Message Text)
-continuers = orItem continues aborts
-
-abbrev enders : Item (Message Text)
-enders = orItem ends continuers
-
-abbrev others : Item (Message Text)
-others = orItem begins enders
 
 -- what a fault behind the message is told
 abbrev Learnt : Option Text → Message Text → Type 0
@@ -220,6 +196,10 @@ module _ (m : List ℕ) (len : ℕ) (is : len ≡ length m) (any : 1 ≤ len) (s
   only : (tag : ℕ) → getD m 0 0 ≡ tag → (a s : ℕ) → frontOf 1 (part m 0 len) ≡ TagRead.Tag a s → a ≡ tag
   only tag e a s z = sym (front-octet m 0 (until len) a s (inside-it .0) z .1) ∙ e
 
+  -- where the tag of a message stands, its contents are asked
+  asked-as : (t : Option Text) → kinds .mine (getD m 0 0) ≡ true → Said (Learnt t) t (ask (front (level 1) FaultKind.Another (aroundItem (getD m 0 0) (bodyOf (getD m 0 0)))) (finite len) 0 (part m 0 len)) → Here t
+  asked-as t mine q = rw (plain-ask kinds (finite len) 0 (part m 0 len) (λ a s z. ap (λ (v : ℕ). kinds .mine v) (only (getD m 0 0) refl a s z) ∙ mine), by-its-tag FaultKind.Another m 0 len (inside-it .0) mine) q
+
   opened-as : (t : Option Text) → kinds .mine (getD m 0 0) ≡ true → Here t → Said Any t (locatedUpTo the93 m)
   unfolding locatedUpTo check
   opened-as t mine e =
@@ -228,38 +208,9 @@ module _ (m : List ℕ) (len : ℕ) (is : len ≡ length m) (any : 1 ≤ len) (s
       rw (le-leb (length m) 255 (omega (arith, is, short)), first-is m len is any short, mine, alone-is m)
       (said-next (Learnt t) Any t _ _ g (λ v n k. said-blamed Any t (learnt v) _ k (said-check Any none (eqb n (length m)) _ _ refl (said-got Any none v n tt))))
 
-  -- one of several, by the tag that stands here
-  module _ (tag : ℕ) (stands : getD m 0 0 ≡ tag) (t : Option Text) where
-    abbrev Asked : Item (Message Text) → Type 0
-    Asked x = Said (Learnt t) t (ask (front (level 16) FaultKind.NoMessage x) (finite len) 0 (part m 0 len))
-
-    first-of : (x y : Item (Message Text)) → y .mine tag ≡ false → Asked x → Asked (orItem x y)
-    first-of x y e q = rw (or-left (level 16) FaultKind.NoMessage x y (finite len) 0 (part m 0 len) refl (λ a s z. ap (λ (v : ℕ). y .mine v) (only tag stands a s z) ∙ e)) q
-
-    second-of : (x y : Item (Message Text)) → x .mine tag ≡ false → Asked y → Asked (orItem x y)
-    second-of x y e q = rw (or-right (level 16) FaultKind.NoMessage x y (finite len) 0 (part m 0 len) refl (λ a s z. ap (λ (v : ℕ). x .mine v) (only tag stands a s z) ∙ e)) q
-
-    plain-of : (x : Item (Message Text)) → x .mine tag ≡ true → Said (Learnt t) t (ask (front (level 1) FaultKind.Another x) (finite len) 0 (part m 0 len)) → Asked x
-    plain-of x e q = rw (plain-ask x (finite len) 0 (part m 0 len) (λ a s z. ap (λ (v : ℕ). x .mine v) (only tag stands a s z) ∙ e)) q
-
-  uni-said : getD m 0 0 ≡ 97 → Here none
-  uni-said e = first-of 97 e none unis others refl (front-said (Learnt none) (λ v. unidirectional (v .0) (v .1)) _ (uni-bare the93) (λ v f g. g) FaultKind.NoMessage 16 97 (finite len) 0 (part m 0 len))
-
-  end-said : getD m 0 0 ≡ 100 → Here none
-  end-said e =
-      second-of 100 e none unis others refl (second-of 100 e none begins enders refl
-      (first-of 100 e none ends continuers refl (front-said (Learnt none) (λ v. finish (v .0) (v .1 .0) (v .1 .1)) _ (end-bare the93) (λ v f g. g) FaultKind.NoMessage 16 100 (finite len) 0 (part m 0 len))))
-
-  abort-said : getD m 0 0 ≡ 103 → Here none
-  abort-said e =
-      second-of 103 e none unis others refl (second-of 103 e none begins enders refl (second-of 103 e none ends continuers refl
-      (second-of 103 e none continues aborts refl (front-said (Learnt none) (λ v. abort (v .0) (Option·getD (v .1) silent)) _ (abort-bare the93) (λ v f g. g) FaultKind.NoMessage 16 103 (finite len) 0 (part m 0 len)))))
-
-  begin-said : getD m 0 0 ≡ 98 → (t : Option Text) → Said (Learnt t) t (ask (front (level 1) FaultKind.Another begins) (finite len) 0 (part m 0 len)) → Here t
-  begin-said e t q = second-of 98 e t unis others refl (first-of 98 e t begins enders refl (plain-of 98 e t begins refl q))
-
-  continue-said : getD m 0 0 ≡ 101 → (t : Option Text) → Said (Learnt t) t (ask (front (level 1) FaultKind.Another continues) (finite len) 0 (part m 0 len)) → Here t
-  continue-said e t q = second-of 101 e t unis others refl (second-of 101 e t begins enders refl (second-of 101 e t ends continuers refl (first-of 101 e t continues aborts refl (plain-of 101 e t continues refl q))))
+  -- of a kind
+  sent-as : (k : ℕ) → getD m 0 0 ≡ k → kinds .mine k ≡ true → (t : Option Text) → Said (Learnt t) t (ask (front (level 1) FaultKind.Another (aroundItem k (bodyOf k))) (finite len) 0 (part m 0 len)) → Said Any t (locatedUpTo the93 m)
+  sent-as k e mine t q = let is-mine : kinds .mine (getD m 0 0) ≡ true = rw e mine in opened-as t is-mine (asked-as t is-mine (rw e q))
 
   -- around the contents
   module _ {A : Type 0} (P : A → Type 0) (b : Body A) (tag : ℕ) (leads : Leads tag) (kind : constructorOf tag ≡ true) (stands : getD m 0 0 ≡ tag) (inner : ℕ) (entry : inner ≡ entryPlace true m 0 len tag) where
@@ -318,10 +269,7 @@ module _ (m : List ℕ) (len : ℕ) (is : len ≡ length m) (any : 1 ≤ len) (s
       unfolding textOf
       strange-near f = let (n, i) = id-got m st inner r h e f in strange-inner ∙ rw i
 
--- What `orig_of` and `orig_at` answer
-
-pub sought-true : (b : Bool) (tag : ℕ) → b ≡ idSought tag → b ≡ true → idSought tag ≡ true
-sought-true b tag is t = sym is ∙ t
+-- What `orig_of` answers
 
 told-by : (t : Option Text) (x : Got (Message Text)) → Said Any t x → OrigTold (Option·getD (Option·map (λ s. origField (orig s)) t) OptionalOrig.NoOrig) x
 unfolding Said OrigTold
@@ -341,25 +289,22 @@ module _ (m : List ℕ) (len : ℕ) (is : len ≡ length m) where
       go (a ∷ r) e = absurd (omega (arith, e))
 
   pub orig-other : len ≤ 255 → (len ≡ 0 → ⊥) → (b : Bool) → b ≡ idSought (getD m 0 0) → b ≡ false → OrigTold OptionalOrig.NoOrig (locatedUpTo the93 m)
-  unfolding idSought
-  orig-other short any b asked t = told-by none (locatedUpTo the93 m) (go (eqb tag 98) (eqb tag 101) (eqb tag 100) (eqb tag 103) (eqb tag 97) refl refl refl refl refl (sym asked ∙ t))
+  unfolding idSought bodyOf
+  orig-other short any b asked t = told-by none (locatedUpTo the93 m) (go (eqb (getD m 0 0) 98) (eqb (getD m 0 0) 101) (eqb (getD m 0 0) 100) (eqb (getD m 0 0) 103) (eqb (getD m 0 0) 97) refl refl refl refl refl (sym asked ∙ t))
     where
-      tag : ℕ
-      tag = getD m 0 0
-
       some-octet : 1 ≤ len
       some-octet = omega (arith, any)
 
-      stood : (t : ℕ) → kinds .mine t ≡ true → getD m 0 0 ≡ t → Here m len is some-octet short none → Said Any none (locatedUpTo the93 m)
-      stood t i e q = opened-as m len is some-octet short none (rw e i) q
+      stood : {A : Type 0} (k : ℕ) → eqb (getD m 0 0) k ≡ true → kinds .mine k ≡ true → (f : A → Message Text) (b : Body A) → bodyOf k ≡ mapBody f b → Bare b → ((a : A) → Learnt none (f a)) → Said Any none (locatedUpTo the93 m)
+      stood k e mine f b same bare all = sent-as m len is some-octet short k (eqb-true (getD m 0 0) k e) mine none (rw same (front-said (Learnt none) f b bare all FaultKind.Another 1 k (finite len) 0 (part m 0 len)))
 
       go : (u v a b c : Bool) → eqb (getD m 0 0) 98 ≡ u → eqb (getD m 0 0) 101 ≡ v → eqb (getD m 0 0) 100 ≡ a → eqb (getD m 0 0) 103 ≡ b → eqb (getD m 0 0) 97 ≡ c
           → cond u true (cond v true (cond a false (cond b false (cond c false (constructorTag (getD m 0 0)))))) ≡ false → Said Any none (locatedUpTo the93 m)
       go true v a b c x y i j k e = absurd (false≢true (sym e))
       go false true a b c x y i j k e = absurd (false≢true (sym e))
-      go false false true b c x y i j k e = stood 100 refl (eqb-true (getD m 0 0) 100 i) (end-said m len is some-octet short (eqb-true (getD m 0 0) 100 i))
-      go false false false true c x y i j k e = stood 103 refl (eqb-true (getD m 0 0) 103 j) (abort-said m len is some-octet short (eqb-true (getD m 0 0) 103 j))
-      go false false false false true x y i j k e = stood 97 refl (eqb-true (getD m 0 0) 97 k) (uni-said m len is some-octet short (eqb-true (getD m 0 0) 97 k))
+      go false false true b c x y i j k e = stood 100 i refl (λ v. finish (v .0) (v .1 .0) (v .1 .1)) _ refl (end-bare the93) (λ v f g. g)
+      go false false false true c x y i j k e = stood 103 j refl (λ v. abort (v .0) (Option·getD (v .1) silent)) _ refl (abort-bare the93) (λ v f g. g)
+      go false false false false true x y i j k e = stood 97 k refl (λ v. unidirectional (v .0) (v .1)) _ refl (uni-bare the93) (λ v f g. g)
       go false false false false false x y i j k e = told-as m len is some-octet short (rw (x, y, i, j, k)) none (unasked m is (unsought-of (getD m 0 0) e))
         where
           unasked : (l : List ℕ) → len ≡ length l → unknownTag (getD l 0 0) && not (codeZero (getD l 0 0)) ≡ false → unknownOrig the93 l ≡ none
@@ -383,18 +328,15 @@ module _ (m : List ℕ) (len : ℕ) (is : len ≡ length m) where
     strange : kinds .mine tag ≡ false → (t : Option Text) → unknownOrig the93 m ≡ t → Said Any t (locatedUpTo the93 m)
     strange mine t e = told-as m len is any short (rw (← first) mine) t e
 
-    begun : tag ≡ 98 → (t : Option Text) → Said (Learnt t) t (ask (front (level 1) FaultKind.Another begins) (finite len) 0 (part m 0 len)) → Said Any t (locatedUpTo the93 m)
-    begun e t q = opened-as m len is any short t (rw (← first, e)) (begin-said m len is any short (sym first ∙ e) t q)
-
-    continued : tag ≡ 101 → (t : Option Text) → Said (Learnt t) t (ask (front (level 1) FaultKind.Another continues) (finite len) 0 (part m 0 len)) → Said Any t (locatedUpTo the93 m)
-    continued e t q = opened-as m len is any short t (rw (← first, e)) (continue-said m len is any short (sym first ∙ e) t q)
+    sent : (k : ℕ) → tag ≡ k → kinds .mine k ≡ true → (t : Option Text) → Said (Learnt t) t (ask (front (level 1) FaultKind.Another (aroundItem k (bodyOf k))) (finite len) 0 (part m 0 len)) → Said Any t (locatedUpTo the93 m)
+    sent k e = sent-as m len is any short k (sym first ∙ e)
 
     pub orig-entry : Far inner → OrigTold OptionalOrig.NoOrig (locatedUpTo the93 m)
-    unfolding constructorOf
+    unfolding constructorOf bodyOf
     orig-entry f =
         told-by none (locatedUpTo the93 m) (by-tag
-        (λ e. begun e none (entry-said m len is any short (Learnt none) (beginBody the93) 98 (omega arith, omega arith, omega arith) refl (sym first ∙ e) inner (rw e at entry) f))
-        (λ e. continued e none (entry-said m len is any short (Learnt none) (continueBody the93) 101 (omega arith, omega arith, omega arith) refl (sym first ∙ e) inner (rw e at entry) f))
+        (λ e. sent 98 e refl none (entry-said m len is any short (Learnt none) (beginBody the93) 98 (omega arith, omega arith, omega arith) refl (sym first ∙ e) inner (rw e at entry) f))
+        (λ e. sent 101 e refl none (entry-said m len is any short (Learnt none) (continueBody the93) 101 (omega arith, omega arith, omega arith) refl (sym first ∙ e) inner (rw e at entry) f))
         (λ s mine. strange mine none (strange-entry m len is any short tag s (sym first) inner entry f)))
 
     module _ (near : Near inner) (st : ℕ) (start : st ≡ 1 + lengthSize (getD m 1 0)) (r : ℕ) (e : Reads (leafItem 0x48 idOk) m st inner r) where
@@ -402,12 +344,12 @@ module _ (m : List ℕ) (len : ℕ) (is : len ≡ length m) where
       to = alone-to m len tag inner is short entry near st start
 
       pub orig-unread : Far r → OrigTold OptionalOrig.NoOrig (locatedUpTo the93 m)
-      unfolding constructorOf
+      unfolding constructorOf bodyOf
       orig-unread f =
           told-by none (locatedUpTo the93 m) (by-tag
-          (λ i. begun i none (far-said m len is any short (beginBody the93) 98 (omega arith, omega arith, omega arith) refl (sym first ∙ i) inner (rw i at entry)
+          (λ i. sent 98 i refl none (far-said m len is any short (beginBody the93) 98 (omega arith, omega arith, omega arith) refl (sym first ∙ i) inner (rw i at entry)
           (λ v. begin (v .0) (v .1 .0) (v .1 .1)) (λ o. tailBody the93) (λ v. refl) refl near st start to r e f))
-          (λ i. continued i none (far-said m len is any short (continueBody the93) 101 (omega arith, omega arith, omega arith) refl (sym first ∙ i) inner (rw i at entry)
+          (λ i. sent 101 i refl none (far-said m len is any short (continueBody the93) 101 (omega arith, omega arith, omega arith) refl (sym first ∙ i) inner (rw i at entry)
           (λ v. continue (v .0) (v .1 .0) (v .1 .1 .0) (v .1 .1 .1)) (λ o. thenBody (level 15) destItem (tailBody the93)) (λ v. refl) refl near st start to r e f))
           (λ s mine. strange mine none (strange-far m len is any short tag s (sym first) inner entry near st start to r e f)))
 
@@ -418,13 +360,13 @@ module _ (m : List ℕ) (len : ℕ) (is : len ≡ length m) where
       orig-within f = let l = id-long m st inner r to e f in (omega (arith, l), omega (arith, l, to, is, short))
 
       pub orig-read : Near r → OrigTold (OptionalOrig.Orig (record { 0 = record { octets = record { place = st + 2; len = r - (st + 2) } } })) (locatedUpTo the93 m)
-      unfolding constructorOf
+      unfolding constructorOf bodyOf
       orig-read f =
           let l = orig-within f in
           let long : length (take (r - (st + 2)) (drop (st + 2) m)) ≡ r - (st + 2) = length-take-le (r - (st + 2)) (drop (st + 2) m) (omega (arith, length-drop (st + 2) m, l, id-long m st inner r to e f, to)) in
           rw long at (told-by (some text) (locatedUpTo the93 m) (by-tag
-          (λ i. begun i (some text) (near-said m len is any short (beginBody the93) 98 (omega arith, omega arith, omega arith) refl (sym first ∙ i) inner (rw i at entry)
+          (λ i. sent 98 i refl (some text) (near-said m len is any short (beginBody the93) 98 (omega arith, omega arith, omega arith) refl (sym first ∙ i) inner (rw i at entry)
           (λ v. begin (v .0) (v .1 .0) (v .1 .1)) (λ o. tailBody the93) (λ v. refl) refl near st start to r e f))
-          (λ i. continued i (some text) (near-said m len is any short (continueBody the93) 101 (omega arith, omega arith, omega arith) refl (sym first ∙ i) inner (rw i at entry)
+          (λ i. sent 101 i refl (some text) (near-said m len is any short (continueBody the93) 101 (omega arith, omega arith, omega arith) refl (sym first ∙ i) inner (rw i at entry)
           (λ v. continue (v .0) (v .1 .0) (v .1 .1 .0) (v .1 .1 .1)) (λ o. thenBody (level 15) destItem (tailBody the93)) (λ v. refl) refl near st start to r e f))
           (λ s mine. strange mine (some text) (strange-near m len is any short tag s (sym first) inner entry near st start to r e f))))

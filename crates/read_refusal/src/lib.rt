@@ -1,15 +1,14 @@
 // The refusal of a message, from the number of its fault and what is told of it in the octets lent to its reader.
 ghost use mathlib.Core.Path.{_≡_};
-ghost use mathlib.Core.Bool.{true};
 ghost use Prim.Native.Nat.{_≤_};
-ghost use lib.ListN.{length, getD};
+ghost use lib.ListN.{length};
 ghost use Rattle.tcap.specs.WellFormed.{the93};
 ghost use Rattle.tcap.specs.Record.{idField};
 ghost use Rattle.tcap.specs.Reading.{locatedUpTo, groundOf, byOwner, answerFor};
 ghost use Rattle.read_place.specs.Places.{Far};
 ghost use Rattle.read_place.specs.Blames.{ownerIn, idIn};
 ghost use Rattle.read_message.specs.Messages.{Answers};
-ghost use Rattle.read_refusal.specs.Told.{constructorTag, idSought, idTold, OrigTold, Blamed, RefusedAs};
+ghost use Rattle.read_refusal.specs.Told.{idSought, idTold, OrigTold, Blamed, RefusedAs};
 use element::FaultKind;
 use primitive::signed_octet;
 use read_fault::kind_from;
@@ -96,20 +95,7 @@ fn answer_of(ground: Ground, out: &[u8]) -> Answer
     }
 }
 
-// The tag of a constructor, of one octet and not 20.
-fn constructor_tag(tag: u8) -> bool
-    ensures { λ r. ⌜ r ≡ constructorTag tag ⌝ }
-{
-    if tag == 0x20 {
-        return false;
-    }
-    if tag % 32 == 31 {
-        return false;
-    }
-    tag / 32 % 2 == 1
-}
-
-// Octets with this first one may tell an originating ID: a Begin, a Continue, a constructor that is no message.
+// Octets with this first one may tell an originating ID: a Begin, a Continue, a constructor that is no message and whose tag has one octet and is not 20.
 fn id_sought(tag: u8) -> bool
     ensures { λ r. ⌜ r ≡ idSought tag ⌝ }
 {
@@ -128,35 +114,16 @@ fn id_sought(tag: u8) -> bool
     if tag == 0x61 {
         return false;
     }
-    constructor_tag(tag)
+    if tag == 0x20 {
+        return false;
+    }
+    if tag % 32 == 31 {
+        return false;
+    }
+    tag / 32 % 2 == 1
 }
 
-// The originating ID that stands first in such octets, if it can be read.
-fn orig_at(m: &[u8], len: usize, tag: u8) -> OptionalOrig
-    requires { ⌜ (len ≡ length (now m)) × (1 ≤ len) × (len ≤ 255) × (tag ≡ getD (now m) 0 0) × (idSought tag ≡ true) ⌝ }
-    ensures { λ r. ⌜ OrigTold r (locatedUpTo the93 (now (m .entry))) ⌝ }
-{
-    let inner = entry_asked(m, 0, len, tag);
-    if inner >= FAULT {
-        return OptionalOrig::NoOrig;
-    }
-    let first = start_of(m, 1);
-    let r = transaction_id_at(m, first, inner, 0x48);
-    if r >= FAULT {
-        return OptionalOrig::NoOrig;
-    }
-    // 48 and its length take an octet each: an ID has at most 4
-    let place = first + 2;
-    let size = r - place;
-    OptionalOrig::Orig(OrigTransactionId(TransactionId {
-        octets: Span {
-            place: place as u32,
-            len: size as u32,
-        },
-    }))
-}
-
-// The originating ID that goes with a fault: a second look at the message.
+// The originating ID that goes with a fault, if one stands first in the message and can be read: a second look at it.
 fn orig_of(m: &[u8]) -> OptionalOrig
     ensures { λ r. ⌜ OrigTold r (locatedUpTo the93 (now (m .entry))) ⌝ }
 {
@@ -169,7 +136,24 @@ fn orig_of(m: &[u8]) -> OptionalOrig
     }
     let tag = m[0];
     if id_sought(tag) {
-        return orig_at(m, len, tag);
+        let inner = entry_asked(m, 0, len, tag);
+        if inner >= FAULT {
+            return OptionalOrig::NoOrig;
+        }
+        let first = start_of(m, 1);
+        let r = transaction_id_at(m, first, inner, 0x48);
+        if r >= FAULT {
+            return OptionalOrig::NoOrig;
+        }
+        // 48 and its length take an octet each: an ID has at most 4
+        let place = first + 2;
+        let size = r - place;
+        return OptionalOrig::Orig(OrigTransactionId(TransactionId {
+            octets: Span {
+                place: place as u32,
+                len: size as u32,
+            },
+        }));
     }
     OptionalOrig::NoOrig
 }

@@ -79,7 +79,7 @@ code-laws =
 abbrev pub AtMost : ℕ → ℕ → Type 0
 AtMost most n = leb n most ≡ true
 
-problem-kinds : (a : Problem) → ProblemOk a → 
+problem-kinds : (a : Problem) → ProblemOk a →
     Image Problem.General (AtMost mostGeneralProblem) a
     ⊎ (Image Problem.OfInvoke (AtMost mostInvokeProblem) a ⊎ (Image Problem.OfResult (AtMost mostResultProblem) a ⊎ Image Problem.OfError (AtMost mostErrorProblem) a))
 problem-kinds (Problem.General n) o = inl (n, refl, o)

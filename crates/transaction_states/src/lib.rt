@@ -5,6 +5,7 @@ ghost use lib.ListN.{getD};
 ghost use Rattle.tcap.specs.WellFormed.{idOk};
 ghost use Rattle.transaction_states.specs.Events.{continuing, closing, moveOf, beginsOf, tells, toldBy, idsOk, isOpen, opening, moving, takenOf};
 use base::after;
+use tcap::MOST_TRANSACTION_ID_OCTETS;
 
 // Idle is what free room is in.
 pub enum State {
@@ -195,7 +196,7 @@ fn id_ok(id: &[u8]) -> bool
     if id.len() < 1 {
         return false;
     }
-    id.len() <= 4
+    id.len() <= MOST_TRANSACTION_ID_OCTETS
 }
 
 // 40: our ID, and the partner's where the event carries one.

@@ -13,20 +13,35 @@ use Rattle.tcap.specs.declared.{OptionalOrig.OptionalOrig, OptionalDest.Optiona
 use Rattle.tcap.specs.WellFormed.{mostComponents}
 use Rattle.write_check_row.specs.declared.Judged.{Judged}
 use Rattle.write_check_row.specs.Verdict.{counted, partsFit, origRanges, destRanges, dialogueRanges, origLies, destLies, dialogueLies, dialogueShaped, allParts, allRanges, allLie, allShaped}
-use Rattle.write_check_row.specs.Forms.{rowsForm, insideForm, recordForm}
+use Rattle.write_check_row.specs.Forms.{rowsForm, insideForm, partsForm, recordForm}
 use Rattle.write_check_row.specs.Judged.{rankOf, judged, wrapped, sizeOf, rowsRank, rowsJudged}
 use Rattle.write_check_row.proofs.Joining.{join, wrap, then-size, around-size}
 use Rattle.write_check_row.proofs.Rows.{rows-none}
 use Rattle.write_check_row.proofs.Listed.{over-right}
-use Rattle.write_check.specs.Whole.{origFits, destFits, restFits, portionOf, portionJudged, messageJudged}
+use Rattle.write_check.specs.Whole.{idsOf, idsThere, restFits, portionOf, portionJudged, messageJudged}
 
-pub parts-by : (k : MessageKind) (o e c : Bool) (n : ℕ) → partsFit k o e c n ≡ origFits k o && (destFits k e && restFits k c n)
-unfolding partsFit origFits destFits restFits
-parts-by MessageKind.Unidirectional o e c n = refl
-parts-by MessageKind.Begin o e c n = refl
-parts-by MessageKind.End o e c n = refl
-parts-by MessageKind.Continue o e c n = refl
-parts-by MessageKind.Abort o e c n = refl
+pub parts-by : (k : MessageKind) (o e c : Bool) (n : ℕ) → partsFit k o e c n ≡ eqb (idsThere o e) (idsOf k) && restFits k c n
+unfolding partsFit idsOf idsThere restFits
+parts-by MessageKind.Unidirectional true true c n = refl
+parts-by MessageKind.Unidirectional true false c n = refl
+parts-by MessageKind.Unidirectional false true c n = refl
+parts-by MessageKind.Unidirectional false false c n = refl
+parts-by MessageKind.Begin true true c n = refl
+parts-by MessageKind.Begin true false c n = refl
+parts-by MessageKind.Begin false true c n = refl
+parts-by MessageKind.Begin false false c n = refl
+parts-by MessageKind.End true true c n = refl
+parts-by MessageKind.End true false c n = refl
+parts-by MessageKind.End false true c n = refl
+parts-by MessageKind.End false false c n = refl
+parts-by MessageKind.Continue true true c n = refl
+parts-by MessageKind.Continue true false c n = refl
+parts-by MessageKind.Continue false true c n = refl
+parts-by MessageKind.Continue false false c n = refl
+parts-by MessageKind.Abort true true c n = refl
+parts-by MessageKind.Abort true false c n = refl
+parts-by MessageKind.Abort false true c n = refl
+parts-by MessageKind.Abort false false c n = refl
 
 module _ (m : List ℕ) where
   wrapped-some : (rs : List Row) → 1 ≤ length rs → wrapped (rowsJudged m rs) ≡ portionJudged m rs
@@ -48,7 +63,7 @@ module _ (m : List ℕ) where
       by-count false e = rw e (wrapped-some rs (omega (arith, eqb-false n 0 e)))
 
   pub record-law : (r : Record) → messageJudged m (r .kind) (r .orig) (r .dest) (r .dialogue) (r .count) (portionJudged m (counted r)) ≡ judged (rankOf (allParts r) (allRanges r) (allLie (length m) r) (allShaped m r)) (sizeOf (recordForm m r))
-  unfolding rowsRank allParts allRanges allLie allShaped insideForm recordForm
+  unfolding rowsRank allParts allRanges allLie allShaped insideForm partsForm
   record-law r = simp (join, wrap, around-size, then-size, zero-add)
 
   -- a wrong part of a row outranks all else

@@ -1,7 +1,7 @@
 -- What is told of the dialogue, of the transaction IDs and of the message around the components; cited by inner contracts.
 -- Assumes nothing: these are definitions.
 use Prim.Native.Nat.{ℕ}
-use mathlib.Core.{Bool.Bool, Bool.true, Bool.not, Bool.cond, Bool._&&_, List.List}
+use mathlib.Core.{Bool.Bool, Bool.true, Bool.false, Bool.not, Bool.cond, Bool._&&_, List.List}
 use lib.{ListN.length, Dec.leb, Dec.eqb}
 use Rattle.element.specs.{Form.then, Form.around}
 use Rattle.tcap.specs.{declared.Span.Span, declared.OptionalSpan.OptionalSpan, declared.OptionalOrig.OptionalOrig, declared.OptionalDest.OptionalDest, declared.Diagnostic.Diagnostic, declared.Row.Row, declared.Dialogue.Dialogue, declared.MessageKind.MessageKind, Meaning.octet, Meaning.contextForm, Meaning.sourceForm, WellFormed.mostComponents, WellFormed.mostResult}
@@ -22,21 +22,20 @@ numberJudged x most = judged (rankOf true (leb x most) true true) 5
 abbrev pub sourceJudged : Diagnostic → Judged
 sourceJudged s = judged (rankOf true (sourceRanges s) true true) (sizeOf (around 0xA3 (sourceForm s)))
 
--- 24 at a kind: its originating ID, its destination ID, the cause and the number of components
+-- 24 at a kind: which IDs it has (1 the originating one, 2 the destination, 3 both), the cause and the number of components
 
-unfoldable pub origFits : MessageKind → Bool → Bool
-origFits MessageKind.Unidirectional o = not o
-origFits MessageKind.Begin o = o
-origFits MessageKind.End o = not o
-origFits MessageKind.Continue o = o
-origFits MessageKind.Abort o = not o
+unfoldable pub idsOf : MessageKind → ℕ
+idsOf MessageKind.Unidirectional = 0
+idsOf MessageKind.Begin = 1
+idsOf MessageKind.End = 2
+idsOf MessageKind.Continue = 3
+idsOf MessageKind.Abort = 2
 
-unfoldable pub destFits : MessageKind → Bool → Bool
-destFits MessageKind.Unidirectional e = not e
-destFits MessageKind.Begin e = not e
-destFits MessageKind.End e = e
-destFits MessageKind.Continue e = e
-destFits MessageKind.Abort e = e
+unfoldable pub idsThere : Bool → Bool → ℕ
+idsThere false false = 0
+idsThere true false = 1
+idsThere false true = 2
+idsThere true true = 3
 
 unfoldable pub restFits : MessageKind → Bool → ℕ → Bool
 restFits MessageKind.Unidirectional c n = not c && leb 1 n

@@ -118,7 +118,10 @@ fn response_judged(
 fn abort_judged(source: u8, info: OptionalSpan, material: &[u8]) -> Judged
     ensures { λ r. ⌜ r ≡ dialogueJudged (now (material .entry)) (Dialogue.DialogueAbort source info) ⌝ }
 {
-    pdu_judged(both(octet_judged(source, MOST_ABORT_SOURCE), info_judged(info, material)))
+    pdu_judged(both(
+        octet_judged(source, MOST_ABORT_SOURCE),
+        info_judged(info, material),
+    ))
 }
 
 // A0 around one element, which stands at level 5.

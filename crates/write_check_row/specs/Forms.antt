@@ -3,7 +3,7 @@
 use Prim.Native.Nat.{ℕ}
 use mathlib.Core.{List.List, List.[], List._∷_}
 use Rattle.element.specs.{Form.Form, Form.exactly, Form.then, Form.leaf, Form.around, Form.seriesForm, Form.shortest, Form.document01}
-use Rattle.tcap.specs.{declared.Span.Span, declared.OptionalSpan.OptionalSpan, declared.OptionalOrig.OptionalOrig, declared.OptionalDest.OptionalDest, declared.InvokeId.InvokeId, declared.LinkedId.LinkedId, declared.Code.Code, declared.Returned.Returned, declared.ComponentKind.ComponentKind, declared.Row.Row, declared.Dialogue.Dialogue, declared.Record.Record, Record.messageTag, Meaning.octet, Meaning.integer, Meaning.problemForm, Meaning.structured, Meaning.unstructured, Meaning.versionForm, Meaning.contextForm, Meaning.sourceForm, Meaning.external}
+use Rattle.tcap.specs.{declared.Span.Span, declared.OptionalSpan.OptionalSpan, declared.OptionalOrig.OptionalOrig, declared.OptionalDest.OptionalDest, declared.InvokeId.InvokeId, declared.LinkedId.LinkedId, declared.Code.Code, declared.Returned.Returned, declared.ComponentKind.ComponentKind, declared.Row.Row, declared.Dialogue.Dialogue, declared.MessageKind.MessageKind, declared.Record.Record, Record.messageTag, Meaning.octet, Meaning.integer, Meaning.problemForm, Meaning.structured, Meaning.unstructured, Meaning.versionForm, Meaning.contextForm, Meaning.sourceForm, Meaning.external}
 use Rattle.write_check_row.specs.{Verdict.octetsIn, Verdict.counted}
 
 unfoldable pub idForm : InvokeId → Form
@@ -88,12 +88,15 @@ module _ (m : List ℕ) where
   destForm OptionalDest.NoDest = exactly []
   destForm (OptionalDest.Dest e) = leaf 0x49 (octetsIn m (e .0 .octets))
 
-  -- what the message holds
-  unfoldable pub insideForm : Record → Form
-  insideForm r = then (origForm (r .orig)) (then (destForm (r .dest)) (then (dialogueForm (r .dialogue)) (rowsForm (counted r))))
+  -- a message by its parts, and what it holds
+  unfoldable pub insideForm : OptionalOrig → OptionalDest → Dialogue → List Row → Form
+  insideForm orig dest dialogue rows = then (origForm orig) (then (destForm dest) (then (dialogueForm dialogue) (rowsForm rows)))
 
-  unfoldable pub recordForm : Record → Form
-  recordForm r = around (messageTag (r .kind)) (insideForm r)
+  unfoldable pub partsForm : MessageKind → OptionalOrig → OptionalDest → Dialogue → List Row → Form
+  partsForm kind orig dest dialogue rows = around (messageTag kind) (insideForm orig dest dialogue rows)
+
+  abbrev pub recordForm : Record → Form
+  recordForm r = partsForm (r .kind) (r .orig) (r .dest) (r .dialogue) (counted r)
 
 -- the octets of a form, as short as they can be
 abbrev pub octetsOf : Form → List ℕ

@@ -1,4 +1,4 @@
--- The form of a record is that of its parts, and 6C stands around rows that are there. Assumes nothing.
+-- What lies of a record lies of its parts, and 6C stands around rows that are there. Assumes nothing.
 use Prim.Native.Nat.{ℕ, zero, suc}
 use mathlib.Core.Path.{_≡_, refl}
 use mathlib.Core.Logic.{_≢_}
@@ -8,16 +8,10 @@ use lib.ListN.{length}
 use Rattle.element.specs.Form.{exactly, around, seriesForm}
 use Rattle.tcap.specs.declared.{Record.Record}
 use Rattle.write_check_row.specs.Verdict.{counted, every, origLies, destLies, dialogueLies, rowLies, allLie}
-use Rattle.write_check_row.specs.Forms.{rowForm, rowsForm, insideForm, recordForm}
+use Rattle.write_check_row.specs.Forms.{rowForm, rowsForm}
 use Rattle.layout.specs.Layout.{rowsIn}
-use Rattle.write_put.specs.Parts.{heldForm, partsForm}
 
 module _ (m : List ℕ) where
-  pub record-parts : (r : Record) → recordForm m r ≡ partsForm m (r .kind) (r .orig) (r .dest) (r .dialogue) (counted r)
-  unfolding recordForm insideForm partsForm heldForm
-  record-parts r = refl
-
-  -- what lies of a record lies of its parts
   module _ (r : Record) (h : allLie (length m) r ≡ true) where
     pub orig-lies : origLies (length m) (r .orig) ≡ true
     unfolding allLie

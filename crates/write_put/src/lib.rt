@@ -5,9 +5,8 @@ ghost use Prim.Native.Nat.{_≤_};
 ghost use lib.ListN.{length, drop};
 ghost use Rattle.base.specs.Back.{Room, PutBack};
 ghost use Rattle.write_check_row.specs.Verdict.{every, origLies, destLies, rowLies, dialogueLies};
-ghost use Rattle.write_check_row.specs.Forms.{rowsForm, octetsOf};
+ghost use Rattle.write_check_row.specs.Forms.{rowsForm, partsForm, octetsOf};
 ghost use Rattle.layout.specs.Layout.{areRows, rowsIn};
-ghost use Rattle.write_put.specs.Parts.{heldForm, partsForm};
 use tcap::Dialogue;
 use tcap::MessageKind;
 use tcap::OptionalDest;
@@ -34,32 +33,6 @@ fn back_components(out: &mut [u8], at: usize, material: &[u8], octets: &[u8], co
     back_head(out, next, 0x6C, at - next)
 }
 
-// What the message holds.
-fn back_held(
-    out: &mut [u8],
-    at: usize,
-    material: &[u8],
-    orig: OptionalOrig,
-    dest: OptionalDest,
-    dialogue: Dialogue,
-    octets: &[u8],
-    count: usize,
-) -> usize
-    requires { ⌜ (428 ≤ length (now octets)) × (count ≤ 16) ⌝ }
-    requires { ⌜ areRows count (drop 44 (now octets)) ≡ true ⌝ }
-    requires { ⌜ origLies (length (now material)) orig ≡ true ⌝ }
-    requires { ⌜ destLies (length (now material)) dest ≡ true ⌝ }
-    requires { ⌜ dialogueLies (length (now material)) dialogue ≡ true ⌝ }
-    requires { ⌜ every (λ w. rowLies (length (now material)) (w .kind)) (rowsIn count (drop 44 (now octets))) ≡ true ⌝ }
-    requires { ⌜ Room (now out) at (octetsOf (heldForm (now material) orig dest dialogue (rowsIn count (drop 44 (now octets))))) ⌝ }
-    ensures { λ r. ⌜ PutBack (now (out .entry)) at (octetsOf (heldForm (now (material .entry)) orig dest dialogue (rowsIn count (drop 44 (now (octets .entry)))))) r (now (out .exit)) ⌝ }
-{
-    let a = back_components(out, at, material, octets, count);
-    let b = back_dialogue(out, a, material, dialogue);
-    let c = back_dest(out, b, material, dest);
-    back_orig(out, c, material, orig)
-}
-
 // A message with these parts and the first `count` rows of the record that `octets` are, which ends where `at` is.
 pub fn put_message(
     out: &mut [u8],
@@ -81,6 +54,9 @@ pub fn put_message(
     requires { ⌜ Room (now out) at (octetsOf (partsForm (now material) kind orig dest dialogue (rowsIn count (drop 44 (now octets))))) ⌝ }
     ensures { λ r. ⌜ PutBack (now (out .entry)) at (octetsOf (partsForm (now (material .entry)) kind orig dest dialogue (rowsIn count (drop 44 (now (octets .entry)))))) r (now (out .exit)) ⌝ }
 {
-    let next = back_held(out, at, material, orig, dest, dialogue, octets, count);
+    let a = back_components(out, at, material, octets, count);
+    let b = back_dialogue(out, a, material, dialogue);
+    let c = back_dest(out, b, material, dest);
+    let next = back_orig(out, c, material, orig);
     back_head(out, next, message_tag(kind), at - next)
 }

@@ -93,7 +93,7 @@ module _ (m : List ℕ) where
 
 -- what a record means is written as the record's form
 pub forms-same : (r : Record) (m : List ℕ) {μ : Meaning} → meaningOf r m ≡ some μ → written μ ≡ octetsOf (Forms.recordForm m r)
-unfolding Forms.recordForm Forms.insideForm
+unfolding Forms.partsForm Forms.insideForm
 forms-same r m e =
     let (t, v) = found r m e in
     made-octets v ∙ rw (orig-form m (r .orig), dest-form m (r .dest), ending-form m (r .dialogue), rows-form m (counted r) (t .rowsFit))

@@ -24,7 +24,9 @@ dialogue-at-spec =
     (λ c.
     let e = c .before .before .before .before in
     let b = e .before .before in
-    (search inside-reads, inside-told _ _ _ (b .before .before .before .before .before .pre .0) (b .before .before .before .before .before .pre .1) _ (b .before .before .length-at .ensures) (b .before .if1 .left) _ (b .start-of .ensures) _ _ _ (e .external-at .ensures) (c .before .if2 .taken) _ (c .owner-at .ensures) (omega arith)))
+    let pre = b .before .before .before .before .before .pre in
+    let told = inside-told _ _ _ (pre .0) (pre .1) _ (b .before .before .length-at .ensures) (b .before .if1 .left) _ (b .start-of .ensures) _ _ _ (e .external-at .ensures) in
+    (search inside-reads, told (c .before .if2 .taken) _ (c .owner-at .ensures) (omega arith)))
     (λ c κs. search (needs, reads-within, stood-to))
     (λ c κs. search (needs, reads-within, stood-to))
     (λ c. search needs)
@@ -32,6 +34,8 @@ dialogue-at-spec =
     (λ c.
     let e = c .before .before .before .before .before .before in
     let b = e .before .before in
-    (search behind-reads, behind-told _ _ _ (b .before .before .before .before .before .pre .0) (b .before .before .before .before .before .pre .1) _ (b .before .before .length-at .ensures) (b .before .if1 .left) _ (b .start-of .ensures) _ _ _ (e .external-at .ensures) (c .before .before .before .if2 .left) _ (c .before .before .leave .ensures) (c .before .if3 .taken) _ (c .owner-at2 .ensures) (omega arith)))
+    let pre = b .before .before .before .before .before .pre in
+    let told = behind-told _ _ _ (pre .0) (pre .1) _ (b .before .before .length-at .ensures) (b .before .if1 .left) _ (b .start-of .ensures) _ _ _ (e .external-at .ensures) in
+    (search behind-reads, told (c .before .before .before .if2 .left) _ (c .before .before .leave .ensures) (c .before .if3 .taken) _ (c .owner-at2 .ensures) (omega arith)))
     (λ c. search needs)
     (λ c. (search behind-reads, search dialogue-told)))

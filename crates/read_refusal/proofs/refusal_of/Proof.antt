@@ -4,10 +4,12 @@ use Rattle.read_refusal.proofs.Refusals.{refused-as}
 use Rattle.read_refusal.proofs.refusal_of.Statement.{statement}
 use Rattle.read_refusal.proofs.refusal_of.Tie as tie
 
-returns : tie.Need-returns
-returns c = search refused-as
-
 pub refusal-of-spec : {M : Type 1} → statement M
 refusal-of-spec =
     tie.close
-    (tie.spec (λ c κs. search needs) (λ c κs. search needs) (λ c κs. search needs) (λ c κs. search needs) returns)
+    (tie.spec
+    (λ c κs. search needs)
+    (λ c κs. search needs)
+    (λ c κs. search needs)
+    (λ c κs. search needs)
+    (λ c. search refused-as))

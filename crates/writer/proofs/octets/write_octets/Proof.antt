@@ -16,7 +16,7 @@ use Rattle.write_check_row.specs.Forms.{recordForm, octetsOf}
 use Rattle.write_check_row.specs.declared.{Judged.Judged}
 use Rattle.write_check_row.specs.Judged.{rankOf, listed, rowsJudged}
 use Rattle.write_check.specs.Whole.{portionOf, messageJudged}
-use Rattle.write_put.proofs.Parts.{record-parts, orig-lies, dest-lies, dialogue-lies, rows-lie}
+use Rattle.write_put.proofs.Parts.{orig-lies, dest-lies, dialogue-lies, rows-lie}
 use Rattle.layout.specs.Layout.{recordSize, areRows, isRecord, recordIn, rowsIn, rowsLooked}
 use Rattle.writing.proofs.Answers.{full-writes, put-room, put-writes}
 use Rattle.writing.proofs.Told.{fine-tells, fine-listed, may-be-put}
@@ -122,7 +122,7 @@ put-message-requires c κs =
     let e = c .before .before .before .before .size .given .1 in
     let q = put-is d _ e (omega arith) in
     let t = fine-tells _ _ _ (fine d _ e) in
-    rw (kind-is d, orig-is d, dest-is d, dialogue-is d, looked-is d, ← (counted-in (o d)), ← (record-parts (m d) (r d)))
+    rw (kind-is d, orig-is d, dest-is d, dialogue-is d, looked-is d, ← (counted-in (o d)))
     ((long d, omega arith), (sym (rows-decide d) ∙ is-record d _ e, (orig-lies (m d) (r d) (q .1), (dest-lies (m d) (r d) (q .1), (dialogue-lies (m d) (r d) (q .1), (rows-lie (m d) (r d) (q .1), put-room (r d) (m d) (octets-fit (o d)) (t .0) _ (t .1) (omega arith)))))))
 
 returns-5 : tie.Need-returns-5
@@ -137,7 +137,7 @@ returns-6 c =
     let d = c .before .before .before .before .before .before .before .before .before in
     let e = c .before .before .before .before .before .before .before .size .given .1 in
     let t = fine-tells _ _ _ (fine d _ e) in
-    let p = rw (kind-is d, orig-is d, dest-is d, dialogue-is d, looked-is d, ← (counted-in (o d)), ← (record-parts (m d) (r d))) at (c .before .before .put-message .ensures) in
+    let p = rw (kind-is d, orig-is d, dest-is d, dialogue-is d, looked-is d, ← (counted-in (o d))) at (c .before .before .put-message .ensures) in
     octets-write _ _ _ (is-record d _ e) (put-writes _ _ (octets-fit (o d)) (t .0) _ (t .1) (omega arith) p)
 
 pub write-octets-spec : {M : Type 1} → statement M
