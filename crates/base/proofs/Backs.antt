@@ -6,7 +6,7 @@ use mathlib.Core.Path.{_≡_, sym, ap, _∙_}
 use mathlib.Core.List.{List, [], _++_, append-assoc, append-nil}
 use lib.ListN.{length, take, drop, set, getD, length-append, length-take, length-drop, take-append-drop}
 use lib.Seq.{paste, paste-suc, length-paste, take-all, sets, sets-eq, take-append-le, take-take, drop-at, length-take-le}
-use Rattle.base.specs.Back.{Room, PutBack}
+use Rattle.base.specs.inner.Back.{Room, PutBack}
 
 -- the room of what comes last
 pub room-last : {d : List ℕ} {at : ℕ} {t : List ℕ} (s : List ℕ) → Room d at (s ++ t) → Room d at t

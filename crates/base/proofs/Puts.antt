@@ -10,7 +10,7 @@ use lib.ListN.{length, drop, take, set, getD, length-append}
 use lib.Seq.{sets, sets-eq, length-sets, set-out, take-suc}
 use lib.Dec.{leb}
 use borrow.Author.Tests.{leb-true, leb-false}
-use Rattle.base.specs.Put.{farthest, Put}
+use Rattle.base.specs.inner.Put.{farthest, Put}
 
 -- a run after a run is one run
 sets-append : (d : List ℕ) (at : ℕ) (s t : List ℕ) → sets (sets d at s) (at + length s) t ≡ sets d at (s ++ t)

@@ -1,5 +1,4 @@
 pub mod Number
 pub mod Value
 pub mod Text
-pub mod Put
-pub mod Back
+pub mod inner

@@ -3,8 +3,8 @@ ghost use mathlib.Core.Path.{_≡_};
 ghost use Prim.Native.Nat.{_+_, _<_, _≤_};
 ghost use mathlib.Core.List.{[], _∷_};
 ghost use lib.ListN.{length, drop, take};
-ghost use Rattle.base.specs.Put.{Put};
-ghost use Rattle.base.specs.Back.{Room, PutBack};
+ghost use Rattle.base.specs.inner.Put.{Put};
+ghost use Rattle.base.specs.inner.Back.{Room, PutBack};
 
 // The largest place.
 const FARTHEST: usize = 18446744073709551615;

@@ -13,7 +13,7 @@ use borrow.Author.Tests.{leb-true, leb-false}
 use Rattle.tcap.specs.declared.{Record.Record, Outcome.Outcome}
 use Rattle.tcap.specs.Record.{blankRow, meaningOf, Same}
 use Rattle.tcap.specs.Reading.{reading}
-use Rattle.write_check_row.specs.Verdict.{counted, allParts, allRanges, allLie, allShaped}
+use Rattle.tcap.specs.Verdict.{counted, allParts, allRanges, allLie, allShaped}
 use Rattle.writing.specs.declared.{WriteFault.WriteFault, Written.Written}
 use Rattle.writing.specs.Writing.{writeNumber, messageOf, writing, RefusedWith, leaves, Writes}
 use Rattle.writing.specs.Octets.{writingOctets, leavesOctets}

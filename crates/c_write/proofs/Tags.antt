@@ -5,10 +5,10 @@ use mathlib.Core.List.{List}
 use lib.ListN.{getD}
 use Rattle.tcap.specs.declared.{InvokeId.InvokeId, ComponentKind.ComponentKind, Problem.Problem}
 use Rattle.tcap.specs.Meaning.{octet, problemForm}
-use Rattle.write_check_row.specs.Forms.{rowTag}
 use Rattle.layout.specs.Layout.{idsOctets, kindOctets, problemTag, problemNumber}
+use Rattle.tcap.specs.Record.{rowTag}
 
-pub component-tag : (m : List ℕ) (i : InvokeId) (k : ComponentKind) → getD (kindOctets i k) 0 0 ≡ rowTag m k
+pub component-tag : (m : List ℕ) (i : InvokeId) (k : ComponentKind) → getD (kindOctets i k) 0 0 ≡ rowTag k
 unfolding kindOctets idsOctets
 component-tag m i (ComponentKind.Invoke l c p) = refl
 component-tag m i (ComponentKind.ResultLast r) = refl

@@ -13,7 +13,7 @@ use lib.Signed.{mag}
 use borrow.Author.Tests.{lt-ltb, le-ltb, ltb-false}
 use Rattle.base.specs.Number.{bitsAt}
 use Rattle.base.specs.Text.{text}
-use Rattle.base.specs.Put.{Put}
+use Rattle.base.specs.inner.Put.{Put}
 use Rattle.base.proofs.Puts.{put-then}
 use Rattle.digits.specs.Digits.{lastDigits, decimal, signed, hexDigit, hex}
 

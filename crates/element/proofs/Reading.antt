@@ -19,7 +19,7 @@ use Rattle.element.specs.Element.{codeZero}
 use Rattle.element.specs.Head.{endOf, tagOf, within, lengthOf}
 use Rattle.element.specs.Fault.{at}
 use Rattle.element.specs.Ask.{Got, bad, check, Body, askTag}
-use Rattle.element.specs.Answers.{fronted, frontOf}
+use Rattle.element.specs.inner.Fronts.{fronted, frontOf}
 use Rattle.element.specs.declared.FaultKind.{FaultKind}
 use Rattle.element.specs.declared.FaultKind.the-variants.{PassesEnd, CodeZero, TooDeep}
 use Rattle.element.specs.declared.EndRead.{EndRead}

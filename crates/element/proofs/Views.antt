@@ -18,7 +18,7 @@ use Rattle.element.specs.declared.LengthRead.{LengthRead}
 use Rattle.element.specs.Form.{fewestOf}
 use Rattle.element.specs.Element.{extendedOf}
 use Rattle.element.specs.Head.{endOf, tagOf, first, second, third, within, longOf, lengthOf}
-use Rattle.element.specs.Answers.{span, longRead, lengthSize}
+use Rattle.element.specs.inner.Fronts.{span, longRead, lengthSize}
 use Rattle.element.proofs.Reading.{endTests, end-tests, number-next}
 
 pub span-length : (m : List ℕ) (at end : ℕ) → end ≤ length m → length (span m at end) ≡ end - at

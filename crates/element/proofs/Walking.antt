@@ -17,7 +17,8 @@ use Rattle.element.specs.Head.{endOf, tagOf, lengthOf}
 use Rattle.element.specs.Ask.{Got, got, bad, next, check, blamed, Size, definite, indefinite, Head, head, Body, askLength, askTag, askEnd, ask}
 use Rattle.element.specs.Parts.{level, leafContents, inside, place, onward, silently, seriesBody}
 use Rattle.element.specs.Walk.{walkPick, walkContents}
-use Rattle.element.specs.Answers.{frontOf, wantedItem, walkOf, elementWalk, seriesWalk}
+use Rattle.element.specs.Answers.{wantedItem, walkOf, elementWalk, seriesWalk}
+use Rattle.element.specs.inner.Fronts.{frontOf}
 use Rattle.element.specs.declared.FaultKind.{FaultKind}
 use Rattle.element.specs.declared.FaultKind.the-variants.{CutOff, BadLength, TooDeep, CodeZero, Another}
 use Rattle.element.specs.declared.EndRead.{EndRead}

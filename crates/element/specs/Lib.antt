@@ -6,3 +6,4 @@ pub mod Ask
 pub mod Parts
 pub mod Walk
 pub mod Answers
+pub mod inner

@@ -6,7 +6,7 @@ use mathlib.Core.Bool.{Bool, true, false}
 use mathlib.Core.List.{List}
 use lib.ListN.{length, drop, length-drop}
 use lib.Seq.{drop-drop}
-use Rattle.entry_octets.specs.Entries.{heldIn, passedIn}
+use Rattle.entry_octets.specs.inner.Words.{heldIn, passedIn}
 
 -- what is left behind an entry
 pub one-less : (l m : List ℕ) (n : ℕ) → m ≡ drop 12 l → n + 12 ≤ length l → n ≤ length m

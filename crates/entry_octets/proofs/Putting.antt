@@ -7,8 +7,9 @@ use lib.ListN.{length, getD}
 use lib.Seq.{sets}
 use mir.Syntax.{w8}
 use mir.Val.{Fits}
-use Rattle.base.specs.Put.{Put}
-use Rattle.entry_octets.specs.Entries.{wordFrom, wordOf, octetsOf, fourOf, partnerPut}
+use Rattle.base.specs.inner.Put.{Put}
+use Rattle.entry_octets.specs.Entries.{fourOf}
+use Rattle.entry_octets.specs.inner.Words.{wordFrom, wordOf, octetsOf, partnerPut}
 
 abbrev pub Octet : List ℕ → Type 0
 Octet l = (i : ℕ) → Fits w8 (getD l i 0)

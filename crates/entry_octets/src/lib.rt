@@ -2,8 +2,9 @@
 ghost use mathlib.Core.Path.{_≡_};
 ghost use Prim.Native.Nat.{_+_, _<_, _≤_};
 ghost use lib.ListN.{length};
-ghost use Rattle.base.specs.Put.{Put};
-ghost use Rattle.entry_octets.specs.Entries.{stateIn, stateOctet, fourOf, entryOctets, blankOctets, wordFrom, wordOf, heldIn, passedIn, octetsOf, partnerPut};
+ghost use Rattle.base.specs.inner.Put.{Put};
+ghost use Rattle.entry_octets.specs.Entries.{stateIn, stateOctet, fourOf, entryOctets, blankOctets};
+ghost use Rattle.entry_octets.specs.inner.Words.{wordFrom, wordOf, heldIn, passedIn, octetsOf, partnerPut};
 use base::after;
 use base::wide;
 use pack::number::put_four;

@@ -6,7 +6,7 @@ use mathlib.Core.List.{List}
 use lib.ListN.{length, take}
 use lib.Seq.{length-take-le}
 use borrow.Author.Tests.{le-leb, lt-leb}
-use Rattle.base.specs.Put.{farthest, Put}
+use Rattle.base.specs.inner.Put.{farthest, Put}
 use Rattle.base.proofs.Puts.{put-front}
 use Rattle.listing.specs.declared.Listed.{Listed}
 use Rattle.listing.specs.Listing.{listedOf, bufferAfter}

@@ -1,6 +1,6 @@
 // Lists a reading as text in a lent buffer.
 ghost use mathlib.Core.Path.{_≡_};
-ghost use Rattle.base.specs.Put.{Put};
+ghost use Rattle.base.specs.inner.Put.{Put};
 ghost use Rattle.listing.specs.Listing.{recordText, listingOf, listedOf, bufferAfter};
 use listing_lines::put_head;
 use listing_lines::put_refusal;

@@ -1,7 +1,7 @@
 // The fields of a line, each with the space before it; the kind of a message begins its line.
 ghost use mathlib.Core.Path.{_≡_};
 ghost use lib.ListN.{take, drop};
-ghost use Rattle.base.specs.Put.{Put};
+ghost use Rattle.base.specs.inner.Put.{Put};
 ghost use Rattle.listing_fields.specs.Fields.{kindText, dialogueText, wordText, idText, linkedText, placeText, parameterText, problemOf, problemText, stringText, transactionText, origText, destText, idsText, codeText};
 use base::after;
 use base::piece;

@@ -7,7 +7,7 @@ use mathlib.Core.Path.{_≡_, sym, ap, _∙_}
 use mathlib.Core.List.{List, [], _∷_, _++_, append-assoc, append-nil}
 use lib.ListN.{length, take, getD}
 use lib.Seq.{take-suc, length-take-le}
-use Rattle.base.specs.Put.{Put}
+use Rattle.base.specs.inner.Put.{Put}
 use Rattle.base.proofs.Puts.{put-then}
 use Rattle.tcap.specs.declared.Row.{Row}
 use Rattle.listing_lines.specs.Lines.{rowText, rowsText}

@@ -1,7 +1,7 @@
 // The lines of a listing: the head, one for each component, or the refusal.
 ghost use mathlib.Core.Path.{_≡_};
 ghost use lib.ListN.{take};
-ghost use Rattle.base.specs.Put.{Put};
+ghost use Rattle.base.specs.inner.Put.{Put};
 ghost use Rattle.listing_fields.specs.Fields.{answerText};
 ghost use Rattle.listing_lines.specs.Lines.{codedText, returnedText, rejectText, partsText, rowText, rowsText, headText, refusalText};
 use base::put_octet;

@@ -11,7 +11,8 @@ use Rattle.tcap.specs.WellFormed.{mostTransactionIdOctets, idOk}
 use Rattle.transaction_states.specs.declared.{State.State, Event.Event, Move.Move, Room.Room, Begins.Begins, Deed.Deed, Taken.Taken}
 use Rattle.open_transactions.specs.declared.{Entry.Entry, Table.Table}
 use Rattle.transaction_states.specs.Events.{moveOf, beginsOf, tells, toldBy, idsOk, opening, moving, takenOf}
-use Rattle.open_transactions.specs.Table.{blankEntry, holds, isFree, findFrom, beginDeed, otherDeed, foundDeed, deedOf, withEntry, activeNow, done, Inside, Kept, Doable}
+use Rattle.open_transactions.specs.Table.{blankEntry, holds, isFree, findFrom, beginDeed, otherDeed, foundDeed, deedOf, withEntry, activeNow, done}
+use Rattle.open_transactions.specs.inner.Steps.{Inside, Kept, Doable}
 use Rattle.open_transactions.proofs.Finding.{found-below, same-entry, pastEntry}
 
 -- the room of a find

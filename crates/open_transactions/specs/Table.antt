@@ -1,5 +1,5 @@
 -- Open transactions: the table, and what each event does in it (document 02, §10). Assumes nothing: these are definitions.
-use Prim.Native.Nat.{ℕ, suc, _<_}
+use Prim.Native.Nat.{ℕ, suc}
 use mathlib.Core.{Bool.Bool, Bool.false, Bool.cond, Bool.not, List.List, List.[], List._∷_}
 use lib.{ListN.set, ListN.length, ListN.getD, ListN.replicate, Dec.eqb}
 use Rattle.tcap.specs.declared.OptionalDest.{OptionalDest}
@@ -97,22 +97,3 @@ outcome t o p d = record { taken = takenOf d; table = done t o p d }
 
 unfoldable pub stepped : Table → Event → List ℕ → List ℕ → Stepped
 stepped t e o p = outcome t o (toldBy e p) (deedOf (t .entries) e o p)
-
--- What a step may rely on: a room is one of the table's, and an ID that is kept has 4 octets at most
-
-abbrev pub Inside : Room → Type 0
-Inside Room.Nowhere = Unit {0}
-Inside (Room.At i) = i < capacity
-
-pub record Kept (o p : List ℕ) (i : ℕ) : Type 0 where
-  pub inside : i < capacity
-  pub ours : length o < 5
-  pub partner : length p < 5
-
-abbrev pub Doable : List ℕ → List ℕ → Deed → Type 0
-Doable o p (Deed.Refused k) = Unit {0}
-Doable o p (Deed.Opens i s) = Kept o p i
-Doable o p (Deed.Keeps i) = Kept o p i
-Doable o p (Deed.Activates i) = Kept o p i
-Doable o p (Deed.Learns i) = Kept o p i
-Doable o p (Deed.Closes i) = Kept o p i

@@ -2,7 +2,8 @@
 ghost use mathlib.Core.Path.{_≡_};
 ghost use lib.ListN.{length};
 ghost use Prim.Native.Nat.{_<_};
-ghost use Rattle.open_transactions.specs.Table.{blankEntry, emptyTable, sameId, holds, isFree, findFrom, entryFor, partnerOf, withEntry, activeNow, beginDeed, otherDeed, foundDeed, deedOf, Inside, Doable, done, stepped};
+ghost use Rattle.open_transactions.specs.Table.{blankEntry, emptyTable, sameId, holds, isFree, findFrom, entryFor, partnerOf, withEntry, activeNow, beginDeed, otherDeed, foundDeed, deedOf, done, stepped};
+ghost use Rattle.open_transactions.specs.inner.Steps.{Inside, Doable};
 ghost use Rattle.transaction_states.specs.Events.{beginsOf};
 use tcap::DestTransactionId;
 use tcap::OptionalDest;

@@ -5,7 +5,7 @@ use mathlib.Core.Path.{_≡_, refl}
 use mathlib.Core.List.{List, [], _∷_, _++_}
 use lib.ListN.{length, set}
 use Rattle.base.specs.Number.{octetsIn}
-use Rattle.base.specs.Put.{farthest, Put}
+use Rattle.base.specs.inner.Put.{farthest, Put}
 use Rattle.base.proofs.Puts.{put-then, put-length}
 
 -- with room for so many more behind what was put

@@ -9,7 +9,7 @@ use lib.ListN.{length, take, getD, length-take}
 use lib.Seq.{take-suc, take-all}
 use lib.Dec.{leb}
 use borrow.Author.Tests.{leb-true, leb-false}
-use Rattle.base.specs.Put.{Put}
+use Rattle.base.specs.inner.Put.{Put}
 use Rattle.base.proofs.Puts.{put-then, put-length}
 use Rattle.tcap.specs.declared.{Row.Row}
 use Rattle.layout.specs.Layout.{headSize, rowSize, mostRows, recordSize, rowOctets, rowsOctets}

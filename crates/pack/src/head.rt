@@ -3,7 +3,7 @@ ghost use mathlib.Core.Path.{_≡_};
 ghost use mathlib.Core.List.{[], _∷_};
 ghost use Prim.Native.Nat.{_+_, _≤_};
 ghost use lib.ListN.{length};
-ghost use Rattle.base.specs.Put.{Put};
+ghost use Rattle.base.specs.inner.Put.{Put};
 ghost use Rattle.tcap.specs.Record.{messageTag};
 ghost use Rattle.layout.specs.Layout.{origFlag, origSpan, destFlag, destSpan, spanOctets, dialogueNumber, portionOctets, pduOctets, dialogueOctets, sourceTag, diagnosticNumber, headOctets};
 use crate::number::put_four;

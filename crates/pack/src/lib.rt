@@ -6,7 +6,7 @@ pub mod row;
 ghost use mathlib.Core.Path.{_≡_};
 ghost use Prim.Native.Nat.{_≤_, min};
 ghost use lib.ListN.{length};
-ghost use Rattle.base.specs.Put.{Put};
+ghost use Rattle.base.specs.inner.Put.{Put};
 ghost use Rattle.layout.specs.Fits.{RecordFits};
 ghost use Rattle.layout.specs.Layout.{recordOctets};
 ghost use Rattle.pack.specs.Laid.{laidOut};

@@ -2,7 +2,7 @@
 ghost use mathlib.Core.List.{[], _∷_, _++_};
 ghost use Prim.Native.Nat.{_+_, _≤_};
 ghost use lib.ListN.{length};
-ghost use Rattle.base.specs.Put.{Put};
+ghost use Rattle.base.specs.inner.Put.{Put};
 ghost use Rattle.layout.specs.Fits.{RowFits};
 ghost use Rattle.layout.specs.Layout.{linkedFlag, linkedOctet, idsOctets, partsOctets, noSpan, optionalFlag, optionalSpan, codedOctets, returnedOctets, problemOctets, kindOctets, rowOctets};
 use crate::number::octet_of;

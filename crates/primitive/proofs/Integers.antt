@@ -17,7 +17,7 @@ use Rattle.base.proofs.Tests.{cond-all}
 use Rattle.base.proofs.Values.{same-equal, same-refl}
 use Rattle.base.proofs.Numbers.{Octets, signed-small, bits-signed, signed-bits, bits-within, top-odd, holds-more, holds-small, small-holds, length-octets, octets-are, number-octets, number-small, octets-number}
 use Rattle.primitive.specs.Primitive.{mostIntegerOctets, widthFrom, integerOctets, signedOf, integerOk}
-use Rattle.primitive.specs.Answers.{integerOf}
+use Rattle.primitive.specs.inner.Answers.{integerOf}
 use Rattle.primitive.specs.declared.IntegerRead.{IntegerRead}
 use Rattle.primitive.specs.declared.IntegerRead.the-variants.{Value, Wrong}
 

@@ -1,2 +1,2 @@
 pub mod Primitive
-pub mod Answers
+pub mod inner

@@ -2,7 +2,7 @@
 -- Assumes nothing: these are definitions.
 use Prim.Native.Nat.{ℕ, zero, suc, _-_}
 use mathlib.Core.{Bool.Bool, Bool.true, Bool.cond, Bool.not, Bool._&&_, List.List, List.[], List._∷_}
-use lib.{ListN.length, ListN.getD, Dec.ltb, Dec.leb, Dec.eqb, IntN.ℤ}
+use lib.{ListN.length, Dec.ltb, Dec.leb, Dec.eqb, IntN.ℤ}
 use Rattle.base.specs.{Number.numberFrom, Number.octetsIn, Number.topOf, Number.signedAt, Number.bitsAt, Number.holds, Value.same}
 
 -- so many octets
@@ -36,10 +36,6 @@ integerOk most c = between 1 most c && same (integerOctets (signedOf c)) c
 unfoldable pub numbers : List ℕ → Bool → Bool
 numbers [] b = b
 numbers (x ∷ r) b = not (b && eqb x 128) && numbers r (ltb x 128)
-
--- the same at a place: a number begins at the start, and behind an octet without bit H
-unfoldable pub beginsAt : ℕ → List ℕ → Bool
-beginsAt i c = cond (eqb i 0) true (ltb (getD c (i - 1) 0) 128)
 
 -- an object identifier: 1 to 16 octets
 unfoldable pub identifierOk : List ℕ → Bool

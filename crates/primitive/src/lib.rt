@@ -8,8 +8,9 @@ ghost use lib.Dec.{eqb};
 ghost use lib.Signed.{mag, leZ};
 ghost use Rattle.base.specs.Number.{signedAt, bitsAt, holds};
 ghost use Rattle.base.specs.Value.{same};
-ghost use Rattle.primitive.specs.Primitive.{mostIntegerOctets, integerOctets, signedOf, beginsAt, identifierOk};
-ghost use Rattle.primitive.specs.Answers.{integerOf};
+ghost use Rattle.primitive.specs.Primitive.{mostIntegerOctets, integerOctets, signedOf, identifierOk};
+ghost use Rattle.primitive.specs.inner.Answers.{beginsAt};
+ghost use Rattle.primitive.specs.inner.Answers.{integerOf};
 
 // The most octets of a signed integer, and of an object identifier.
 pub const MOST_INTEGER_OCTETS: usize = 4;

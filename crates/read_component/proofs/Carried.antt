@@ -14,7 +14,7 @@ use Rattle.element.specs.declared.LengthRead.{LengthRead}
 use Rattle.element.specs.Element.{constructorOf}
 use Rattle.element.specs.Fault.{Fault, fault, at, Text, withInvokeId}
 use Rattle.element.specs.Head.{endOf, lengthOf}
-use Rattle.element.specs.Answers.{frontOf}
+use Rattle.element.specs.inner.Fronts.{frontOf}
 use Rattle.element.specs.Ask.{Got, got, bad, next, check, blamed, definite, indefinite, Head, head, Body, askLength, atEnd, ask}
 use Rattle.element.specs.Parts.{mapItem, leafItem, level, leafContents, bindBody, integerItem}
 use Rattle.read_place.specs.Places.{part, finite, Placed, front, Reads, until, Far, Near}

@@ -17,7 +17,7 @@ use Rattle.element.specs.declared.EndRead.{EndRead}
 use Rattle.element.specs.declared.TagRead.{TagRead}
 use Rattle.element.specs.declared.LengthRead.{LengthRead}
 use Rattle.element.specs.Head.{endOf, lengthOf}
-use Rattle.element.specs.Answers.{frontOf, lengthSize}
+use Rattle.element.specs.inner.Fronts.{frontOf, lengthSize}
 use Rattle.element.proofs.Reading.{definite-size}
 use Rattle.element.specs.Fault.{Fault, fault, Text, withInvokeId}
 use Rattle.element.specs.Ask.{Got, got, bad, next, check, blamed, Body, askLength, atEnd, ask}

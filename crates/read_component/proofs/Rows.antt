@@ -12,7 +12,7 @@ use Rattle.element.specs.declared.{FaultKind.FaultKind, EndRead.EndRead, TagRea
 use Rattle.element.specs.Element.{constructorOf}
 use Rattle.element.specs.Fault.{fault, Text, at, inComponent}
 use Rattle.element.specs.Head.{endOf, lengthOf}
-use Rattle.element.specs.Answers.{frontOf}
+use Rattle.element.specs.inner.Fronts.{frontOf}
 use Rattle.element.specs.Ask.{Got, got, bad, next, check, blamed, definite, indefinite, head, askLength, atEnd, askEnd, ask}
 use Rattle.element.specs.Parts.{Item, Where, level, onward, silently, seriesBody}
 use Rattle.element.proofs.Views.{endBy, end-view}

@@ -7,13 +7,13 @@ use lib.{ListN.length, ListN.getD, ListN.drop, ListN.take, ListN.set, Seq.take-t
 use borrow.Author.Tests.{leb-true}
 use Rattle.base.{specs.Value.same, proofs.Values.same-equal}
 use Rattle.primitive.specs.Primitive.{mostIdentifierOctets, identifierOk, numbers}
-use Rattle.element.specs.{declared.FaultKind.FaultKind, declared.LengthRead.LengthRead, declared.Walk.Walk, Element.constructorOf, Fault.Text, Head.endOf, Head.lengthOf, Answers.elementWalk, Answers.lengthSize}
+use Rattle.element.specs.{declared.FaultKind.FaultKind, declared.LengthRead.LengthRead, declared.Walk.Walk, Element.constructorOf, Fault.Text, Head.endOf, Head.lengthOf, Answers.elementWalk, inner.Fronts.lengthSize}
 use Rattle.element.specs.Ask.{Got, got, bad, next, check, blamed, Body, ask, askLength}
 use Rattle.element.specs.Parts.{Item, Where, level, leafContents, leafItem, aroundItem, mapItem, firstOf, bindBody, silently, onlyBody}
 use Rattle.element.specs.Walk.{walkItem}
 use Rattle.element.proofs.{Asking.Then, Asking.fact, Asking.void, Asking.the-fact, Asking.then-blamed, Asking.ask-sound, Reading.definite-size, Reading.indefinite-size}
 use Rattle.element.proofs.Views.{span-length, span-drop, span-take, span-cut, SizeIs}
-use Rattle.tcap.specs.{Meaning.Dialogue, Meaning.single, Meaning.octets, Meaning.structured, Meaning.unstructured, Names.kindOf, Names.nameKind, WellFormed.the93, Productions.nameItem, Productions.heldItem, Productions.externalBody}
+use Rattle.tcap.specs.{Meaning.Dialogue, Meaning.single, Meaning.octets, Meaning.structured, Meaning.unstructured, inner.Names.kindOf, inner.Names.nameKind, WellFormed.the93, Productions.nameItem, Productions.heldItem, Productions.externalBody}
 use Rattle.read_place.specs.Places.{Far, Near, until, faults, finite, part, base, front, Placed, nothing, Reads, Finishes, endedOf, unfinishedOf, standsOf, entryPlace, badPlace, countOf, lengthPlace, Ready, Walked, cutOff, missing, badContents}
 use Rattle.read_place.specs.{Laying.layText, Laying.laySpan, Laying.layName, Laying.layDialogue, Leaves.Left, Leaves.untold}
 use Rattle.read_place.proofs.{Answers.far, Answers.close-near, Answers.closing-blamed, Answers.closing-rest, Onto.ask-bind, Bodies.placed-where, Bodies.bind-far, Bodies.map-closed, Walks.walked-near, Values.value-walk}

@@ -4,7 +4,7 @@ use mathlib.Core.Path.{_≡_, refl, sym}
 use mathlib.Core.{Bool.Bool, Bool.true, Bool.false, Bool.cond, List.List, List.[]}
 use native.Mathlib.Omega.{arith}
 use lib.ListN.{length, getD, drop, set}
-use Rattle.element.specs.{declared.FaultKind.FaultKind, declared.EndRead.EndRead, declared.TagRead.TagRead, declared.LengthRead.LengthRead, Element.constructorOf, Head.endOf, Head.lengthOf, Answers.frontOf, Answers.lengthSize}
+use Rattle.element.specs.{declared.FaultKind.FaultKind, declared.EndRead.EndRead, declared.TagRead.TagRead, declared.LengthRead.LengthRead, Element.constructorOf, Head.endOf, Head.lengthOf, inner.Fronts.frontOf, inner.Fronts.lengthSize}
 use Rattle.element.specs.Fault.{Owner, portion, dialogue, fault, Text, at, inDialogue}
 use Rattle.element.specs.Ask.{Got, got, bad, next, check, blamed, definite, indefinite, head, Body, askLength, atEnd, askEnd, ask}
 use Rattle.element.specs.Parts.{Item, level, done, aroundItem, onlyBody}

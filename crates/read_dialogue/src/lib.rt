@@ -10,7 +10,7 @@ ghost use Rattle.read_place.specs.Places.{Reads, Ready, finite, part, standsOf}
 ghost use Rattle.read_place.specs.Laying.{laySpan, layDialogue};
 ghost use Rattle.read_place.specs.Leaves.{Leaves};
 ghost use Rattle.read_place.specs.Blames.{Blames};
-ghost use Rattle.tcap.specs.Names.{nameKind};
+ghost use Rattle.tcap.specs.inner.Names.{nameKind};
 ghost use Rattle.tcap.specs.WellFormed.{the93};
 ghost use Rattle.tcap.specs.Productions.{levelAt, parameterItem, externalBody, dialogueItem};
 ghost use Rattle.read_pdu.specs.Pdus.{Takes, TakesAll, pduItem};

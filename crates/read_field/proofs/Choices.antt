@@ -15,7 +15,7 @@ use Rattle.element.specs.declared.TagRead.{TagRead}
 use Rattle.element.specs.declared.LengthRead.{LengthRead}
 use Rattle.element.specs.Element.{constructorOf}
 use Rattle.element.specs.Form.{StandsFor}
-use Rattle.element.specs.Answers.{frontOf}
+use Rattle.element.specs.inner.Fronts.{frontOf}
 use Rattle.element.specs.Ask.{Got, check, blamed, ask, askLength}
 use Rattle.element.specs.Parts.{Item, level, leafContents, leafItem, mapItem, orItem, integerItem}
 use Rattle.element.proofs.Heads.{LengthIs, length-sound}

@@ -17,7 +17,7 @@ use lib.IntN.{ℤ}
 use lib.Seq.{drop-cons}
 use Rattle.base.specs.Value.{Every, same}
 use Rattle.primitive.specs.Primitive.{mostIntegerOctets, mostIdentifierOctets, identifierOk, numbers, integerOk, integerOctets, signedOf}
-use Rattle.primitive.specs.Answers.{integerOf}
+use Rattle.primitive.specs.inner.Answers.{integerOf}
 use Rattle.primitive.proofs.Integers.{fewest-range}
 use Rattle.primitive.specs.declared.IntegerRead.{IntegerRead}
 use Rattle.tcap.specs.Productions.{single?, octetItem, nameItem}

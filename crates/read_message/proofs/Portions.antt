@@ -11,7 +11,7 @@ use borrow.Author.Tests.{eqb-true, ne-eqb}
 use Rattle.element.specs.declared.FaultKind.{FaultKind}
 use Rattle.element.specs.Element.{constructorOf}
 use Rattle.element.specs.Fault.{fault, Text, portion, withOrigId}
-use Rattle.element.specs.Answers.{lengthSize}
+use Rattle.element.specs.inner.Fronts.{lengthSize}
 use Rattle.element.specs.Ask.{Body}
 use Rattle.element.specs.Parts.{level, silently, bindBody, thenBody, onlyBody, optBody, mapBody}
 use Rattle.tcap.specs.Meaning.{Originating, orig, Destination, dest, Component, Dialogue, Ending, Message, silent, unidirectional, begin, finish, continue, abort}

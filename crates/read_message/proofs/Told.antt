@@ -12,7 +12,7 @@ use Rattle.element.specs.declared.LengthRead.{LengthRead}
 use Rattle.element.specs.Element.{constructorOf}
 use Rattle.element.specs.Fault.{portion, fault, Text, at, withOrigId}
 use Rattle.element.specs.Head.{endOf, lengthOf}
-use Rattle.element.specs.Answers.{frontOf}
+use Rattle.element.specs.inner.Fronts.{frontOf}
 use Rattle.element.specs.Ask.{Got, got, bad, next, check, blamed, Head, head, definite, indefinite, askLength, atEnd, ask}
 use Rattle.element.specs.Parts.{Item, level, leafContents, leafItem}
 use Rattle.tcap.specs.Meaning.{Originating, orig}

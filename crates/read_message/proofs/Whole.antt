@@ -13,7 +13,7 @@ use Rattle.element.specs.declared.FaultKind.{FaultKind}
 use Rattle.element.specs.Element.{constructorOf}
 use Rattle.element.specs.Fault.{Fault, fault, portion, Text, at}
 use Rattle.element.specs.Head.{lengthOf}
-use Rattle.element.specs.Answers.{span, lengthSize}
+use Rattle.element.specs.inner.Fronts.{span, lengthSize}
 use Rattle.element.specs.Ask.{Got, got, bad, next, check, blamed, Head, head, Body, ask}
 use Rattle.element.specs.Parts.{Item, level, place, aroundItem, bindBody, thenBody, mapBody}
 use Rattle.element.proofs.Asking.{Then, fact, void, the-fact}

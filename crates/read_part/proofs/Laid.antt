@@ -14,7 +14,7 @@ use Rattle.base.specs.Number.{numberFrom, octetsIn, topOf, bitsAt}
 use Rattle.base.specs.Value.{same}
 use Rattle.base.proofs.Numbers.{bits-signed}
 use Rattle.primitive.specs.Primitive.{mostIntegerOctets, mostIdentifierOctets, identifierOk, integerOk, signedOf}
-use Rattle.primitive.specs.Answers.{integerOf}
+use Rattle.primitive.specs.inner.Answers.{integerOf}
 use Rattle.primitive.specs.declared.IntegerRead.{IntegerRead}
 use Rattle.element.specs.declared.FaultKind.{FaultKind}
 use Rattle.element.specs.Fault.{Fault, Text}

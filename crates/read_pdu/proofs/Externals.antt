@@ -6,7 +6,7 @@ use native.{Mathlib.Omega.arith, Mathlib.Nat.add-zero}
 use lib.{ListN.length, ListN.getD, ListN.drop, ListN.take, ListN.set, Dec.leb}
 use borrow.Author.Tests.{lt-ltb, le-ltb}
 use Rattle.element.specs.{declared.FaultKind.FaultKind, declared.EndRead.EndRead, declared.TagRead.TagRead, declared.LengthRead.LengthRead, declared.Walk.Walk}
-use Rattle.element.specs.{Element.constructorOf, Element.codeZero, Fault.Text, Fault.at, Head.endOf, Head.lengthOf, Answers.frontOf, Answers.elementWalk, Answers.lengthSize}
+use Rattle.element.specs.{Element.constructorOf, Element.codeZero, Fault.Text, Fault.at, Head.endOf, Head.lengthOf, inner.Fronts.frontOf, Answers.elementWalk, inner.Fronts.lengthSize}
 use Rattle.element.specs.Ask.{Got, got, bad, next, check, blamed, Body, askLength, atEnd, askEnd, ask}
 use Rattle.element.specs.{Parts.level, Parts.onward, Parts.silently, Parts.inside, Parts.keptItem, Parts.seriesBody, Walk.walkItem, Walk.walkTagItem}
 use Rattle.element.proofs.{Asking.Then, Asking.fact, Asking.void, Walking.not-more, Whole.element-size, Reading.definite-size, Reading.indefinite-size}

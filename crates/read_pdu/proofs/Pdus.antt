@@ -6,7 +6,7 @@ use native.Mathlib.Omega.{arith}
 use lib.{ListN.length, ListN.getD, ListN.drop, ListN.take, ListN.set, ListN.length-drop, Seq.length-take-le, Seq.getD-take, Seq.getD-drop, Dec.eqb, Dec.ltb}
 use borrow.Author.Tests.{eq-eqb, ne-eqb}
 use Rattle.base.{specs.Value.same, proofs.Values.same-equal}
-use Rattle.element.specs.{declared.FaultKind.FaultKind, Element.constructorOf, Fault.Text, Answers.lengthSize}
+use Rattle.element.specs.{declared.FaultKind.FaultKind, Element.constructorOf, Fault.Text, inner.Fronts.lengthSize}
 use Rattle.element.specs.Ask.{Got, got, bad, next, Head, definite, indefinite, head, Body, ask}
 use Rattle.element.specs.Parts.{Item, level, inside, aroundItem, mapItem, thenBody, onlyBody, optBody, mapBody}
 use Rattle.tcap.specs.{declared.Diagnostic.Diagnostic, Meaning.Dialogue, Meaning.version, Meaning.request, Meaning.unidialogue, Meaning.response, Meaning.aborted, WellFormed.mostResult, WellFormed.mostUserDiagnostic, WellFormed.mostProviderDiagnostic, WellFormed.mostAbortSource, WellFormed.the93}

@@ -5,7 +5,7 @@ use mathlib.Core.{Bool.Bool, Bool.true, Bool.false, Bool._&&_, Bool.and-eq-true-
 use native.Mathlib.Omega.{arith}
 use lib.{ListN.length, ListN.getD, ListN.drop, ListN.take, ListN.set, ListN.length-drop, Seq.length-take-le, Seq.getD-take, Seq.getD-drop, Dec.ltb, Dec.leb, Dec.eqb}
 use borrow.Author.Tests.{leb-true}
-use Rattle.element.specs.{declared.FaultKind.FaultKind, declared.TagRead.TagRead, Element.constructorOf, Fault.Fault, Fault.Text, Answers.frontOf, Answers.lengthSize}
+use Rattle.element.specs.{declared.FaultKind.FaultKind, declared.TagRead.TagRead, Element.constructorOf, Fault.Fault, Fault.Text, inner.Fronts.frontOf, inner.Fronts.lengthSize}
 use Rattle.element.specs.Ask.{Got, got, bad, next, blamed, Head, Body, ask}
 use Rattle.element.specs.Parts.{Item, Where, level, place, leafItem, aroundItem, mapItem, orItem, thenBody, onlyBody}
 use Rattle.element.proofs.{Asking.Then, Asking.fact, Views.span-take}

@@ -14,7 +14,7 @@ use Rattle.element.specs.declared.LengthRead.{LengthRead}
 use Rattle.element.specs.Element.{constructorOf}
 use Rattle.element.specs.Fault.{Text}
 use Rattle.element.specs.Head.{endOf, lengthOf}
-use Rattle.element.specs.Answers.{frontOf, span, lengthSize}
+use Rattle.element.specs.inner.Fronts.{frontOf, span, lengthSize}
 use Rattle.element.specs.Ask.{Got, got, bad, next, check, atEnd, definite, indefinite, head, Body, askLength, ask}
 use Rattle.element.specs.Parts.{Item, Where, level, inside, aroundItem}
 use Rattle.element.proofs.Reading.{definite-size, indefinite-size}

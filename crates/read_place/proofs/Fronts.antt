@@ -15,7 +15,7 @@ use Rattle.element.specs.declared.TagRead.{TagRead}
 use Rattle.element.specs.Element.{constructorOf, codeZero}
 use Rattle.element.specs.Fault.{Fault, at}
 use Rattle.element.specs.Head.{endOf, tagOf, lengthOf}
-use Rattle.element.specs.Answers.{fronted, frontOf, span}
+use Rattle.element.specs.inner.Fronts.{fronted, frontOf, span}
 use Rattle.element.specs.Ask.{Got, got, bad, check, Body, askLength, askTag, atEnd, askEnd, ask}
 use Rattle.element.specs.Parts.{place}
 use Rattle.element.proofs.Reading.{tag-size, tag-first}

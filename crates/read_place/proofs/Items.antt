@@ -20,7 +20,7 @@ use Rattle.element.proofs.Shortest.{long-only}
 use mathlib.Core.Logic.{inl, inr}
 use lib.Seq.{length-take-le, getD-take}
 use Rattle.element.specs.Head.{endOf, within, lengthOf}
-use Rattle.element.specs.Answers.{fronted, frontOf, span, lengthSize}
+use Rattle.element.specs.inner.Fronts.{fronted, frontOf, span, lengthSize}
 use Rattle.element.specs.Ask.{Got, got, bad, next, check, blamed, definite, indefinite, Head, head, Body, askLength, atEnd, ask}
 use Rattle.element.specs.Parts.{Item, Where, level, leafContents, leafItem, inside, aroundItem, mapItem, orItem, place}
 use Rattle.element.proofs.Heads.{LengthIs, length-sound}

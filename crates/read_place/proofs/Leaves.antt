@@ -14,7 +14,7 @@ use Rattle.element.specs.declared.LengthRead.{LengthRead}
 use Rattle.element.specs.Element.{constructorOf}
 use Rattle.element.specs.Fault.{Fault, at}
 use Rattle.element.specs.Head.{endOf, lengthOf}
-use Rattle.element.specs.Answers.{frontOf, lengthSize}
+use Rattle.element.specs.inner.Fronts.{frontOf, lengthSize}
 use Rattle.element.specs.Ask.{Got, got, bad, next, check, blamed, definite, indefinite, head, Body, askLength, atEnd, ask}
 use Rattle.element.specs.Parts.{Item, Where, level, done, aroundItem, bindBody, thenBody, onlyBody, lastBody, optBody, mapBody}
 use Rattle.element.proofs.Views.{span-drop}

@@ -15,7 +15,8 @@ use Rattle.element.specs.declared.LengthRead.{LengthRead}
 use Rattle.element.specs.Element.{constructorOf}
 use Rattle.element.specs.Fault.{Fault, fault, at}
 use Rattle.element.specs.Head.{endOf, tagOf, lengthOf}
-use Rattle.element.specs.Answers.{frontOf, wantedItem, walkOf, elementWalk, lengthSize}
+use Rattle.element.specs.Answers.{wantedItem, walkOf, elementWalk}
+use Rattle.element.specs.inner.Fronts.{frontOf, lengthSize}
 use Rattle.element.specs.Ask.{Got, got, bad, next, check, blamed, definite, indefinite, head, Body, askLength, askTag, atEnd, askEnd, ask}
 use Rattle.element.specs.Parts.{Item, Where, level, aroundItem, onward, silently, onlyBody, lastBody, optPick, optBody}
 use Rattle.read_place.specs.Places.{base, faultPlace, part, finite, endedOf, unfinishedOf, behindOf, Placed, Closing, front, nothing, standsOf, entryPlace, Leads, Walked, Reads, Finishes, until, Far, Near, cutOff, missing}

@@ -15,7 +15,7 @@ use Rattle.element.specs.Head.{endOf, within, lengthOf}
 use Rattle.walk.specs.Walks.{contentsEnd}
 use Rattle.walk.proofs.Views.{long-more}
 use Rattle.element.proofs.Views.{lengthBy, length-view, lengthOctets, endBy, end-view}
-use Rattle.element.specs.Answers.{span, longRead}
+use Rattle.element.specs.inner.Fronts.{span, longRead}
 use Rattle.read_place.specs.Places.{part, finite, endedOf, unfinishedOf, base, lengthPlace, until, Near, Endless, Finite, opening, passesEnd}
 
 -- the end of contents, by their stop

@@ -19,7 +19,8 @@ use Rattle.walk.proofs.Views.{length-short}
 use Rattle.walk.proofs.Wholes.{odd}
 use lib.Seq.{length-take-le}
 use Rattle.element.specs.Head.{endOf, tagOf, lengthOf}
-use Rattle.element.specs.Answers.{fronted, frontOf, wantedItem, walkOf, elementWalk, seriesWalk, span, lengthSize}
+use Rattle.element.specs.Answers.{wantedItem, walkOf, elementWalk, seriesWalk}
+use Rattle.element.specs.inner.Fronts.{fronted, frontOf, span, lengthSize}
 use Rattle.element.specs.Ask.{next, check, askTag}
 use Rattle.element.specs.Parts.{level, place}
 use Rattle.element.proofs.Reading.{tag-size, definite-size, indefinite-size}

@@ -3,7 +3,7 @@
 use Prim.Native.Nat.{ℕ, _+_, _-_, _%_, _≤_, _<_}
 use mathlib.Core.{Path._≡_, Bool.Bool, Bool.true, Bool.false, Bool.cond, List.List, Option.none}
 use lib.{ListN.length, ListN.getD, Dec.eqb, Dec.ltb, Dec.leb}
-use Rattle.element.specs.{declared.FaultKind.FaultKind, declared.EndRead.EndRead, declared.TagRead.TagRead, declared.LengthRead.LengthRead, declared.Walk.Walk, Fault.Fault, Fault.fault, Head.endOf, Head.lengthOf, Answers.frontOf, Answers.span, Ask.Got, Ask.got, Ask.bad, Ask.Body, Ask.ask, Ask.blamed, Parts.Item, Parts.Where, Parts.place, Parts.done, Parts.level}
+use Rattle.element.specs.{declared.FaultKind.FaultKind, declared.EndRead.EndRead, declared.TagRead.TagRead, declared.LengthRead.LengthRead, declared.Walk.Walk, Fault.Fault, Fault.fault, Head.endOf, Head.lengthOf, inner.Fronts.frontOf, inner.Fronts.span, Ask.Got, Ask.got, Ask.bad, Ask.Body, Ask.ask, Ask.blamed, Parts.Item, Parts.Where, Parts.place, Parts.done, Parts.level}
 
 -- Numbers: a place is below `opening`, an open stop between it and `faults`, a fault from there on, each kind in a block of its own
 

@@ -1,6 +1,7 @@
 // Elements that are walked to their bottom: the place behind them, or a fault.
 ghost use mathlib.Core.Path.{_≡_};
-ghost use Rattle.element.specs.Answers.{elementWalk, seriesWalk, span};
+ghost use Rattle.element.specs.Answers.{elementWalk, seriesWalk};
+ghost use Rattle.element.specs.inner.Fronts.{span};
 ghost use Rattle.read_place.specs.Places.{part, finite, Stands, Walked, WalkedOut, until, Ready};
 use crate::CODE_ZERO;
 use crate::CUT_OFF;

@@ -9,7 +9,7 @@ ghost use Prim.Native.Nat.{_+_, _<_, _≤_};
 ghost use lib.ListN.{length, getD};
 ghost use Rattle.element.specs.Head.{endOf, tagOf, lengthOf};
 ghost use Rattle.read_place.specs.Places.{part, finite, Stands, endedOf, unfinishedOf, behindOf, tagPlace, lengthPlace, wrongPlace, standsOf, entryPlace, badPlace, countOf, Finishes, nothing, until, Ready};
-ghost use Rattle.element.specs.Answers.{span, longRead};
+ghost use Rattle.element.specs.inner.Fronts.{span, longRead};
 ghost use Rattle.read_place.specs.Laying.{layText};
 pub use crate::elements::walk_any;
 pub use crate::elements::walk_element;

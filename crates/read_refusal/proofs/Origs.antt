@@ -16,7 +16,7 @@ use Rattle.element.specs.declared.LengthRead.{LengthRead}
 use Rattle.element.specs.Element.{constructorOf, codeZero}
 use Rattle.element.specs.Fault.{Text, Fault, fault, at, withOrigId}
 use Rattle.element.specs.Head.{endOf, lengthOf}
-use Rattle.element.specs.Answers.{frontOf, lengthSize}
+use Rattle.element.specs.inner.Fronts.{frontOf, lengthSize}
 use Rattle.element.specs.Ask.{Got, got, bad, next, check, blamed, definite, indefinite, Head, head, Body, askLength, atEnd, ask}
 use Rattle.element.specs.Parts.{Item, level, leafItem, inside, aroundItem, bindBody, mapBody, thenBody}
 use Rattle.element.proofs.Asking.{Then, the-fact, fact, then-next, then-blamed, ask-sound}

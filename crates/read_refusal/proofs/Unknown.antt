@@ -15,7 +15,7 @@ use Rattle.element.specs.declared.LengthRead.{LengthRead}
 use Rattle.element.specs.Element.{constructorOf, extendedOf, codeZero}
 use Rattle.element.specs.Fault.{Text}
 use Rattle.element.specs.Head.{endOf, lengthOf}
-use Rattle.element.specs.Answers.{frontOf}
+use Rattle.element.specs.inner.Fronts.{frontOf}
 use Rattle.element.specs.Ask.{Got, got, bad, next, check, blamed, definite, indefinite, Head, head, Body, askLength, atEnd, ask}
 use Rattle.element.specs.Parts.{level, inside, aroundItem, place}
 use Rattle.tcap.specs.Meaning.{Originating, orig}

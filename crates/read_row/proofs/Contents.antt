@@ -14,7 +14,7 @@ use Rattle.element.specs.declared.{FaultKind.FaultKind, EndRead.EndRead, TagRea
 use Rattle.element.specs.Element.{constructorOf}
 use Rattle.element.specs.Fault.{fault, Text, withInvokeId}
 use Rattle.element.specs.Head.{endOf, lengthOf}
-use Rattle.element.specs.Answers.{frontOf, lengthSize}
+use Rattle.element.specs.inner.Fronts.{frontOf, lengthSize}
 use Rattle.element.specs.Ask.{head, Body, ask}
 use Rattle.element.specs.Parts.{level, silently, aroundItem, bindBody, onlyBody, lastBody, mapBody, integerItem}
 use Rattle.tcap.specs.declared.Problem.{Problem}

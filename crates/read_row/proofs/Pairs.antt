@@ -12,7 +12,7 @@ use Rattle.element.specs.declared.{FaultKind.FaultKind, EndRead.EndRead, TagRea
 use Rattle.element.specs.Element.{constructorOf}
 use Rattle.element.specs.Fault.{Fault}
 use Rattle.element.specs.Head.{endOf, lengthOf}
-use Rattle.element.specs.Answers.{frontOf}
+use Rattle.element.specs.inner.Fronts.{frontOf}
 use Rattle.element.specs.Ask.{Got, got, next, check, Size, definite, indefinite, Head, head, Body, askLength, atEnd, ask}
 use Rattle.element.specs.Parts.{Item, level, inside, done, aroundItem, bindBody, onlyBody, lastBody, mapBody}
 use Rattle.element.proofs.Views.{span-drop}

@@ -7,7 +7,7 @@ use lib.ListN.{length, take, drop, length-append, length-drop}
 use lib.Seq.{drop-at, length-take-le}
 use Rattle.io.specs.Counts.{Counts}
 use Rattle.base.specs.Text.{text}
-use Rattle.base.specs.Put.{Put}
+use Rattle.base.specs.inner.Put.{Put}
 use Rattle.base.proofs.Puts.{put-length}
 use Rattle.digits.specs.Digits.{hex}
 use Rattle.digits.proofs.Digits.{hex-length}

@@ -4,7 +4,7 @@ ghost use mathlib.Core.Path.{_≡_};
 ghost use Prim.Native.Nat.{_≤_};
 ghost use lib.ListN.{length, take};
 ghost use Rattle.io.specs.Counts.{Counts};
-ghost use Rattle.base.specs.Put.{Put};
+ghost use Rattle.base.specs.inner.Put.{Put};
 ghost use Rattle.tcap.specs.Reading.{reading};
 ghost use Rattle.writing.specs.Writing.{Writes};
 ghost use Rattle.readings.specs.Rewritten.{rewritten, lineOf};

@@ -7,7 +7,7 @@ use mathlib.Core.List.{List, _++_}
 use lib.ListN.{length, length-append}
 use lib.Dec.{leb}
 use borrow.Author.Tests.{leb-true, le-leb, lt-leb}
-use Rattle.base.specs.Put.{Put}
+use Rattle.base.specs.inner.Put.{Put}
 use Rattle.base.proofs.Puts.{put-front}
 use Rattle.sccp.specs.declared.{UnitdataWriteFault.UnitdataWriteFault, UnitdataWritten.UnitdataWritten}
 use Rattle.sccp.specs.Standing.{Ranged}

@@ -1,3 +1,4 @@
 pub mod Unitdata
 pub mod Standing
 pub mod Writing
+pub mod inner

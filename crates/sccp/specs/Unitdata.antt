@@ -2,7 +2,7 @@
 use Prim.Native.Nat.{ℕ, suc, _+_}
 use mathlib.Core.{Bool.Bool, Bool._&&_, Bool._||_, Bool.cond, List.List}
 use lib.{ListN.length, ListN.getD, Dec.leb, Dec.ltb, Dec.eqb}
-use Rattle.sccp.specs.declared.{Part.Part, UnitdataFault.UnitdataFault, UnitdataRead.UnitdataRead, PartRead.PartRead}
+use Rattle.sccp.specs.declared.{Part.Part, UnitdataFault.UnitdataFault, UnitdataRead.UnitdataRead}
 
 -- the numbers of document 02
 unfoldable pub unitdataNumber : UnitdataFault → ℕ
@@ -68,7 +68,3 @@ readUnitdata m =
 unfoldable pub unitdataStatus : UnitdataRead → ℕ
 unitdataStatus (UnitdataRead.Read u) = 0
 unitdataStatus (UnitdataRead.Refused f) = unitdataNumber f
-
--- one part, cited by an inner contract
-unfoldable pub partRead : List ℕ → ℕ → PartRead
-partRead m i = cond (inside m (partAt m i)) (PartRead.Inside (partAt m i)) PartRead.PastEnd

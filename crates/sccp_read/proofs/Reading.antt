@@ -8,7 +8,8 @@ use lib.ListN.{length, getD, List·getD-eq-default}
 use lib.Dec.{ltb}
 use borrow.Author.Tests.{ltb-true, ltb-false, leb-true, lt-ltb, le-ltb, le-leb, lt-leb, eq-eqb, ne-eqb}
 use Rattle.sccp.specs.declared.{Part.Part, PartRead.PartRead, UnitdataFault.UnitdataFault, UnitdataRead.UnitdataRead}
-use Rattle.sccp.specs.Unitdata.{namedBy, partAt, inside, apart, judged, readUnitdata, partRead}
+use Rattle.sccp.specs.Unitdata.{namedBy, partAt, inside, apart, judged, readUnitdata}
+use Rattle.sccp.specs.inner.Parts.{partRead}
 
 -- the part at i, as the code finds it: k is the place of its length octet, n its length
 module _ (m : List ℕ) (i : ℕ) where

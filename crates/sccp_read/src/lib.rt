@@ -1,6 +1,7 @@
 // A unitdata, read: its class, and where its three parts stand.
 ghost use mathlib.Core.Path.{_≡_};
-ghost use Rattle.sccp.specs.Unitdata.{apart, separate, partRead, judged, readUnitdata, unitdataNumber};
+ghost use Rattle.sccp.specs.Unitdata.{apart, separate, judged, readUnitdata, unitdataNumber};
+ghost use Rattle.sccp.specs.inner.Parts.{partRead};
 use base::wide;
 use sccp::Part;
 use sccp::PartRead;

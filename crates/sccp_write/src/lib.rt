@@ -3,7 +3,7 @@ ghost use mathlib.Core.Path.{_≡_};
 ghost use mathlib.Core.Bool.{true};
 ghost use Prim.Native.Nat.{_<_};
 ghost use lib.ListN.{length};
-ghost use Rattle.base.specs.Put.{Put};
+ghost use Rattle.base.specs.inner.Put.{Put};
 ghost use Rattle.sccp.specs.Writing.{counted, inRange, unitdataOctets, writingUnitdata, leavesUnitdata, unitdataWriteNumber};
 use base::put_octet;
 use base::put_part;

@@ -22,7 +22,7 @@ use Rattle.read.proofs.Octets.{count-octet, held-front}
 use Rattle.read.proofs.Few.{reading-few}
 use Rattle.steering.specs.declared.{Rule.Rule, FirstCode.FirstCode, Key.Key, Choice.Choice, Steered.Steered}
 use Rattle.steering.specs.Steering.{localOf, invoked, firstOf, keyOf, firstFit, answered, steeredBy, steering}
-use Rattle.steering.specs.Looked.{firstIn, KeyIs}
+use Rattle.steering.specs.inner.Looked.{firstIn, KeyIs}
 use Rattle.steering.proofs.Layouts.{signed-back}
 
 -- the code in the octets of a row

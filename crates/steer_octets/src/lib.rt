@@ -2,7 +2,7 @@
 ghost use mathlib.Core.Path.{_≡_};
 ghost use Rattle.tcap.specs.Reading.{reading};
 ghost use Rattle.steering.specs.Layout.{rulesIn};
-ghost use Rattle.steering.specs.Looked.{KeyIs};
+ghost use Rattle.steering.specs.inner.Looked.{KeyIs};
 ghost use Rattle.steering.specs.Steering.{steering};
 use steering::Key;
 use steering::Steered;

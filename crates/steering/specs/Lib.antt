@@ -1,4 +1,4 @@
 pub mod Steering
 pub mod Layout
 pub mod Meant
-pub mod Looked
+pub mod inner

@@ -4,7 +4,7 @@ pub mod octets;
 ghost use mathlib.Core.Path.{_≡_};
 ghost use Prim.Native.Nat.{_≤_};
 ghost use lib.ListN.{length};
-ghost use Rattle.steering.specs.Looked.{firstIn};
+ghost use Rattle.steering.specs.inner.Looked.{firstIn};
 ghost use Rattle.steering.specs.Steering.{kindFits, codeFits, chosen, answered};
 use crate::octets::signed_in;
 use base::piece;

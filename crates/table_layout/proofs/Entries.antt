@@ -12,11 +12,13 @@ use borrow.Author.Tests.{eqb-true, eqb-false, eq-eqb, ne-eqb}
 use Rattle.transaction_states.specs.declared.{State.State, Event.Event, Move.Move, Room.Room, Deed.Deed}
 use Rattle.open_transactions.specs.declared.{Entry.Entry}
 use Rattle.transaction_states.specs.Events.{isOpen, moveOf, moving}
-use Rattle.open_transactions.specs.Table.{blankEntry, isFree, holds, sameId, findFrom, otherDeed, Inside}
+use Rattle.open_transactions.specs.Table.{blankEntry, isFree, holds, sameId, findFrom, otherDeed}
+use Rattle.open_transactions.specs.inner.Steps.{Inside}
 use Rattle.open_transactions.proofs.Finding.{find-here, find-next, find-none}
 use Rattle.open_transactions.proofs.Doing.{inside-at}
 use Rattle.entry_octets.proofs.Putting.{Octet}
-use Rattle.entry_octets.specs.Entries.{stateIn, wordFrom, wordOf, heldIn}
+use Rattle.entry_octets.specs.Entries.{stateIn}
+use Rattle.entry_octets.specs.inner.Words.{wordFrom, wordOf, heldIn}
 use Rattle.table_layout.specs.Octets.{entryOf, entriesFrom, entriesIn}
 
 -- The entry in a room

@@ -13,8 +13,10 @@ use Rattle.transaction_states.specs.declared.{State.State, Event.Event, Move.Mo
 use Rattle.transaction_states.specs.Events.{isOpen, moveOf, beginsOf, idsOk, opening, moving}
 use Rattle.open_transactions.specs.Table.{blankEntry, isFree, holds, sameId, findFrom, beginDeed, otherDeed, foundDeed, deedOf}
 use Rattle.open_transactions.proofs.Counting.{first-of}
-use Rattle.entry_octets.specs.Entries.{stateIn, fourOf, entryOctets, partnerPut}
-use Rattle.table_layout.specs.Octets.{entryOf, entriesIn, octetsDone, Known}
+use Rattle.entry_octets.specs.Entries.{stateIn, fourOf, entryOctets}
+use Rattle.entry_octets.specs.inner.Words.{partnerPut}
+use Rattle.table_layout.specs.Octets.{entryOf, entriesIn, octetsDone}
+use Rattle.table_layout.specs.inner.Steps.{Known}
 use Rattle.table_layout.proofs.Entries.{length-entries, entry-at}
 use Rattle.entry_octets.proofs.Putting.{header}
 

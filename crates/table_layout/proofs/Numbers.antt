@@ -8,7 +8,8 @@ use native.Mathlib.Omega.{arith}
 use lib.Dec.{ltb}
 use Rattle.transaction_states.specs.declared.{TableRefusal.TableRefusal, Deed.Deed, Taken.Taken}
 use Rattle.transaction_states.specs.Events.{toldBy, takenOf}
-use Rattle.open_transactions.specs.Table.{refusalNumber, deedOf, Doable}
+use Rattle.open_transactions.specs.Table.{refusalNumber, deedOf}
+use Rattle.open_transactions.specs.inner.Steps.{Doable}
 use Rattle.open_transactions.specs.History.{takenStatus}
 use Rattle.open_transactions.proofs.Doing.{deed-doable}
 use Rattle.table_layout.specs.declared.{Reply.Reply}

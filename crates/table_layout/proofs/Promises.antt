@@ -13,7 +13,8 @@ use borrow.Author.Tests.{le-ltb, lt-ltb, ltb-true, ltb-false, eqb-true, eqb-fals
 use Rattle.transaction_states.specs.declared.{State.State, Deed.Deed}
 use Rattle.open_transactions.specs.declared.{Entry.Entry, Table.Table}
 use Rattle.transaction_states.specs.Events.{toldBy}
-use Rattle.open_transactions.specs.Table.{blankEntry, emptyTable, partnerOf, entryFor, activeNow, deedOf, done, stepped, Doable}
+use Rattle.open_transactions.specs.Table.{blankEntry, emptyTable, partnerOf, entryFor, activeNow, deedOf, done, stepped}
+use Rattle.open_transactions.specs.inner.Steps.{Doable}
 use Rattle.open_transactions.specs.History.{Happening, tableFrom, reached}
 use Rattle.open_transactions.proofs.Doing.{deed-doable}
 use Rattle.table_layout.specs.declared.{Reply.Reply}

@@ -10,7 +10,7 @@ use lib.Seq.{drop-drop}
 use Rattle.transaction_states.specs.declared.{Room.Room}
 use Rattle.open_transactions.specs.Table.{holds, findFrom}
 use Rattle.entry_octets.proofs.Putting.{Octet}
-use Rattle.entry_octets.specs.Entries.{wordOf, heldIn, passedIn}
+use Rattle.entry_octets.specs.inner.Words.{wordOf, heldIn, passedIn}
 use Rattle.table_layout.specs.Octets.{entryOf, entriesIn}
 use Rattle.table_layout.proofs.Entries.{at-here, at-next, held-holds, dropped}
 

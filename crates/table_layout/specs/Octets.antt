@@ -1,10 +1,9 @@
 -- The table of open transactions as octets, in the layout of docs/LAYOUT.md: 64 entries of 12 octets. Assumes nothing: these are definitions.
 use Prim.Native.Nat.{ℕ, zero, suc, _+_, _*_, _<_}
-use mathlib.Core.Path.{_≡_}
-use mathlib.Core.{Bool.true, Bool.cond, List.List, List.[], List._∷_}
+use mathlib.Core.{Bool.cond, List.List, List.[], List._∷_}
 use lib.{ListN.set, ListN.length, ListN.getD, ListN.drop, Seq.sets, Dec.eqb, Dec.ltb}
 use Rattle.transaction_states.specs.Events.{toldBy, takenOf}
-use Rattle.open_transactions.specs.Table.{capacity, holds, partnerOf, refusalNumber, deedOf}
+use Rattle.open_transactions.specs.Table.{capacity, partnerOf, refusalNumber, deedOf}
 use Rattle.transaction_states.specs.declared.{State.State, Event.Event, Deed.Deed, Taken.Taken}
 use Rattle.open_transactions.specs.declared.{Entry.Entry, Table.Table}
 use Rattle.table_layout.specs.declared.{Reply.Reply}
@@ -83,12 +82,3 @@ InTable (Taken.Refused k) = Unit {0}
 InTable (Taken.Opened i) = i < capacity
 InTable (Taken.Kept i) = i < capacity
 InTable (Taken.Closed i) = i < capacity
-
--- a partner's ID is stored in an entry under ours
-abbrev pub Known : List ℕ → List ℕ → Deed → Type 0
-Known l o (Deed.Refused k) = Unit {0}
-Known l o (Deed.Opens i s) = Unit {0}
-Known l o (Deed.Keeps i) = Unit {0}
-Known l o (Deed.Activates i) = Unit {0}
-Known l o (Deed.Learns i) = holds o (entryOf (drop (i * 12) l)) ≡ true
-Known l o (Deed.Closes i) = Unit {0}

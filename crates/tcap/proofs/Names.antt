@@ -10,7 +10,7 @@ use borrow.Author.Tests.{eq-eqb, ne-eqb, eqb-true}
 use Rattle.base.specs.Value.{same}
 use Rattle.base.proofs.Values.{same-equal}
 use Rattle.tcap.specs.Meaning.{structured, unstructured}
-use Rattle.tcap.specs.Names.{common, kindOf, nameKind}
+use Rattle.tcap.specs.inner.Names.{common, kindOf, nameKind}
 
 pub other-length : (s c : List ℕ) → (length c ≡ length s → ⊥) → same s c ≡ false
 other-length s c h = by-test (same s c) refl

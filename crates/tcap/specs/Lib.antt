@@ -6,4 +6,5 @@ pub mod Reading
 pub mod Standard
 pub mod Due
 pub mod Refused
-pub mod Names
+pub mod inner
+pub mod Verdict

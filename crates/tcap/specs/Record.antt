@@ -175,3 +175,11 @@ messageTag MessageKind.Begin = 0x62
 messageTag MessageKind.End = 0x64
 messageTag MessageKind.Continue = 0x65
 messageTag MessageKind.Abort = 0x67
+
+-- the tag of a component
+abbrev pub rowTag : ComponentKind → ℕ
+rowTag (ComponentKind.Invoke l c p) = 0xA1
+rowTag (ComponentKind.ResultLast r) = 0xA2
+rowTag (ComponentKind.ResultNotLast r) = 0xA7
+rowTag (ComponentKind.ReturnError c p) = 0xA3
+rowTag (ComponentKind.Reject q) = 0xA4

@@ -2,7 +2,7 @@
 ghost use mathlib.Core.Path.{_≡_};
 ghost use lib.ListN.{length};
 ghost use Rattle.tcap.specs.Record.{blankRow, messageTag};
-ghost use Rattle.tcap.specs.Names.{common, nameKind};
+ghost use Rattle.tcap.specs.inner.Names.{common, nameKind};
 use element::FaultKind;
 
 // The numbers of the page, as tcap/specs/WellFormed has them: the most octets of a message and of a transaction ID, the most components, the deepest level.

@@ -12,7 +12,7 @@ use Rattle.element.specs.Element.{extendedOf, codeZero}
 use Rattle.base.specs.Number.{numberFrom}
 use Rattle.element.specs.Form.{fewestOf}
 use Rattle.element.specs.Head.{within, lengthOf}
-use Rattle.element.specs.Answers.{fronted, frontOf, span, longRead}
+use Rattle.element.specs.inner.Fronts.{fronted, frontOf, span, longRead}
 use Rattle.element.proofs.Reading.{count-early, count-within, count-past}
 use Rattle.element.proofs.Views.{tagBy, tag-view, lengthBy, length-view, lengthOctets, all-of-them, long-place, one-place, no-255}
 use Rattle.walk.specs.Walks.{tagEnd, contentsEnd}

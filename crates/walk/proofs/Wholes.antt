@@ -15,7 +15,8 @@ use Rattle.element.specs.declared.LengthRead.{LengthRead}
 use Rattle.element.specs.declared.Walk.{Walk}
 use Rattle.element.specs.Element.{constructorOf, IsElement}
 use Rattle.element.specs.Head.{endOf, tagOf, lengthOf}
-use Rattle.element.specs.Answers.{fronted, frontOf, span, lengthSize, elementWalk, seriesWalk}
+use Rattle.element.specs.Answers.{elementWalk, seriesWalk}
+use Rattle.element.specs.inner.Fronts.{fronted, frontOf, span, lengthSize}
 use Rattle.element.proofs.Reading.{FrontIs, front-says, tag-first, front-size, definite-size, indefinite-size}
 use Rattle.element.proofs.Whole.{Wanted, element-sound, element-size, series-all, series-before-pair}
 use Rattle.element.proofs.Walking.{thenWalk, grown, element-fault, element-length, element-primitive, element-definite, element-indefinite, series-ended, series-more}

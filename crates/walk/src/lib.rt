@@ -5,7 +5,8 @@ ghost use Prim.Native.Nat.{suc, _+_, _-_, _<_, _≤_};
 ghost use lib.ListN.{length, getD, take, drop};
 ghost use Rattle.base.specs.Number.{numberFrom};
 ghost use Rattle.element.specs.Head.{within, lengthOf};
-ghost use Rattle.element.specs.Answers.{frontOf, span, longRead, lengthSize, elementWalk, seriesWalk};
+ghost use Rattle.element.specs.Answers.{elementWalk, seriesWalk};
+ghost use Rattle.element.specs.inner.Fronts.{frontOf, span, longRead, lengthSize};
 ghost use Rattle.walk.specs.Walks.{Within, Extended, tagEnd, contentsEnd, wholePlace, pairPlace};
 use base::wide;
 

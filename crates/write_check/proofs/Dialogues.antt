@@ -8,7 +8,7 @@ use lib.ListN.{length}
 use Rattle.base.specs.Value.{same}
 use Rattle.element.specs.Form.{Form, perhaps, shortest}
 use Rattle.tcap.specs.Meaning.{structured, unstructured, external}
-use Rattle.tcap.specs.Names.{kindOf, nameKind}
+use Rattle.tcap.specs.inner.Names.{kindOf, nameKind}
 use Rattle.write_check_row.specs.declared.Judged.{Judged}
 use Rattle.write_check_row.specs.Judged.{rankOf, judged, wholeSize, sizeOf}
 use Rattle.write_check_row.proofs.Joining.{size-short, then-size, around-size, leaf-size}

@@ -12,7 +12,7 @@ use Rattle.element.specs.Form.{seriesForm}
 use Rattle.tcap.specs.declared.{OptionalOrig.OptionalOrig, OptionalDest.OptionalDest, Row.Row, Dialogue.Dialogue, MessageKind.MessageKind, Record.Record}
 use Rattle.tcap.specs.WellFormed.{mostComponents}
 use Rattle.write_check_row.specs.declared.Judged.{Judged}
-use Rattle.write_check_row.specs.Verdict.{counted, partsFit, origRanges, destRanges, dialogueRanges, origLies, destLies, dialogueLies, dialogueShaped, allParts, allRanges, allLie, allShaped}
+use Rattle.tcap.specs.Verdict.{counted, partsFit, origRanges, destRanges, dialogueRanges, origLies, destLies, dialogueLies, dialogueShaped, allParts, allRanges, allLie, allShaped}
 use Rattle.write_check_row.specs.Forms.{rowsForm, insideForm, partsForm, recordForm}
 use Rattle.write_check_row.specs.Judged.{rankOf, judged, wrapped, sizeOf, rowsRank, rowsJudged}
 use Rattle.write_check_row.proofs.Joining.{join, wrap, then-size, around-size}

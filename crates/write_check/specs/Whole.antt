@@ -5,7 +5,8 @@ use mathlib.Core.{Bool.Bool, Bool.true, Bool.false, Bool.not, Bool.cond, Bool._&
 use lib.{ListN.length, Dec.leb, Dec.eqb}
 use Rattle.element.specs.{Form.then, Form.around}
 use Rattle.tcap.specs.{declared.Span.Span, declared.OptionalSpan.OptionalSpan, declared.OptionalOrig.OptionalOrig, declared.OptionalDest.OptionalDest, declared.Diagnostic.Diagnostic, declared.Row.Row, declared.Dialogue.Dialogue, declared.MessageKind.MessageKind, Meaning.octet, Meaning.contextForm, Meaning.sourceForm, WellFormed.mostComponents, WellFormed.mostResult}
-use Rattle.write_check_row.specs.{declared.Judged.Judged, Verdict.origThere, Verdict.destThere, Verdict.causeThere, Verdict.partsFit, Verdict.nameRanges, Verdict.origRanges, Verdict.destRanges, Verdict.sourceRanges, Verdict.dialogueRanges, Verdict.lies, Verdict.optionLies, Verdict.origLies, Verdict.destLies, Verdict.dialogueLies, Verdict.octetsIn, Verdict.nameShaped, Verdict.infoShaped, Verdict.outsideShaped, Verdict.dialogueShaped, Forms.infoForm, Forms.dialogueForm, Forms.origForm, Forms.destForm, Forms.rowsForm, Judged.rankOf, Judged.judged, Judged.joined, Judged.wrapped, Judged.sizeOf, Judged.rowsRank}
+use Rattle.write_check_row.specs.{declared.Judged.Judged, Forms.infoForm, Forms.dialogueForm, Forms.origForm, Forms.destForm, Forms.rowsForm, Judged.rankOf, Judged.judged, Judged.joined, Judged.wrapped, Judged.sizeOf, Judged.rowsRank}
+use Rattle.tcap.specs.Verdict.{origThere, destThere, causeThere, partsFit, nameRanges, origRanges, destRanges, sourceRanges, dialogueRanges, lies, optionLies, origLies, destLies, dialogueLies, octetsIn, nameShaped, infoShaped, outsideShaped, dialogueShaped}
 
 -- 6B around 28 around a name and what it holds
 abbrev pub externalJudged : Judged → Judged → Judged

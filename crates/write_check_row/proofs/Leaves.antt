@@ -15,7 +15,7 @@ use Rattle.primitive.specs.Primitive.{integerOctets}
 use Rattle.primitive.proofs.Integers.{integer-some, integer-fits}
 use Rattle.tcap.specs.declared.Span.{Span}
 use Rattle.tcap.specs.Meaning.{octet, integer}
-use Rattle.write_check_row.specs.Verdict.{lies, octetsIn}
+use Rattle.tcap.specs.Verdict.{lies, octetsIn}
 use Rattle.write_check_row.specs.Judged.{sizeOf}
 use Rattle.write_check_row.proofs.Joining.{size-short, leaf-size}
 

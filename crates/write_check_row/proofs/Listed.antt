@@ -17,7 +17,7 @@ use Rattle.tcap.specs.declared.{InvokeId.InvokeId, Problem.Problem, ComponentKi
 use Rattle.tcap.specs.Meaning.{integer}
 use Rattle.layout.specs.Layout.{headSize, rowSize, octet, isFlag, idIn, linkedIn, codeAt, parameterAt, isProblemTag, problemIn, returnedIn, isKind, kindIn, isRow, rowIn, areRows}
 use Rattle.write_check_row.specs.declared.Judged.{Judged}
-use Rattle.write_check_row.specs.Verdict.{idThere, rowPartsFit, rowRanges, rowLies, rowShaped}
+use Rattle.tcap.specs.Verdict.{idThere, rowPartsFit, rowRanges, rowLies, rowShaped}
 use Rattle.write_check_row.specs.Forms.{idForm, restForm, contentsForm, rowForm}
 use Rattle.write_check_row.specs.Judged.{rankOf, sizeCap, judged, joined, wholeSize, wrapped, sizeOf, listed, restJudged, rowJudged, rowsRank, rowsJudged}
 use Rattle.write_check_row.proofs.Joining.{joined-judged, join, wrap, size-short, then-size, around-size, leaf-size}

@@ -10,7 +10,7 @@ use lib.Seq.{take-suc}
 use Rattle.element.specs.Form.{Form, shortest, seriesForm}
 use Rattle.tcap.specs.declared.Row.{Row}
 use Rattle.write_check_row.specs.declared.Judged.{Judged}
-use Rattle.write_check_row.specs.Verdict.{every, rowPartsFit, rowRanges, rowLies, rowShaped}
+use Rattle.tcap.specs.Verdict.{every, rowPartsFit, rowRanges, rowLies, rowShaped}
 use Rattle.write_check_row.specs.Forms.{rowForm}
 use Rattle.write_check_row.specs.Judged.{rankOf, judged, joined, sizeOf, rowsRank, rowJudged, rowsJudged}
 use Rattle.write_check_row.proofs.Joining.{join, then-size, exact-size}

@@ -19,7 +19,7 @@ use Rattle.element.specs.Answers.{elementWalk}
 use Rattle.element.proofs.Whole.{Wanted, wantedTag, element-sound, element-complete, element-size}
 use Rattle.element.proofs.Walking.{Left, loop-ended, loop-fault, loop-next}
 use Rattle.walk.specs.Walks.{wholePlace}
-use Rattle.write_check_row.specs.Verdict.{tookAll, isElement, isSeries}
+use Rattle.tcap.specs.Verdict.{tookAll, isElement, isSeries}
 
 -- an element begins with its tag's first octet
 element-first : (l a : ℕ) (m : List ℕ) → IsElement l a m → getD m 0 0 ≡ a

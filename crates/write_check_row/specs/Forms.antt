@@ -4,7 +4,8 @@ use Prim.Native.Nat.{ℕ}
 use mathlib.Core.{List.List, List.[], List._∷_}
 use Rattle.element.specs.{Form.Form, Form.exactly, Form.then, Form.leaf, Form.around, Form.seriesForm, Form.shortest, Form.document01}
 use Rattle.tcap.specs.{declared.Span.Span, declared.OptionalSpan.OptionalSpan, declared.OptionalOrig.OptionalOrig, declared.OptionalDest.OptionalDest, declared.InvokeId.InvokeId, declared.LinkedId.LinkedId, declared.Code.Code, declared.Returned.Returned, declared.ComponentKind.ComponentKind, declared.Row.Row, declared.Dialogue.Dialogue, declared.MessageKind.MessageKind, declared.Record.Record, Record.messageTag, Meaning.octet, Meaning.integer, Meaning.problemForm, Meaning.structured, Meaning.unstructured, Meaning.versionForm, Meaning.contextForm, Meaning.sourceForm, Meaning.external}
-use Rattle.write_check_row.specs.{Verdict.octetsIn, Verdict.counted}
+use Rattle.tcap.specs.Verdict.{octetsIn, counted}
+use Rattle.tcap.specs.Record.{rowTag}
 
 unfoldable pub idForm : InvokeId → Form
 idForm InvokeId.Null = leaf 0x05 []
@@ -27,14 +28,6 @@ module _ (m : List ℕ) where
   unfoldable pub returnedForm : Returned → Form
   returnedForm Returned.Bare = exactly []
   returnedForm (Returned.Both c p) = around 0x30 (then (codeForm c) (exactly (octetsIn m p)))
-
-  -- the tag of a component
-  abbrev pub rowTag : ComponentKind → ℕ
-  rowTag (ComponentKind.Invoke l c p) = 0xA1
-  rowTag (ComponentKind.ResultLast r) = 0xA2
-  rowTag (ComponentKind.ResultNotLast r) = 0xA7
-  rowTag (ComponentKind.ReturnError c p) = 0xA3
-  rowTag (ComponentKind.Reject q) = 0xA4
 
   -- behind the invoke ID
   unfoldable pub restForm : ComponentKind → Form

@@ -5,7 +5,8 @@ use mathlib.Core.{Bool.Bool, Bool.true, Bool.cond, Bool._&&_, List.List}
 use lib.{ListN.length, Dec.leb, Dec.eqb}
 use Rattle.element.specs.{Form.Form, Form.then, Form.seriesForm, Form.lengthOctets, Form.shortest, Form.document01}
 use Rattle.tcap.specs.{declared.Span.Span, declared.OptionalSpan.OptionalSpan, declared.Code.Code, declared.Problem.Problem, declared.Returned.Returned, declared.ComponentKind.ComponentKind, declared.Row.Row, Meaning.problemForm, WellFormed.mostOctets}
-use Rattle.write_check_row.specs.{declared.Judged.Judged, Verdict.every, Verdict.rowPartsFit, Verdict.ranges, Verdict.nameRanges, Verdict.codeRanges, Verdict.problemRanges, Verdict.returnedRanges, Verdict.rowRanges, Verdict.lies, Verdict.optionLies, Verdict.codeLies, Verdict.returnedLies, Verdict.rowLies, Verdict.isElement, Verdict.isSeries, Verdict.octetsIn, Verdict.nameShaped, Verdict.parameterShaped, Verdict.codeShaped, Verdict.returnedShaped, Verdict.rowShaped, Forms.codeForm, Forms.parameterForm, Forms.returnedForm, Forms.restForm, Forms.rowForm}
+use Rattle.write_check_row.specs.{declared.Judged.Judged, Forms.codeForm, Forms.parameterForm, Forms.returnedForm, Forms.restForm, Forms.rowForm}
+use Rattle.tcap.specs.Verdict.{every, rowPartsFit, ranges, nameRanges, codeRanges, problemRanges, returnedRanges, rowRanges, lies, optionLies, codeLies, returnedLies, rowLies, isElement, isSeries, octetsIn, nameShaped, parameterShaped, codeShaped, returnedShaped, rowShaped}
 
 -- the worst of a part by the four tests, in the order of document 01: 4 for 24, 3 for 23, 2 for 21, 1 for 22, and 0 for none
 unfoldable pub rankOf : Bool → Bool → Bool → Bool → ℕ

@@ -3,7 +3,7 @@ ghost use mathlib.Core.Path.{_≡_};
 ghost use mathlib.Core.Bool.{true};
 ghost use Prim.Native.Nat.{_+_, min, max};
 ghost use lib.ListN.{length};
-ghost use Rattle.write_check_row.specs.Verdict.{lies, isElement, isSeries, octetsIn};
+ghost use Rattle.tcap.specs.Verdict.{lies, isElement, isSeries, octetsIn};
 ghost use Rattle.write_check_row.specs.Judged.{sizeCap, joined, wrapped, octetJudged, octetsJudged, sizedJudged, nameJudged, elementJudged, seriesJudged};
 use base::piece;
 use primitive::MOST_IDENTIFIER_OCTETS;

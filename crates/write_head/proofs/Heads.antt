@@ -4,7 +4,7 @@ use native.Mathlib.Omega.{arith}
 use mathlib.Core.Path.{_≡_}
 use mathlib.Core.List.{List, _∷_, _++_}
 use lib.ListN.{length}
-use Rattle.base.specs.Back.{Room, PutBack}
+use Rattle.base.specs.inner.Back.{Room, PutBack}
 use Rattle.base.proofs.Backs.{room-last, room-next, back-then}
 use Rattle.element.specs.Form.{lengthOctets}
 

@@ -4,7 +4,7 @@ use mathlib.Core.Path.{_≡_}
 use mathlib.Core.Bool.{true}
 use borrow.Author.Tests.{leb-true}
 use Rattle.tcap.specs.declared.Span.{Span}
-use Rattle.write_check_row.specs.Verdict.{lies}
+use Rattle.tcap.specs.Verdict.{lies}
 
 pub within : (n : ℕ) (s : Span) → lies n s ≡ true → s .place + s .len ≤ n
 unfolding lies

@@ -1,6 +1,6 @@
 // Signed integers in the fewest octets.
 ghost use Prim.Native.Nat.{_≤_};
-ghost use Rattle.base.specs.Back.{Room, PutBack};
+ghost use Rattle.base.specs.inner.Back.{Room, PutBack};
 ghost use Rattle.base.specs.Number.{octetsIn};
 ghost use Rattle.tcap.specs.Meaning.{integer};
 ghost use Rattle.write_check_row.specs.Forms.{octetsOf};

@@ -5,12 +5,12 @@ use mathlib.Core.Path.{_≡_}
 use mathlib.Core.Bool.{true, _&&_, and-eq-true-iff}
 use mathlib.Core.List.{List, [], _∷_, _++_}
 use lib.ListN.{length}
-use Rattle.base.specs.Back.{Room}
+use Rattle.base.specs.inner.Back.{Room}
 use Rattle.base.proofs.Backs.{room-last}
 use Rattle.element.specs.Form.{leaf, around, shortest, lengthOctets}
 use Rattle.tcap.specs.declared.{Span.Span, OptionalSpan.OptionalSpan}
 use Rattle.tcap.specs.Meaning.{octet}
-use Rattle.write_check_row.specs.Verdict.{lies, optionLies}
+use Rattle.tcap.specs.Verdict.{lies, optionLies}
 use Rattle.write_check_row.specs.Forms.{octetsOf}
 use Rattle.write_head.proofs.Lengths.{short-length}
 use Rattle.write_head.proofs.Heads.{room-inside}

@@ -2,7 +2,7 @@
 -- Assumes nothing: these are definitions.
 use Prim.Native.Nat.{ℕ}
 use mathlib.Core.{List.List}
-use Rattle.base.specs.{Back.Room, Back.PutBack}
+use Rattle.base.specs.{inner.Back.Room, inner.Back.PutBack}
 use Rattle.element.specs.{Form.Form, Form.exactly, Form.around}
 use Rattle.tcap.specs.{Meaning.external}
 use Rattle.write_check_row.specs.{Forms.octetsOf}

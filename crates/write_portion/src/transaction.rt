@@ -2,9 +2,9 @@
 ghost use mathlib.Core.Path.{_≡_};
 ghost use mathlib.Core.Bool.{true};
 ghost use lib.ListN.{length};
-ghost use Rattle.base.specs.Back.{Room, PutBack};
+ghost use Rattle.base.specs.inner.Back.{Room, PutBack};
 ghost use Rattle.element.specs.Form.{leaf};
-ghost use Rattle.write_check_row.specs.Verdict.{lies, octetsIn, origLies, destLies};
+ghost use Rattle.tcap.specs.Verdict.{lies, octetsIn, origLies, destLies};
 ghost use Rattle.write_check_row.specs.Forms.{origForm, destForm, octetsOf};
 use tcap::OptionalDest;
 use tcap::OptionalOrig;

@@ -7,7 +7,7 @@ use mathlib.Core.List.{List, []}
 use lib.ListN.{length}
 use Rattle.element.specs.Form.{exactly, around, seriesForm}
 use Rattle.tcap.specs.declared.{Record.Record}
-use Rattle.write_check_row.specs.Verdict.{counted, every, origLies, destLies, dialogueLies, rowLies, allLie}
+use Rattle.tcap.specs.Verdict.{counted, every, origLies, destLies, dialogueLies, rowLies, allLie}
 use Rattle.write_check_row.specs.Forms.{rowForm, rowsForm}
 use Rattle.layout.specs.Layout.{rowsIn}
 

@@ -7,19 +7,20 @@ use mathlib.Core.List.{List, [], _∷_, _++_}
 use lib.Dec.{leb, eqb}
 use borrow.Author.Tests.{eqb-true, eqb-false, leb-true}
 use Rattle.base.specs.Number.{topOf, signedAt}
-use Rattle.base.specs.Back.{Room}
+use Rattle.base.specs.inner.Back.{Room}
 use Rattle.base.proofs.Numbers.{signed-small, bits-signed}
 use Rattle.base.proofs.Backs.{room-last}
 use Rattle.element.specs.Form.{then, shortest}
 use Rattle.tcap.specs.declared.{Span.Span, OptionalSpan.OptionalSpan, InvokeId.InvokeId, LinkedId.LinkedId, Code.Code, Returned.Returned, ComponentKind.ComponentKind, Row.Row}
 use Rattle.tcap.specs.Meaning.{integer, problemForm}
-use Rattle.write_check_row.specs.Verdict.{lies, optionLies, codeLies, returnedLies, octetsIn}
-use Rattle.write_check_row.specs.Forms.{idForm, linkedForm, codeForm, parameterForm, returnedForm, rowTag, contentsForm, rowForm, octetsOf}
+use Rattle.tcap.specs.Verdict.{lies, optionLies, codeLies, returnedLies, octetsIn}
+use Rattle.write_check_row.specs.Forms.{idForm, linkedForm, codeForm, parameterForm, returnedForm, contentsForm, rowForm, octetsOf}
 use Rattle.layout.specs.Layout.{isProblemTag, problemIn}
 use Rattle.write_head.proofs.Heads.{room-inside}
 use Rattle.write_head.proofs.Lengths.{octet-octets}
 use Rattle.write_head.proofs.Integers.{small-parts}
 use Rattle.write_check_row.specs.Forms.{restForm}
+use Rattle.tcap.specs.Record.{rowTag}
 
 -- an octet for a number of eight bits is the number's one octet
 pub signed-parts : (tag n : ℕ) → n < 256 → octetsOf (integer tag (signedAt (topOf 1) n)) ≡ tag ∷ 1 ∷ n ∷ []
@@ -67,4 +68,4 @@ module _ (m : List ℕ) where
 
   pub row-inside : (w : Row) {d : List ℕ} {at : ℕ} → Room d at (octetsOf (rowForm m w)) → Room d at (octetsOf (idForm (w .id)) ++ octetsOf (restForm m (w .kind)))
   unfolding rowForm shortest
-  row-inside w r = room-inside (rowTag m (w .kind)) (octetsOf (idForm (w .id)) ++ octetsOf (restForm m (w .kind))) (rw contents-parts at r)
+  row-inside w r = room-inside (rowTag (w .kind)) (octetsOf (idForm (w .id)) ++ octetsOf (restForm m (w .kind))) (rw contents-parts at r)

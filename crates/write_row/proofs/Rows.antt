@@ -6,11 +6,11 @@ use mathlib.Core.Bool.{Bool, true, and-eq-true-iff}
 use mathlib.Core.List.{List, [], _∷_, _++_}
 use lib.ListN.{length, drop, getD, length-append}
 use lib.Seq.{drop-cons, drop-drop}
-use Rattle.base.specs.Back.{Room, PutBack}
+use Rattle.base.specs.inner.Back.{Room, PutBack}
 use Rattle.base.proofs.Backs.{room-next, back-then}
 use Rattle.element.specs.Form.{shortest, seriesForm}
 use Rattle.tcap.specs.declared.Row.{Row}
-use Rattle.write_check_row.specs.Verdict.{every}
+use Rattle.tcap.specs.Verdict.{every}
 use Rattle.write_check_row.specs.Forms.{rowForm, octetsOf}
 use Rattle.layout.specs.Layout.{headSize, rowSize, isRow, areRows}
 use Rattle.unpack.proofs.Rows.{rowsFrom}

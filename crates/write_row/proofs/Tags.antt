@@ -8,10 +8,11 @@ use lib.ListN.{getD}
 use lib.Dec.{eqb}
 use borrow.Author.Tests.{ne-eqb, eqb-true}
 use Rattle.tcap.specs.declared.ComponentKind.{ComponentKind}
-use Rattle.write_check_row.specs.Verdict.{returnedLies, rowLies}
-use Rattle.write_check_row.specs.Forms.{returnedForm, rowTag}
+use Rattle.tcap.specs.Verdict.{returnedLies, rowLies}
+use Rattle.write_check_row.specs.Forms.{returnedForm}
 use Rattle.layout.specs.Layout.{linkedIn, codeAt, parameterAt, returnedIn, isProblemTag, problemIn, isFlag, isUnlinked, isKind, kindIn, isRow, rowIn}
 use Rattle.write_check_row.specs.Forms.{restForm}
+use Rattle.tcap.specs.Record.{rowTag}
 
 module _ (x : ℕ) (l : List ℕ) where
   pub kind-invoke : x ≡ 0xA1 → kindIn x l ≡ ComponentKind.Invoke (linkedIn (getD l 3 0) (getD l 4 0)) (codeAt l) (parameterAt l)
@@ -44,15 +45,15 @@ module _ (x : ℕ) (l : List ℕ) where
       by true e = rw (ne-eqb _ _ a, e) (refl, refl)
       by false e = rw (ne-eqb _ _ a, e, ne-eqb _ _ b, ne-eqb _ _ d) (refl, refl)
 
-  kind-tag : (m : List ℕ) → isKind x l ≡ true → rowTag m (kindIn x l) ≡ x
+  kind-tag : (m : List ℕ) → isKind x l ≡ true → rowTag (kindIn x l) ≡ x
   unfolding isKind isUnlinked kindIn
   kind-tag m h = go (eqb x 0xA1) (eqb x 0xA2) (eqb x 0xA3) (eqb x 0xA4) (eqb x 0xA7) refl refl refl refl refl
     where
-      none : eqb x 0xA1 ≡ false → eqb x 0xA2 ≡ false → eqb x 0xA3 ≡ false → eqb x 0xA4 ≡ false → eqb x 0xA7 ≡ false → (a : Bool) → eqb (getD l 3 0) 0 ≡ a → rowTag m (kindIn x l) ≡ x
+      none : eqb x 0xA1 ≡ false → eqb x 0xA2 ≡ false → eqb x 0xA3 ≡ false → eqb x 0xA4 ≡ false → eqb x 0xA7 ≡ false → (a : Bool) → eqb (getD l 3 0) 0 ≡ a → rowTag (kindIn x l) ≡ x
       none p q r s t true g = absurd (false≢true (rw (p, g, q, r, s, t) at h))
       none p q r s t false g = absurd (false≢true (rw (p, g) at h))
 
-      go : (a b d e f : Bool) → eqb x 0xA1 ≡ a → eqb x 0xA2 ≡ b → eqb x 0xA3 ≡ d → eqb x 0xA4 ≡ e → eqb x 0xA7 ≡ f → rowTag m (kindIn x l) ≡ x
+      go : (a b d e f : Bool) → eqb x 0xA1 ≡ a → eqb x 0xA2 ≡ b → eqb x 0xA3 ≡ d → eqb x 0xA4 ≡ e → eqb x 0xA7 ≡ f → rowTag (kindIn x l) ≡ x
       go true b d e f p q r s t = rw p (sym (eqb-true x 0xA1 p))
       go false true d e f p q r s t = rw (p, q) (sym (eqb-true x 0xA2 q))
       go false false true e f p q r s t = rw (p, q, r) (sym (eqb-true x 0xA3 r))
@@ -65,6 +66,6 @@ module _ (l : List ℕ) (h : isRow l ≡ true) where
   unfolding isRow
   row-kind = and-eq-true-iff (isFlag (getD l 1 0)) (isKind (getD l 0 0) l) .0 h .1
 
-  pub row-tag : (m : List ℕ) → rowTag m (rowIn l .kind) ≡ getD l 0 0
+  pub row-tag : (m : List ℕ) → rowTag (rowIn l .kind) ≡ getD l 0 0
   unfolding rowIn
   row-tag m = kind-tag (getD l 0 0) l m row-kind

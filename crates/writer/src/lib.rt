@@ -2,7 +2,8 @@
 pub mod octets;
 
 ghost use mathlib.Core.Path.{_≡_};
-ghost use Rattle.writing.specs.Writing.{faultAt, Writes};
+ghost use Rattle.writing.specs.Writing.{Writes};
+ghost use Rattle.writing.specs.inner.Ranks.{faultAt};
 use crate::octets::write_octets;
 use tcap::Record;
 pub use writing::WriteFault;

@@ -8,15 +8,16 @@ use native.Mathlib.Omega.{arith}
 use lib.ListN.{length}
 use lib.Dec.{leb, eqb}
 use borrow.Author.Tests.{leb-true, leb-false, le-leb, lt-leb}
-use Rattle.base.specs.Back.{Room, PutBack}
+use Rattle.base.specs.inner.Back.{Room, PutBack}
 use Rattle.base.proofs.Backs.{back-front}
 use Rattle.tcap.specs.declared.{Record.Record}
 use Rattle.tcap.specs.WellFormed.{mostOctets}
-use Rattle.write_check_row.specs.Verdict.{allParts, allRanges, allLie, allShaped}
+use Rattle.tcap.specs.Verdict.{allParts, allRanges, allLie, allShaped}
 use Rattle.write_check_row.specs.Forms.{recordForm, octetsOf}
 use Rattle.write_check_row.specs.Judged.{sizeCap}
 use Rattle.writing.specs.declared.{WriteFault.WriteFault, Written.Written}
-use Rattle.writing.specs.Writing.{faultAt, messageOf, RecordOk, unless, writing, Writes, RecordTyped}
+use Rattle.writing.specs.Writing.{messageOf, RecordOk, unless, writing, Writes, RecordTyped}
+use Rattle.writing.specs.inner.Ranks.{faultAt}
 use Rattle.writing.proofs.Meant.{checked-means}
 use Rattle.writing.proofs.Formed.{forms-same}
 use Rattle.writing.proofs.Promises.{message-is, ok-answer, leaves-message, leaves-alone}

@@ -8,13 +8,14 @@ use Rattle.element.specs.Form.{maybe, exactly, around, seriesForm}
 use Rattle.tcap.specs.declared.{OptionalSpan.OptionalSpan, OptionalOrig.OptionalOrig, OptionalDest.OptionalDest, InvokeId.InvokeId, LinkedId.LinkedId, Code.Code, Returned.Returned, ComponentKind.ComponentKind, Row.Row, Dialogue.Dialogue, Record.Record}
 use Rattle.tcap.specs.Meaning.{integer, codeForm, holding, idOrNull, componentForm, componentsForm, infoForm, dialogueForm, endingForm, origForm, destForm, Meaning, written}
 use Rattle.tcap.specs.Record.{idMeans, linkedMeans, meaningOf}
-use Rattle.write_check_row.specs.Verdict.{every, counted, idThere, rowPartsFit}
+use Rattle.tcap.specs.Verdict.{every, counted, idThere, rowPartsFit}
 use Rattle.write_check_row.specs.Forms
 use Rattle.write_check_row.specs.Forms.{octetsOf}
 use Rattle.writing.proofs.Parts.{optionIn, codeIn, bothIn, idIn, rowIn, rowsIn, endingIn, origIn, destIn}
 use Rattle.writing.proofs.Making.{made-octets}
 use Rattle.writing.proofs.Testing.{both-true}
 use Rattle.writing.proofs.Meant.{found}
+use Rattle.tcap.specs.Record.{rowTag}
 
 module _ (m : List ℕ) where
   code-form : (c : Code) → codeForm (codeIn m c) ≡ Forms.codeForm m c
@@ -52,7 +53,7 @@ module _ (m : List ℕ) where
   id-form InvokeId.Null h = absurd (false≢true h)
   id-form (InvokeId.Id i) h = refl
 
-  row-form : (i : InvokeId) (k : ComponentKind) → rowPartsFit i k ≡ true → componentForm (rowIn m i k) ≡ around (Forms.rowTag m k) (Forms.contentsForm m i k)
+  row-form : (i : InvokeId) (k : ComponentKind) → rowPartsFit i k ≡ true → componentForm (rowIn m i k) ≡ around (rowTag k) (Forms.contentsForm m i k)
   unfolding componentForm Forms.contentsForm rowPartsFit
   row-form i (ComponentKind.Invoke l c p) h = rw (id-form i h, linked-form l, code-form c, parameter-form p)
   row-form i (ComponentKind.ResultLast r) h = rw (id-form i h, returned-form r)

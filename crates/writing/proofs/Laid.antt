@@ -8,7 +8,7 @@ use lib.ListN.{length, take, drop, replicate, length-take}
 use lib.Seq.{take-at, take-all}
 use lib.Dec.{leb, eqb}
 use borrow.Author.Tests.{leb-true, leb-false, le-leb, lt-leb, ne-eqb}
-use Rattle.base.specs.Put.{Put}
+use Rattle.base.specs.inner.Put.{Put}
 use Rattle.base.proofs.Puts.{put-front, put-length}
 use Rattle.tcap.specs.declared.{MessageKind.MessageKind, Record.Record}
 use Rattle.tcap.specs.Record.{blankRow, meaningOf}
@@ -16,7 +16,7 @@ use Rattle.layout.specs.Layout.{mostRows, recordSize, recordOctets}
 use Rattle.layout.specs.Fits.{RecordFits}
 use Rattle.layout.proofs.RoundTrip.{blanked, record-length, record-is, record-back}
 use Rattle.pack.specs.Laid.{laidOut}
-use Rattle.write_check_row.specs.Verdict.{counted, partsFit, allParts, allRanges, allLie, allShaped}
+use Rattle.tcap.specs.Verdict.{counted, partsFit, allParts, allRanges, allLie, allShaped}
 use Rattle.writing.specs.declared.{Written.Written}
 use Rattle.writing.specs.Writing.{messageOf, writing, leaves, Writes}
 use Rattle.writing.specs.Octets.{writingOctets, leavesOctets}

@@ -14,7 +14,7 @@ use Rattle.tcap.specs.declared.{MessageKind.MessageKind}
 use Rattle.tcap.specs.Meaning.{Originating, Destination, Component, Dialogue, Ending, silent, cause, says, unidirectional, begin, finish, continue, abort, Meaning, origForm, destForm, dialogueForm, endingForm, componentsForm, messageForm, written}
 use Rattle.tcap.specs.WellFormed.{DialogueOk, EndingOk, ComponentsOk, OrigOk, DestOk, the93, WellFormedUpTo, WellFormed}
 use Rattle.tcap.specs.Record.{portionOf, partsMean, messageTag}
-use Rattle.write_check_row.specs.Verdict.{partsFit}
+use Rattle.tcap.specs.Verdict.{partsFit}
 use Rattle.write_check_row.specs.Forms.{octetsOf}
 
 abbrev pub there : {A : Type 0} → Option A → Bool

@@ -14,7 +14,7 @@ use Rattle.tcap.specs.declared.{OptionalOrig.OptionalOrig, OptionalDest.Optiona
 use Rattle.tcap.specs.Meaning.{Meaning}
 use Rattle.tcap.specs.WellFormed.{mostComponents, WellFormed}
 use Rattle.tcap.specs.Record.{partsMean, meaningOf}
-use Rattle.write_check_row.specs.Verdict.{every, counted, origThere, destThere, causeThere, partsFit, rowPartsFit, allParts, origRanges, destRanges, dialogueRanges, rowRanges, allRanges, origLies, destLies, dialogueLies, rowLies, allLie, dialogueShaped, rowShaped, allShaped}
+use Rattle.tcap.specs.Verdict.{every, counted, origThere, destThere, causeThere, partsFit, rowPartsFit, allParts, origRanges, destRanges, dialogueRanges, rowRanges, allRanges, origLies, destLies, dialogueLies, rowLies, allLie, dialogueShaped, rowShaped, allShaped}
 use Rattle.writing.specs.Writing.{RecordOk, RowTyped, RecordTyped}
 use Rattle.writing.proofs.Parts.{given-four, rowsIn, endingIn, origIn, destIn, rowThere, rows-mean, ending-means, orig-means, dest-means}
 use Rattle.writing.proofs.Making.{there, caused, Made, made-means, make, made-ok}

@@ -10,7 +10,7 @@ use lib.ListN.{length}
 use lib.Dec.{leb}
 use Rattle.tcap.specs.declared.{Record.Record}
 use Rattle.tcap.specs.WellFormed.{mostOctets}
-use Rattle.write_check_row.specs.Verdict.{allParts, allRanges, allLie, allShaped}
+use Rattle.tcap.specs.Verdict.{allParts, allRanges, allLie, allShaped}
 use Rattle.writing.specs.declared.{WriteFault.WriteFault, Written.Written}
 use Rattle.writing.specs.Writing.{writeNumber, messageOf, RecordOk, unless, writing, RefusedWith, ReadsAs, RecordTyped}
 use Rattle.writing.specs.Reasons.{Misfit, RangeOff, EndOff, ShapeOff, SomePart, NoPart}

@@ -9,7 +9,7 @@ use lib.IntN.{ℤ, pos}
 use Rattle.tcap.specs.declared.{Span.Span, OptionalSpan.OptionalSpan, OptionalOrig.OptionalOrig, OptionalDest.OptionalDest, InvokeId.InvokeId, Code.Code as CodeField, Returned.Returned, ComponentKind.ComponentKind, Row.Row, Dialogue.Dialogue as DialogueField}
 use Rattle.tcap.specs.Meaning.{Originating, orig, Destination, dest, Code, local, global, Component, invoke, last, notLast, error, reject, Dialogue, request, unidialogue, response, aborted, single, octets, Ending, silent, cause, says}
 use Rattle.tcap.specs.Record.{octetsAt, spanMeans, codeMeans, bothMeans, idMeans, linkedMeans, rowMeans, rowsMean, named, endingMeans, origMeans, destMeans}
-use Rattle.write_check_row.specs.Verdict.{every, idThere, rowPartsFit, lies, optionLies, origLies, destLies, codeLies, returnedLies, rowLies, dialogueLies, octetsIn}
+use Rattle.tcap.specs.Verdict.{every, idThere, rowPartsFit, lies, optionLies, origLies, destLies, codeLies, returnedLies, rowLies, dialogueLies, octetsIn}
 
 -- a value that is there if the test holds
 abbrev pub given : {A : Type 0} → Bool → A → Option A

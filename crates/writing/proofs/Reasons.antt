@@ -15,7 +15,7 @@ use Rattle.tcap.specs.Meaning.{structured, unstructured}
 use Rattle.tcap.specs.declared.{OptionalSpan.OptionalSpan, OptionalOrig.OptionalOrig, OptionalDest.OptionalDest, InvokeId.InvokeId, LinkedId.LinkedId, Code.Code, Problem.Problem, Diagnostic.Diagnostic, Returned.Returned, ComponentKind.ComponentKind, Row.Row, Dialogue.Dialogue, MessageKind.MessageKind, Record.Record}
 use Rattle.tcap.specs.WellFormed.{mostComponents, mostTransactionIdOctets, the93, leftAt}
 use Rattle.layout.specs.Fits.{IdFits, LinkedFits}
-use Rattle.write_check_row.specs.Verdict.{every, counted, origThere, destThere, causeThere, partsFit, idThere, rowPartsFit, allParts, ranges, origRanges, destRanges, codeRanges, problemRanges, returnedRanges, rowRanges, sourceRanges, dialogueRanges, allRanges, lies, optionLies, origLies, destLies, codeLies, returnedLies, rowLies, dialogueLies, allLie, isElement, isSeries, octetsIn, parameterShaped, infoShaped, codeShaped, returnedShaped, rowShaped, dialogueShaped, allShaped}
+use Rattle.tcap.specs.Verdict.{every, counted, origThere, destThere, causeThere, partsFit, idThere, rowPartsFit, allParts, ranges, origRanges, destRanges, codeRanges, problemRanges, returnedRanges, rowRanges, sourceRanges, dialogueRanges, allRanges, lies, optionLies, origLies, destLies, codeLies, returnedLies, rowLies, dialogueLies, allLie, isElement, isSeries, octetsIn, parameterShaped, infoShaped, codeShaped, returnedShaped, rowShaped, dialogueShaped, allShaped}
 use Rattle.writing.specs.Writing.{CodeTyped, ReturnedTyped, KindTyped, RowTyped, RecordTyped}
 use Rattle.writing.specs.Reasons.{Need, must, may, never, Wanted, transaction, identifier, outside, series, anything, element, Part, there, number, signed, string, needsOf, origParts, destParts, optionParts, sourcePart, dialogueParts, idParts, linkedParts, codePart, returnedParts, problemPart, rowParts, rowsParts, partsOf, Misfit, LengthOff, RangeOff, Shaped, EndOff, ShapeOff, Any, SomePart}
 use Rattle.writing.proofs.Testing.{element-is, series-is}

@@ -21,7 +21,7 @@ use Rattle.tcap.specs.Meaning.{componentForm, componentsForm, dialogueForm, end
 use Rattle.tcap.specs.Record.{rowsMean, meaningOf}
 use Rattle.tcap.proofs.Computing.{outcomeOf}
 use Rattle.tcap.proofs.Specimens.{spanAt, origAt, destAt, accepts}
-use Rattle.write_check_row.specs.Verdict.{every, origThere, destThere, causeThere, partsFit, idThere, rowPartsFit, allParts, ranges, origRanges, destRanges, codeRanges, problemRanges, returnedRanges, rowRanges, sourceRanges, dialogueRanges, allRanges, lies, optionLies, origLies, destLies, codeLies, returnedLies, rowLies, dialogueLies, allLie, tookAll, isElement, isSeries, octetsIn, parameterShaped, infoShaped, codeShaped, returnedShaped, rowShaped, dialogueShaped, allShaped}
+use Rattle.tcap.specs.Verdict.{every, origThere, destThere, causeThere, partsFit, idThere, rowPartsFit, allParts, ranges, origRanges, destRanges, codeRanges, problemRanges, returnedRanges, rowRanges, sourceRanges, dialogueRanges, allRanges, lies, optionLies, origLies, destLies, codeLies, returnedLies, rowLies, dialogueLies, allLie, tookAll, isElement, isSeries, octetsIn, parameterShaped, infoShaped, codeShaped, returnedShaped, rowShaped, dialogueShaped, allShaped}
 use Rattle.writing.specs.declared.{Written.Written}
 use Rattle.writing.specs.Writing.{writeNumber, messageOf, writing, behind, leaves}
 use Rattle.writing.proofs.Order.{numberIn}

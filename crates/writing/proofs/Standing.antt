@@ -17,7 +17,7 @@ use Rattle.tcap.specs.declared.{Span.Span, InvokeId.InvokeId, LinkedId.LinkedId
 use Rattle.tcap.specs.WellFormed.{mostOctets}
 use Rattle.tcap.specs.Record.{blankRow}
 use Rattle.write_check_row.specs.declared.Judged.{Judged}
-use Rattle.write_check_row.specs.Verdict.{every, counted, rowLies, allParts, allRanges, allLie, allShaped}
+use Rattle.tcap.specs.Verdict.{every, counted, rowLies, allParts, allRanges, allLie, allShaped}
 use Rattle.write_check_row.specs.Forms.{rowForm, recordForm}
 use Rattle.write_check_row.specs.Judged.{rankOf, sizeCap, judged, listed, joined, wholeSize, wrapped, sizeOf, rowsRank, rowsJudged}
 use Rattle.write_check_row.proofs.Rows.{rows-none}
@@ -27,7 +27,8 @@ use Rattle.layout.specs.Layout.{headSize, rowSize, mostRows, recordSize, octet,
 use Rattle.unpack.proofs.Rows.{rows-length}
 use Rattle.writing.specs.declared.{WriteFault.WriteFault, Written.Written}
 use Rattle.layout.specs.Fits.{IdFits, LinkedFits}
-use Rattle.writing.specs.Writing.{faultAt, Writes, CodeTyped, ReturnedTyped, KindTyped, RowTyped, RecordTyped}
+use Rattle.writing.specs.Writing.{Writes, CodeTyped, ReturnedTyped, KindTyped, RowTyped, RecordTyped}
+use Rattle.writing.specs.inner.Ranks.{faultAt}
 use Rattle.writing.specs.Octets.{writingOctets, leavesOctets}
 use Rattle.writing.proofs.Answers.{bad-writes}
 use Rattle.writing.proofs.Told.{fine-tells, bad-tells}

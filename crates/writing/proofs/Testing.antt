@@ -18,7 +18,7 @@ use Rattle.tcap.specs.declared.{Span.Span, OptionalSpan.OptionalSpan, OptionalO
 use Rattle.tcap.specs.Meaning.{structured, unstructured}
 use Rattle.tcap.specs.WellFormed.{the93, leftAt, idOk, InvokeIdOk, CodeOk, ProblemOk, BothOk, ComponentOk, SourceOk, Outside, DialogueOk, EndingOk, OrigOk, DestOk}
 use Rattle.tcap.specs.Record.{idMeans, linkedMeans}
-use Rattle.write_check_row.specs.Verdict.{every, ranges, idRanges, nameRanges, origRanges, destRanges, codeRanges, problemRanges, returnedRanges, rowRanges, sourceRanges, dialogueRanges, lies, optionLies, origLies, destLies, codeLies, returnedLies, rowLies, dialogueLies, tookAll, isElement, isSeries, octetsIn, parameterShaped, infoShaped, nameShaped, outsideShaped, codeShaped, returnedShaped, rowShaped, dialogueShaped}
+use Rattle.tcap.specs.Verdict.{every, ranges, idRanges, nameRanges, origRanges, destRanges, codeRanges, problemRanges, returnedRanges, rowRanges, sourceRanges, dialogueRanges, lies, optionLies, origLies, destLies, codeLies, returnedLies, rowLies, dialogueLies, tookAll, isElement, isSeries, octetsIn, parameterShaped, infoShaped, nameShaped, outsideShaped, codeShaped, returnedShaped, rowShaped, dialogueShaped}
 use Rattle.layout.specs.Fits.{IdFits, LinkedFits}
 use Rattle.writing.specs.Writing.{CodeTyped, ReturnedTyped, KindTyped, RowTyped}
 use Rattle.writing.proofs.Parts.{optionIn, codeIn, bothIn, idIn, rowIn, rowsIn, endingIn, origIn, destIn}

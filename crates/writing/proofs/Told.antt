@@ -9,7 +9,7 @@ use lib.Dec.{eqb}
 use borrow.Author.Tests.{eqb-true, leb-true}
 use Rattle.tcap.specs.declared.{Record.Record}
 use Rattle.tcap.specs.WellFormed.{mostOctets, mostComponents}
-use Rattle.write_check_row.specs.Verdict.{allParts, allRanges, allLie, allShaped}
+use Rattle.tcap.specs.Verdict.{allParts, allRanges, allLie, allShaped}
 use Rattle.write_check_row.specs.Forms.{recordForm, octetsOf}
 use Rattle.write_check_row.proofs.Joining.{passed}
 use Rattle.writing.proofs.Testing.{both-true}

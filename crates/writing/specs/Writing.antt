@@ -2,12 +2,12 @@
 -- Assumes nothing: these are definitions.
 use Prim.Native.Nat.{ℕ, min}
 use mathlib.Core.{Path._≡_, Bool.Bool, Bool.true, Bool.cond, List.List, List.[], List._++_, Option.Option·map, Option.Option·getD, Option.some}
-use lib.{ListN.length, ListN.drop, Dec.leb, Dec.eqb}
+use lib.{ListN.length, ListN.drop, Dec.leb}
 use Rattle.base.specs.{Number.holds, Value.Every}
 use Rattle.primitive.specs.{Primitive.mostIntegerOctets}
 use Rattle.tcap.specs.{declared.Code.Code, declared.Returned.Returned, declared.ComponentKind.ComponentKind, declared.Row.Row, declared.Record.Record, Meaning.Meaning, Meaning.written, WellFormed.mostOctets, WellFormed.mostComponents, WellFormed.Reads, Record.meaningOf}
 use Rattle.layout.specs.{Fits.IdFits, Fits.LinkedFits}
-use Rattle.write_check_row.specs.{Verdict.allParts, Verdict.allRanges, Verdict.allLie, Verdict.allShaped}
+use Rattle.tcap.specs.Verdict.{allParts, allRanges, allLie, allShaped}
 use Rattle.writing.specs.{declared.WriteFault.WriteFault, declared.Written.Written}
 
 -- the numbers of document 01
@@ -43,10 +43,6 @@ writing r m room =
     (unless (allShaped m r) WriteFault.Unshaped
     (unless (leb n (min mostOctets room)) WriteFault.NoRoom
     (Written.Length n)))))
-
--- the fault by the rank of the worst that is wrong: 4 for 24, 3 for 23, 2 for 21, 1 for 22; cited by inner contracts
-unfoldable pub faultAt : ℕ → WriteFault
-faultAt k = cond (eqb k 4) WriteFault.WrongParts (cond (eqb k 3) WriteFault.OutOfRange (cond (eqb k 2) WriteFault.OutOfMaterial WriteFault.Unshaped))
 
 -- refused with this number
 unfoldable pub RefusedWith : Record → List ℕ → ℕ → ℕ → Type 0

@@ -3,7 +3,7 @@ use Prim.Native.Nat.{_≤_, _-_, _+_}
 use lib.ListN.{length, take}
 use lib.Seq.{take-all}
 use native.Mathlib.Nat.{add-zero}
-use Rattle.base.specs.Put.{Put}
+use Rattle.base.specs.inner.Put.{Put}
 use Rattle.base.proofs.Puts.{put-none, put-more, put-in, put-length}
 use native.Mathlib.Omega.{arith}
 use Rattle.base.proofs.copy_part.Statement.{statement}

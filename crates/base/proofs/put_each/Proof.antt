@@ -4,7 +4,7 @@ use native.Mathlib.Omega.{arith}
 use borrow.Author.Needs.{needs}
 use lib.ListN.{length, take}
 use lib.Seq.{take-all}
-use Rattle.base.specs.Put.{Put}
+use Rattle.base.specs.inner.Put.{Put}
 use Rattle.base.proofs.Puts.{put-none, put-more, put-length}
 use Rattle.base.proofs.put_each.Statement.{statement}
 use Rattle.base.proofs.put_each.Tie as tie

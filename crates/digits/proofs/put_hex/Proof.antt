@@ -4,7 +4,7 @@ use native.Mathlib.Omega.{arith}
 use borrow.Author.Needs.{needs}
 use lib.ListN.{length, take}
 use lib.Seq.{take-all}
-use Rattle.base.specs.Put.{Put}
+use Rattle.base.specs.inner.Put.{Put}
 use Rattle.base.proofs.Puts.{put-none, put-length}
 use Rattle.digits.specs.Digits.{hex}
 use Rattle.digits.proofs.Digits.{hex-step}

@@ -1,6 +1,6 @@
 -- Four octets, length, state. Assumes nothing.
 use borrow.Author.Tests.{eq-eqb, ne-eqb}
-use Rattle.entry_octets.specs.Entries.{heldIn}
+use Rattle.entry_octets.specs.inner.Words.{heldIn}
 use borrow.Author.Needs.{needs}
 use Rattle.entry_octets.proofs.holds_in.Statement.{statement}
 use Rattle.entry_octets.proofs.holds_in.Tie as tie

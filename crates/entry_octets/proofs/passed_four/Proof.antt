@@ -1,7 +1,7 @@
 -- One test an entry, in their order. Assumes nothing.
 use native.Mathlib.Omega.{arith}
 use Rattle.entry_octets.proofs.Passing.{one-less}
-use Rattle.entry_octets.specs.Entries.{passedIn}
+use Rattle.entry_octets.specs.inner.Words.{passedIn}
 use borrow.Author.Needs.{needs}
 use Rattle.entry_octets.proofs.passed_four.Statement.{statement}
 use Rattle.entry_octets.proofs.passed_four.Tie as tie

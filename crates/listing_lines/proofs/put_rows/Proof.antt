@@ -5,7 +5,7 @@ use borrow.Author.Needs.{needs}
 use mathlib.Core.Path.{_≡_, sym, _∙_}
 use lib.ListN.{take}
 use lib.Seq.{take-all}
-use Rattle.base.specs.Put.{Put}
+use Rattle.base.specs.inner.Put.{Put}
 use Rattle.base.proofs.Puts.{put-none, put-length}
 use Rattle.listing_lines.specs.Lines.{rowsText}
 use Rattle.listing_lines.proofs.Rows.{rows-step}

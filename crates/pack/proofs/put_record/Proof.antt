@@ -5,7 +5,7 @@ use native.Mathlib.Omega.{arith}
 use mathlib.Core.Path.{_≡_}
 use lib.ListN.{length, take}
 use Rattle.base.specs.Number.{topOf}
-use Rattle.base.specs.Put.{Put}
+use Rattle.base.specs.inner.Put.{Put}
 use Rattle.base.proofs.Puts.{put-none, put-length, put-then}
 use Rattle.layout.specs.Fits.{RecordFits}
 use Rattle.layout.specs.Layout.{rowsOctets, recordOctets}

@@ -1,6 +1,6 @@
 -- By its test. Assumes nothing.
 use Rattle.base.proofs.Tests.{tests}
-use Rattle.primitive.specs.Primitive.{beginsAt}
+use Rattle.primitive.specs.inner.Answers.{beginsAt}
 use borrow.Author.Needs.{needs}
 use Rattle.primitive.proofs.begins_at.Statement.{statement}
 use Rattle.primitive.proofs.begins_at.Tie as tie

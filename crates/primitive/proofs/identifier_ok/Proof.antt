@@ -11,7 +11,8 @@ use lib.ListN.{length, drop, getD, drop-of-length-le}
 use lib.Seq.{drop-cons}
 use lib.Dec.{ltb, eqb}
 use Rattle.base.proofs.Tests.{tests}
-use Rattle.primitive.specs.Primitive.{numbers, beginsAt, identifierOk}
+use Rattle.primitive.specs.Primitive.{numbers, identifierOk}
+use Rattle.primitive.specs.inner.Answers.{beginsAt}
 use Rattle.primitive.proofs.identifier_ok.Statement.{statement}
 use Rattle.primitive.proofs.identifier_ok.Tie as tie
 

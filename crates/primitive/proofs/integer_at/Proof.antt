@@ -4,7 +4,7 @@ use mir.Facts.{toZ-ofZ}
 use borrow.Author.Tests.{not-true, not-false}
 use Rattle.base.proofs.Tests.{tests}
 use Rattle.primitive.specs.Primitive.{integerOk}
-use Rattle.primitive.specs.Answers.{integerOf}
+use Rattle.primitive.specs.inner.Answers.{integerOf}
 use borrow.Author.Needs.{needs}
 use Rattle.primitive.proofs.integer_at.Statement.{statement}
 use Rattle.primitive.proofs.integer_at.Tie as tie

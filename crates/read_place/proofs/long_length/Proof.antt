@@ -4,7 +4,7 @@ use native.Mathlib.Omega.{arith}
 use Prim.Native.Nat.{_+_}
 use Rattle.element.specs.Form.{fewestOf}
 use Rattle.element.proofs.Views.{longBy, long-view, low-place}
-use Rattle.element.specs.Answers.{longRead}
+use Rattle.element.specs.inner.Fronts.{longRead}
 use Rattle.walk.proofs.Views.{long-one, long-past}
 use Rattle.read_place.proofs.Views.{count-more}
 use Rattle.read_place.specs.Places.{lengthPlace, base}

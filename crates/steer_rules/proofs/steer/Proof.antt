@@ -40,7 +40,7 @@ use denote.Triple.Walked.{says, Stays, stay-none-slice, walkOf, AllGo, goes-none
 use denote.Triple.Clauses.{ensured, lasts}
 use denote.Exit.{yes}
 use Rattle.tcap.specs.Reading.{reading}
-use Rattle.steering.specs.Looked.{KeyIs}
+use Rattle.steering.specs.inner.Looked.{KeyIs}
 use Rattle.steering.specs.Steering.{firstFit, answered, steering}
 use Rattle.steer_octets.proofs.First.{whole-answer}
 use Rattle.steering.specs.declared.Key.{Key}

@@ -4,7 +4,7 @@ use mir.Facts.{toZ-ofZ}
 use mir.Syntax.{w32}
 use borrow.Author.Tests.{eq-eqb, ne-eqb}
 use Rattle.base.proofs.Tests.{tests}
-use Rattle.steering.specs.Looked.{firstIn}
+use Rattle.steering.specs.inner.Looked.{firstIn}
 use Rattle.steering.proofs.Rules.{four-long}
 use borrow.Author.Needs.{needs}
 use Rattle.steering.proofs.first_in.Statement.{statement}

@@ -1,6 +1,6 @@
 -- `is_known` meets its contract. Assumes nothing.
 use borrow.Author.Tests.{eq-eqb, ne-eqb}
-use Rattle.tcap.specs.Names.{common}
+use Rattle.tcap.specs.inner.Names.{common}
 use borrow.Author.Needs.{needs}
 use Rattle.tcap.proofs.is_known.Statement.{statement}
 use Rattle.tcap.proofs.is_known.Tie as tie

@@ -1,6 +1,6 @@
 -- `long_end` meets its contract. Assumes nothing.
 use Rattle.element.specs.Form.{fewestOf}
-use Rattle.element.specs.Answers.{longRead}
+use Rattle.element.specs.inner.Fronts.{longRead}
 use Rattle.element.proofs.Views.{longBy, long-view, low-place}
 use Rattle.walk.proofs.Views.{long-one, long-past, long-more}
 use Rattle.walk.specs.Walks.{contentsEnd}

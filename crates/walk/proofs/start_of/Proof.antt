@@ -1,5 +1,5 @@
 -- `start_of` meets its contract. Assumes nothing.
-use Rattle.element.specs.Answers.{lengthSize}
+use Rattle.element.specs.inner.Fronts.{lengthSize}
 use native.Mathlib.Omega.{arith}
 use Rattle.base.proofs.Tests.{tests}
 use borrow.Author.Needs.{needs}

@@ -3,7 +3,7 @@ use borrow.Author.Needs.{needs}
 use mathlib.Core.Path.{ap, _∙_}
 use Rattle.element.specs.Form.{shortest}
 use Rattle.write_check_row.specs.Judged.{rankOf, judged}
-use Rattle.write_check_row.specs.Verdict.{dialogueRanges, dialogueLies, dialogueShaped}
+use Rattle.tcap.specs.Verdict.{dialogueRanges, dialogueLies, dialogueShaped}
 use Rattle.write_check_row.specs.Forms.{dialogueForm}
 use Rattle.write_check_row.proofs.Leaves.{octet-size}
 use Rattle.write_check.proofs.Dialogues.{named-alike}

@@ -2,7 +2,7 @@
 use borrow.Author.Needs.{needs}
 use Rattle.element.specs.Form.{shortest}
 use Rattle.write_check_row.specs.Judged.{rankOf, judged}
-use Rattle.write_check_row.specs.Verdict.{optionLies, infoShaped}
+use Rattle.tcap.specs.Verdict.{optionLies, infoShaped}
 use Rattle.write_check_row.specs.Forms.{infoForm}
 use Rattle.write_check_row.proofs.Joining.{wrap, around-size, exact-size}
 use Rattle.write_check.proofs.info_judged.Statement.{statement}

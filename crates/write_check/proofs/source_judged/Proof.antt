@@ -1,6 +1,6 @@
 -- `source_judged` meets its contract. Assumes nothing.
 use borrow.Author.Needs.{needs}
-use Rattle.write_check_row.specs.Verdict.{sourceRanges}
+use Rattle.tcap.specs.Verdict.{sourceRanges}
 use Rattle.write_check_row.proofs.Joining.{wrap, around-size}
 use Rattle.write_check_row.proofs.Leaves.{octet-size}
 use Rattle.write_check.proofs.Dialogues.{five}

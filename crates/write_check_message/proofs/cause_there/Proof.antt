@@ -1,6 +1,6 @@
 -- `cause_there` meets its contract. Assumes nothing.
 use borrow.Author.Needs.{needs}
-use Rattle.write_check_row.specs.Verdict.{causeThere}
+use Rattle.tcap.specs.Verdict.{causeThere}
 use Rattle.write_check_message.proofs.cause_there.Statement.{statement}
 use Rattle.write_check_message.proofs.cause_there.Tie as tie
 

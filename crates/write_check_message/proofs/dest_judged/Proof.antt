@@ -2,7 +2,7 @@
 use borrow.Author.Needs.{needs}
 use Rattle.element.specs.Form.{shortest}
 use Rattle.write_check_row.specs.Judged.{rankOf, judged}
-use Rattle.write_check_row.specs.Verdict.{destRanges, destLies}
+use Rattle.tcap.specs.Verdict.{destRanges, destLies}
 use Rattle.write_check_row.specs.Forms.{destForm}
 use Rattle.write_check_row.proofs.Joining.{wrap, leaf-size}
 use Rattle.write_check_message.proofs.dest_judged.Statement.{statement}

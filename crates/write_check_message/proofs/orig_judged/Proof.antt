@@ -2,7 +2,7 @@
 use borrow.Author.Needs.{needs}
 use Rattle.element.specs.Form.{shortest}
 use Rattle.write_check_row.specs.Judged.{rankOf, judged}
-use Rattle.write_check_row.specs.Verdict.{origRanges, origLies}
+use Rattle.tcap.specs.Verdict.{origRanges, origLies}
 use Rattle.write_check_row.specs.Forms.{origForm}
 use Rattle.write_check_row.proofs.Joining.{wrap, leaf-size}
 use Rattle.write_check_message.proofs.orig_judged.Statement.{statement}

@@ -1,7 +1,7 @@
 -- `lies_in` meets its contract. Assumes nothing.
 use borrow.Author.Needs.{needs}
 use mathlib.Core.Path.{refl}
-use Rattle.write_check_row.specs.Verdict.{lies}
+use Rattle.tcap.specs.Verdict.{lies}
 use Rattle.write_check_row.proofs.lies_in.Statement.{statement}
 use Rattle.write_check_row.proofs.lies_in.Tie as tie
 

@@ -1,7 +1,7 @@
 -- `octets_of` meets its contract. Assumes nothing.
 use borrow.Author.Needs.{needs}
 use borrow.Author.Tests.{leb-true}
-use Rattle.write_check_row.specs.Verdict.{lies, octetsIn}
+use Rattle.tcap.specs.Verdict.{lies, octetsIn}
 use Rattle.write_check_row.proofs.octets_of.Statement.{statement}
 use Rattle.write_check_row.proofs.octets_of.Tie as tie
 

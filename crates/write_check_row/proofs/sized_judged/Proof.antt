@@ -3,7 +3,7 @@ use borrow.Author.Needs.{needs}
 use borrow.Author.Tests.{le-leb}
 use Rattle.base.proofs.Tests.{tests}
 use Rattle.write_check_row.specs.Judged.{rankOf, judged}
-use Rattle.write_check_row.specs.Verdict.{ranges}
+use Rattle.tcap.specs.Verdict.{ranges}
 use Rattle.write_check_row.proofs.sized_judged.Statement.{statement}
 use Rattle.write_check_row.proofs.sized_judged.Tie as tie
 

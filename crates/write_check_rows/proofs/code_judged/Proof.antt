@@ -6,7 +6,7 @@ use mir.Facts.{toZ-ofZ}
 use Rattle.base.specs.Number.{topOf}
 use Rattle.layout.specs.Layout.{spanAt, codeIn}
 use Rattle.write_check_row.specs.Judged.{rankOf, judged, wrapped}
-use Rattle.write_check_row.specs.Verdict.{codeRanges, codeLies, codeShaped}
+use Rattle.tcap.specs.Verdict.{codeRanges, codeLies, codeShaped}
 use Rattle.write_check_row.specs.Forms.{codeForm}
 use Rattle.write_check_row.proofs.Joining.{wrap, leaf-size}
 use Rattle.write_check_rows.proofs.code_judged.Statement.{statement}

@@ -3,7 +3,7 @@ use borrow.Author.Needs.{needs}
 use native.Mathlib.Omega.{arith}
 use native.Mathlib.Nat.{zero-add}
 use Rattle.layout.specs.Layout.{linkedIn}
-use Rattle.write_check_row.specs.Verdict.{rowRanges, rowLies, rowShaped}
+use Rattle.tcap.specs.Verdict.{rowRanges, rowLies, rowShaped}
 use Rattle.write_check_row.specs.Forms.{linkedForm, restForm}
 use Rattle.write_check_row.proofs.Joining.{then-size, exact-size}
 use Rattle.write_check_row.proofs.Listed.{fine-then, flag-none, octet-id}

@@ -3,7 +3,7 @@ use borrow.Author.Needs.{needs}
 use Rattle.element.specs.Form.{shortest}
 use Rattle.layout.specs.Layout.{optionalIn}
 use Rattle.write_check_row.specs.Judged.{rankOf, judged}
-use Rattle.write_check_row.specs.Verdict.{optionLies, parameterShaped}
+use Rattle.tcap.specs.Verdict.{optionLies, parameterShaped}
 use Rattle.write_check_row.specs.Forms.{parameterForm}
 use Rattle.write_check_row.proofs.Listed.{flag-none}
 use Rattle.write_check_rows.proofs.parameter_judged.Statement.{statement}

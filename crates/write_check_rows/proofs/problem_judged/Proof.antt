@@ -1,7 +1,7 @@
 -- By the tag. Assumes nothing.
 use borrow.Author.Needs.{needs}
 use Rattle.layout.specs.Layout.{problemIn}
-use Rattle.write_check_row.specs.Verdict.{problemRanges}
+use Rattle.tcap.specs.Verdict.{problemRanges}
 use Rattle.write_check_row.proofs.Leaves.{octet-size}
 use Rattle.write_check_row.proofs.Listed.{problem-none}
 use Rattle.write_check_rows.proofs.problem_judged.Statement.{statement}

@@ -5,7 +5,7 @@ use borrow.Author.Tests.{eq-eqb, ne-eqb}
 use Rattle.element.specs.Form.{shortest}
 use Rattle.layout.specs.Layout.{isReturned, returnedIn}
 use Rattle.write_check_row.specs.Judged.{rankOf, judged}
-use Rattle.write_check_row.specs.Verdict.{returnedRanges, returnedLies, returnedShaped}
+use Rattle.tcap.specs.Verdict.{returnedRanges, returnedLies, returnedShaped}
 use Rattle.write_check_row.specs.Forms.{returnedForm}
 use Rattle.write_check_row.proofs.Joining.{then-size, around-size, exact-size}
 use Rattle.write_check_row.proofs.Listed.{listed-then, listed-wrap}

@@ -2,7 +2,7 @@
 use borrow.Author.Needs.{needs}
 use borrow.Author.Tests.{ne-eqb}
 use Rattle.layout.specs.Layout.{isUnlinked, kindIn}
-use Rattle.write_check_row.specs.Verdict.{rowRanges, rowLies, rowShaped}
+use Rattle.tcap.specs.Verdict.{rowRanges, rowLies, rowShaped}
 use Rattle.write_check_row.specs.Forms.{restForm}
 use Rattle.write_check_rows.proofs.unlinked_judged.Statement.{statement}
 use Rattle.write_check_rows.proofs.unlinked_judged.Tie as tie

@@ -4,7 +4,7 @@ use mathlib.Core.List.{_++_}
 use Rattle.base.proofs.Backs.{room-last, room-next, back-then}
 use Rattle.element.specs.Form.{shortest}
 use Rattle.tcap.specs.Meaning.{octet, structured}
-use Rattle.write_check_row.specs.Verdict.{dialogueLies}
+use Rattle.tcap.specs.Verdict.{dialogueLies}
 use Rattle.write_check_row.specs.Forms.{infoForm, dialogueForm, octetsOf}
 use Rattle.write_head.proofs.Lengths.{octet-octets}
 use Rattle.write_portion.proofs.Around.{octet-parts, room-fields}

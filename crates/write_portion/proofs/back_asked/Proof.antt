@@ -4,7 +4,7 @@ use mathlib.Core.List.{_++_}
 use Rattle.base.proofs.Backs.{room-last, room-next, back-then}
 use Rattle.element.specs.Form.{shortest}
 use Rattle.tcap.specs.Meaning.{contextForm}
-use Rattle.write_check_row.specs.Verdict.{octetsIn}
+use Rattle.tcap.specs.Verdict.{octetsIn}
 use Rattle.write_check_row.specs.Forms.{infoForm, octetsOf}
 use Rattle.write_portion.proofs.Around.{room-fields}
 use Rattle.write_portion.proofs.back_asked.Statement.{statement}

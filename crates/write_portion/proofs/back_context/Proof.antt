@@ -1,7 +1,7 @@
 -- The head has the length of what it stands before. Assumes nothing.
 use borrow.Author.Needs.{needs}
 use Rattle.element.specs.Form.{leaf, shortest}
-use Rattle.write_check_row.specs.Verdict.{octetsIn}
+use Rattle.tcap.specs.Verdict.{octetsIn}
 use Rattle.write_check_row.specs.Forms.{octetsOf}
 use Rattle.write_head.proofs.Heads.{room-inside, room-head, back-around}
 use Rattle.write_portion.proofs.back_context.Statement.{statement}

@@ -2,7 +2,7 @@
 use borrow.Author.Needs.{needs}
 use Rattle.base.proofs.Backs.{back-none}
 use Rattle.element.specs.Form.{shortest}
-use Rattle.write_check_row.specs.Verdict.{dialogueLies}
+use Rattle.tcap.specs.Verdict.{dialogueLies}
 use Rattle.write_check_row.specs.Forms.{dialogueForm}
 use Rattle.write_head.proofs.Lengths.{octet-octets}
 use Rattle.write_portion.proofs.Around.{named-lie, outside-lie}

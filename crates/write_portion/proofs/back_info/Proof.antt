@@ -2,7 +2,7 @@
 use borrow.Author.Needs.{needs}
 use Rattle.base.proofs.Backs.{back-none}
 use Rattle.element.specs.Form.{shortest}
-use Rattle.write_check_row.specs.Verdict.{optionLies}
+use Rattle.tcap.specs.Verdict.{optionLies}
 use Rattle.write_check_row.specs.Forms.{infoForm}
 use Rattle.write_portion.proofs.back_info.Statement.{statement}
 use Rattle.write_portion.proofs.back_info.Tie as tie

@@ -2,7 +2,7 @@
 use borrow.Author.Needs.{needs}
 use Rattle.base.proofs.Backs.{room-last}
 use Rattle.element.specs.Form.{leaf, shortest}
-use Rattle.write_check_row.specs.Verdict.{octetsIn}
+use Rattle.tcap.specs.Verdict.{octetsIn}
 use Rattle.write_check_row.specs.Forms.{octetsOf}
 use Rattle.write_portion.proofs.Around.{room-named}
 use Rattle.write_portion.proofs.back_outside.Statement.{statement}

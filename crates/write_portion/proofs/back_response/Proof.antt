@@ -4,7 +4,7 @@ use mathlib.Core.List.{_++_}
 use Rattle.base.proofs.Backs.{room-last, room-next, back-then}
 use Rattle.element.specs.Form.{around, then, shortest}
 use Rattle.tcap.specs.Meaning.{octet, structured, contextForm, sourceForm}
-use Rattle.write_check_row.specs.Verdict.{dialogueLies, octetsIn}
+use Rattle.tcap.specs.Verdict.{dialogueLies, octetsIn}
 use Rattle.write_check_row.specs.Forms.{infoForm, dialogueForm, octetsOf}
 use Rattle.write_portion.proofs.Around.{named-lie, room-fields}
 use Rattle.write_portion.proofs.back_response.Statement.{statement}

@@ -3,7 +3,7 @@ use borrow.Author.Needs.{needs}
 use Prim.Native.Nat.{ℕ}
 use mathlib.Core.List.{List, _++_}
 use lib.ListN.{drop}
-use Rattle.base.specs.Back.{Room}
+use Rattle.base.specs.inner.Back.{Room}
 use Rattle.base.proofs.Backs.{room-last, room-next, back-then}
 use Rattle.element.specs.Form.{shortest}
 use Rattle.tcap.specs.Record.{messageTag}

@@ -4,7 +4,7 @@ use borrow.Author.Tests.{eq-eqb, ne-eqb}
 use mir.Syntax.{w32}
 use mir.Facts.{toZ-ofZ}
 use Rattle.base.specs.Number.{topOf}
-use Rattle.write_check_row.specs.Verdict.{codeLies}
+use Rattle.tcap.specs.Verdict.{codeLies}
 use Rattle.write_check_row.specs.Forms.{codeForm}
 use Rattle.layout.specs.Layout.{spanAt, codeIn}
 use Rattle.write_row.proofs.back_code.Statement.{statement}

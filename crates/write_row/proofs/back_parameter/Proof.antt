@@ -3,7 +3,7 @@ use borrow.Author.Needs.{needs}
 use borrow.Author.Tests.{eq-eqb, ne-eqb}
 use Rattle.base.proofs.Backs.{back-none}
 use Rattle.element.specs.Form.{shortest}
-use Rattle.write_check_row.specs.Verdict.{optionLies}
+use Rattle.tcap.specs.Verdict.{optionLies}
 use Rattle.write_check_row.specs.Forms.{parameterForm}
 use Rattle.layout.specs.Layout.{optionalIn}
 use Rattle.write_row.proofs.back_parameter.Statement.{statement}

@@ -3,7 +3,7 @@ use borrow.Author.Needs.{needs}
 use lib.ListN.{length}
 use Rattle.base.proofs.Backs.{room-next, back-then}
 use Rattle.element.specs.Form.{shortest}
-use Rattle.write_check_row.specs.Verdict.{rowLies}
+use Rattle.tcap.specs.Verdict.{rowLies}
 use Rattle.write_check_row.specs.Forms.{restForm}
 use Rattle.write_row.proofs.Fields.{problem-parts, coded-lie, coded-room}
 use Rattle.write_row.proofs.Tags.{kind-invoke, kind-error, kind-reject, reject-problem, rest-returned}

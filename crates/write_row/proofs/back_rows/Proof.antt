@@ -3,11 +3,11 @@ use denote.Ref.{now}
 use Prim.Native.Nat.{_≤_, _<_, _-_, suc}
 use mathlib.Core.Path.{_≡_, ap, _∙_}
 use lib.ListN.{length, drop, getD, drop-of-length-le}
-use Rattle.base.specs.Back.{PutBack}
+use Rattle.base.specs.inner.Back.{PutBack}
 use Rattle.base.proofs.Backs.{back-none, back-length}
 use Rattle.element.specs.Form.{shortest, seriesForm}
 use Rattle.tcap.specs.Record.{blankRow}
-use Rattle.write_check_row.specs.Verdict.{rowLies}
+use Rattle.tcap.specs.Verdict.{rowLies}
 use Rattle.layout.specs.Layout.{rowIn, rowsIn}
 use Rattle.unpack.proofs.Rows.{row-room, rows-length, row-at}
 use Rattle.write_row.proofs.Rows.{every-at, row-is, rowsOctets, room-row, back-row}

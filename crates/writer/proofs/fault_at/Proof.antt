@@ -1,5 +1,5 @@
 -- `fault_at` meets its contract. Assumes nothing.
-use Rattle.writing.specs.Writing.{faultAt}
+use Rattle.writing.specs.inner.Ranks.{faultAt}
 use Rattle.base.proofs.Tests.{tests}
 use Rattle.writer.proofs.fault_at.Statement.{statement}
 use Rattle.writer.proofs.fault_at.Tie as tie

@@ -2,7 +2,7 @@
 use borrow.Author.Needs.{needs}
 use Rattle.base.proofs.Backs.{back-none}
 use Rattle.element.specs.Form.{shortest}
-use Rattle.write_check_row.specs.Verdict.{destLies}
+use Rattle.tcap.specs.Verdict.{destLies}
 use Rattle.write_check_row.specs.Forms.{destForm}
 use Rattle.write_portion.proofs.transaction.back_dest.Statement.{statement}
 use Rattle.write_portion.proofs.transaction.back_dest.Tie as tie

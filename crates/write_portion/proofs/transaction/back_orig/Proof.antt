@@ -2,7 +2,7 @@
 use borrow.Author.Needs.{needs}
 use Rattle.base.proofs.Backs.{back-none}
 use Rattle.element.specs.Form.{shortest}
-use Rattle.write_check_row.specs.Verdict.{origLies}
+use Rattle.tcap.specs.Verdict.{origLies}
 use Rattle.write_check_row.specs.Forms.{origForm}
 use Rattle.write_portion.proofs.transaction.back_orig.Statement.{statement}
 use Rattle.write_portion.proofs.transaction.back_orig.Tie as tie

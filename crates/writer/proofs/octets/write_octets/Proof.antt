@@ -11,7 +11,7 @@ use lib.ListN.{length, drop}
 use Rattle.base.proofs.Backs.{back-length}
 use Rattle.tcap.specs.declared.{Record.Record}
 use Rattle.tcap.specs.WellFormed.{mostOctets}
-use Rattle.write_check_row.specs.Verdict.{counted, allLie}
+use Rattle.tcap.specs.Verdict.{counted, allLie}
 use Rattle.write_check_row.specs.Forms.{recordForm, octetsOf}
 use Rattle.write_check_row.specs.declared.{Judged.Judged}
 use Rattle.write_check_row.specs.Judged.{rankOf, listed, rowsJudged}
