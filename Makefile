@@ -44,11 +44,11 @@ archive: $(ARCHIVE)
 # the crates two at a time first: rt staticlib alone proves one after the other
 target/lib/libgoldenskep.a: $(SOURCES)
 	@echo "proving the library; the prover's notes are in target/log"
-	@sh tools/prove.sh check card
-	@echo "building the archive; card is proved once more"
-	@sh tools/prove.sh staticlib card
+	@sh tools/prove.sh check c_calls
+	@echo "building the archive; c_calls is proved once more"
+	@sh tools/prove.sh staticlib c_calls
 	@mkdir -p target/lib
-	@cp target/staticlib/libcard.a $@
+	@cp target/staticlib/libc_calls.a $@
 
 examples: $(EXAMPLES)
 
@@ -77,8 +77,8 @@ fuzz: $(ARCHIVE)
 	@SEED=$(SEED) COUNT=$(COUNT) ROUNDS=$(ROUNDS) sh tests/fuzz.sh $(ARCHIVE)
 
 bench: $(ARCHIVE)
-	@sh tools/prove.sh check readings
-	@sh bench/run.sh $(ARCHIVE) target/bin/readings
+	@sh tools/prove.sh check program_readings
+	@sh bench/run.sh $(ARCHIVE) target/bin/program_readings
 
 fmt:
 	rt fmt

@@ -4,7 +4,7 @@
 #
 #   count_records.sh PROGRAM VECTORS
 #
-# PROGRAM is the crate `readings`, built. It reads each message once more for every
+# PROGRAM is the crate `program_readings`, built. It reads each message once more for every
 # octet of its first argument, and writes its record once more for every octet of
 # the second: what two octets cost over one is a call, and a turn of the loop around
 # it (counter.sh).

@@ -1,5 +1,5 @@
 #!/usr/bin/env python3
-"""steerings.py VECTORS OUT: packs the cases of VECTORS/steer.jsonl for the program `compare` (the first lines of its steerings.rt give the layout), after the
+"""steerings.py VECTORS OUT: packs the cases of VECTORS/steer.jsonl for the program `program_compare` (the first lines of its steerings.rt give the layout), after the
 page's own (its two rules for the specimens D, E and B) and some of ours on the layout of rules, docs/LAYOUT.md. Octets that the layout does not
 use, those behind the last rule, and the ways to be no rule differ from case to case."""
 import json

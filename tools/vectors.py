@@ -1,5 +1,5 @@
 #!/usr/bin/env python3
-"""vectors.py READ_TXT OUT: packs the cases of read.txt for the program `compare`; the first lines of its vectors.rt give the layout."""
+"""vectors.py READ_TXT OUT: packs the cases of read.txt for the program `program_compare`; the first lines of its vectors.rt give the layout."""
 import sys
 
 

@@ -2,7 +2,7 @@
 use Prim.Native.Nat.{ℕ}
 use mathlib.Core.{Bool.cond, List.List, List._++_}
 use lib.{ListN.length, ListN.drop, Dec.ltb}
-use Rattle.tcap.specs.{declared.Outcome.Outcome, declared.Record.Record, declared.Reading.Reading, Reading.reading}
+use Rattle.tcap.specs.{declared.Outcome.Outcome, declared.Record.Record, Reading.reading}
 use Rattle.layout.specs.Layout.{recordSize, recordOctets}
 use Rattle.c_answer.specs.Answer.{noRoom, outcomeBits}
 

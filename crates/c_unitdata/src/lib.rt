@@ -34,7 +34,7 @@ fn unitdata_bits(read: UnitdataRead) -> u64
 }
 
 // Where the parts of a unitdata stand, or the refusal.
-pub fn read_answer(message: &[u8]) -> u64
+pub fn unitdata_read_answer(message: &[u8]) -> u64
     ensures { λ r. ⌜ r ≡ unitdataAnswer (now (message .entry)) ⌝ }
 {
     let read = read_unitdata(message);
@@ -51,7 +51,7 @@ fn unitdata_written_bits(written: UnitdataWritten) -> u64
 }
 
 // Writes a unitdata: its length, or the refusal and the buffer left alone.
-pub fn write_answer(
+pub fn unitdata_write_answer(
     class: u8,
     called: &[u8],
     calling: &[u8],

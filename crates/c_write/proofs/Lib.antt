@@ -1,3 +1,3 @@
-pub mod Sent
+pub mod Writing
 pub mod Shortest
 pub mod Tags

@@ -15,7 +15,7 @@ use Rattle.writing.proofs.Shortest.{octets-shortest, says-same}
 use Rattle.layout.specs.Layout.{isRecord, recordIn}
 use Rattle.c_answer.specs.Answer.{lengthBits}
 use Rattle.c_write.specs.Write.{writtenBits, writeAnswer}
-use Rattle.c_write.proofs.Sent.{no-record}
+use Rattle.c_write.proofs.Writing.{no-record}
 
 -- status 0 and a length; a number alone
 abbrev pub SaysBits : ℕ → ℕ → Type 0
@@ -56,22 +56,22 @@ as-record o m room h = rw h
 
 module _ (o m out : List ℕ) {answer : ℕ} {new : List ℕ} (answers : answer ≡ writeAnswer o m out) (holds : new ≡ leavesOctets o m out) where
   -- octets that are a record
-  pub card-shortest : isRecord o ≡ true → WritesShortest (SaysBits answer) (RefusesBits answer) (recordIn o) m out new
+  pub c-shortest : isRecord o ≡ true → WritesShortest (SaysBits answer) (RefusesBits answer) (recordIn o) m out new
   unfolding writeAnswer
-  card-shortest h = let w = writingOctets o m (length out) in rw answers (says-same (says-bits w (small h)) (refuses-bits w) (octets-shortest o m out refl holds h))
+  c-shortest h = let w = writingOctets o m (length out) in rw answers (says-same (says-bits w (small h)) (refuses-bits w) (octets-shortest o m out refl holds h))
     where
       small : isRecord o ≡ true → (k : ℕ) → Says (writingOctets o m (length out)) k → k ≤ 255
       small h k e = let s = success (recordIn o) m (length out) (as-record o m (length out) h ∙ e) in omega (arith, s .counts, s .most)
 
   -- every answer is a length or a number
-  pub card-told : ((n : ℕ) × SaysBits answer n) ⊎ ((n : ℕ) × RefusesBits answer n)
+  pub c-told : ((n : ℕ) × SaysBits answer n) ⊎ ((n : ℕ) × RefusesBits answer n)
   unfolding writeAnswer
-  card-told = rw answers (by-answer (writingOctets o m (length out)))
+  c-told = rw answers (by-answer (writingOctets o m (length out)))
     where
       by-answer : (w : Written) → ((n : ℕ) × SaysBits (writtenBits w) n) ⊎ ((n : ℕ) × RefusesBits (writtenBits w) n)
       by-answer (Written.Length k) = inl (told-length k)
       by-answer (Written.Refused f) = inr (writeNumber f, refuses-bits (Written.Refused f) (writeNumber f) .0 (f, refl, refl))
 
   -- others: 24, and the buffer stays
-  pub card-refused : isRecord o ≡ false → (answer ≡ 24) × (new ≡ out)
-  card-refused h = let n = no-record o m out h in (answers ∙ n .0, holds ∙ n .1)
+  pub c-refused : isRecord o ≡ false → (answer ≡ 24) × (new ≡ out)
+  c-refused h = let n = no-record o m out h in (answers ∙ n .0, holds ∙ n .1)

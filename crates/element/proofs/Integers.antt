@@ -9,7 +9,7 @@ use Rattle.primitive.proofs.Integers.{integer-back, integer-ok, integer-only}
 use Rattle.element.specs.Form.{leaf}
 use Rattle.element.specs.Element.{extendedOf, codeZero}
 use Rattle.element.specs.Parts.{leafItem, integerItem}
-use Rattle.element.proofs.Insides.{ItemLaws, leaf-laws}
+use Rattle.element.proofs.ItemLaws.{ItemLaws, leaf-laws}
 use Rattle.element.proofs.Joins.{map-laws}
 
 pub integer-laws : (t most : ℕ) → extendedOf t ≡ false → codeZero t ≡ false → 1 ≤ most → most ≤ mostIntegerOctets

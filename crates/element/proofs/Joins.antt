@@ -22,7 +22,7 @@ use Rattle.element.specs.declared.TagRead.the-variants.{Fault as tagFaul
 use Rattle.element.specs.Ask.{Got, got, bad, next, blamed, Head, head, Body, ask}
 use Rattle.element.specs.Parts.{Item, Where, firstOf, mapItem, orItem, done, onward, silently, bindBody, thenBody, onlyBody, lastBody, optPick, optBody, mapBody, seriesBody}
 use Rattle.element.proofs.Asking.{Then, fact, void, then-next, then-blamed, then-weaken, next-of, blamed-of, HeadOf, finite, unended, ask-ends, ask-sound}
-use Rattle.element.proofs.Insides.{Took, Reads, ItemLaws, BodyReads, nothing, begun, BodyLaws, Asked, asked-complete, asked-sound}
+use Rattle.element.proofs.ItemLaws.{Took, Reads, ItemLaws, BodyReads, nothing, begun, BodyLaws, Asked, asked-complete, asked-sound}
 
 -- Values under other names: each way with what is of the form
 

@@ -17,8 +17,8 @@ use Rattle.element.specs.Ask.{Got, got, bad, next, check, blamed, defini
 use Rattle.element.specs.Parts.{Item, Where, level, firstOf, leafContents, leafItem, inside, aroundItem, keptItem, mapItem, orItem, place, done, onward, silently, bindBody, thenBody, onlyBody, lastBody, optPick, optBody, mapBody, seriesBody}
 use Rattle.element.specs.Walk.{walkPick, elementOf, anyTag, walkContents}
 use Rattle.element.proofs.Asking.{next-of, HeadOf}
-use Rattle.element.proofs.Alike.{Alike, alike-less, take-behind, alike-drop, pair}
-use Rattle.element.proofs.Looked.{OfTag, other, further, inContents, kindOf, placeOf, Spares, Local, sure, wrong, Level, Reaches, sizeOf, next-bad, local-map, local-level, local-check, head-alike, head-room, head-least, level-reaches, ask-local}
+use Rattle.element.proofs.LocalHeads.{Alike, alike-less, take-behind, alike-drop, pair}
+use Rattle.element.proofs.LocalClauses.{OfTag, other, further, inContents, kindOf, placeOf, Spares, Local, sure, wrong, Level, Reaches, sizeOf, next-bad, local-map, local-level, local-check, head-alike, head-room, head-least, level-reaches, ask-local}
 
 -- Items and bodies: with so many levels left for the element
 

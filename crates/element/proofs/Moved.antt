@@ -19,7 +19,7 @@ use Rattle.element.specs.declared.EndRead.{EndRead}
 use Rattle.element.specs.declared.EndRead.the-variants.{Ended, Unfinished, More}
 use Rattle.element.specs.declared.Walk.{Walk}
 use Rattle.element.specs.declared.Walk.the-variants.{Fault, Whole}
-use Rattle.element.proofs.Whole.{wanted-is, element-size}
+use Rattle.element.proofs.WalkedWhole.{wanted-is, element-size}
 use Rattle.element.proofs.Walking.{thenWalk, grown, tag-by, not-more, series-ended, series-unfinished, series-more, contentsWalk, contents-walk}
 
 unfoldable pub moved : ℕ → Walk → Walk

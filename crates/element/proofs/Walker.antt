@@ -23,7 +23,7 @@ use Rattle.element.specs.Fault.{Text}
 use Rattle.element.specs.Parts.{Item, Where, level, firstOf, leafContents, inside, seriesBody, onlyBody, onward}
 use Rattle.element.specs.Walk.{walkPick, elementOf, anyTag, walkContents, walkItem, walkTagItem}
 use Rattle.element.proofs.Asking.{Then, fact, void, the-fact, then-next, ask-sound, then-weaken, next-of, HeadOf, finite, unended, Says, head-says}
-use Rattle.element.proofs.Insides.{Took, Reads, ItemLaws, BodyReads, BodyLaws, Held, Holds, leaf-octets, leaf-sound, inside-complete, inside-sound, Asked, asked-complete, asked-sound}
+use Rattle.element.proofs.ItemLaws.{Took, Reads, ItemLaws, BodyReads, BodyLaws, Held, Holds, leaf-octets, leaf-sound, inside-complete, inside-sound, Asked, asked-complete, asked-sound}
 use Rattle.element.proofs.Joins.{SeriesOk, EndsAs, series-laws, only-laws}
 
 -- an element takes octets

@@ -31,7 +31,7 @@ use Rattle.element.specs.declared.Walk.{Walk}
 use Rattle.element.specs.declared.Walk.the-variants.{Fault as walkFault, Whole}
 use Rattle.element.proofs.Asking.{ask-ends, ask-unfinished}
 use Rattle.element.proofs.Reading.{FrontIs, front-says, front-refused, indefinite-size}
-use Rattle.element.proofs.Whole.{wantedTag, wanted-is, wantedBody, wantedBodies, element-size}
+use Rattle.element.proofs.WalkedWhole.{wantedTag, wanted-is, wantedBody, wantedBodies, element-size}
 
 -- a walk that goes on after its octets; a walk after n octets
 unfoldable pub thenWalk : Walk → (ℕ → Walk) → Walk

@@ -10,7 +10,7 @@ use base::wide;
 use pack::number::put_four;
 use transaction_states::State;
 use transaction_states::is_open;
-use transaction_states::octet_at;
+use transaction_states::octet_or_zero;
 
 pub const ENTRY_SIZE: usize = 12;
 
@@ -106,15 +106,15 @@ pub fn id_word(id: &[u8]) -> usize
         return word_of(id[0], id[1], id[2], id[3]);
     }
     word_of(
-        octet_at(id, 0),
-        octet_at(id, 1),
-        octet_at(id, 2),
-        octet_at(id, 3),
+        octet_or_zero(id, 0),
+        octet_or_zero(id, 1),
+        octet_or_zero(id, 2),
+        octet_or_zero(id, 3),
     )
 }
 
 // A number of four octets, the least significant first, and the place after it.
-fn put_word(out: &mut [u8], at: usize, word: usize) -> usize
+fn put_least_first(out: &mut [u8], at: usize, word: usize) -> usize
     requires { ⌜ at + 4 ≤ length (now out) ⌝ }
     ensures { λ r. ⌜ Put (now (out .entry)) at (octetsOf word) r (now (out .exit)) ⌝ }
 {
@@ -133,7 +133,7 @@ fn put_id(out: &mut [u8], at: usize, id: &[u8]) -> usize
     requires { ⌜ at + 4 ≤ length (now out) ⌝ }
     ensures { λ r. ⌜ Put (now (out .entry)) at (fourOf (now (id .entry))) r (now (out .exit)) ⌝ }
 {
-    put_word(out, at, id_word(id))
+    put_least_first(out, at, id_word(id))
 }
 
 // An entry, and the place after it.

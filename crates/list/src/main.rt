@@ -1,8 +1,8 @@
 // Reads a message from standard input, and writes its listing.
 use libc::STDIN_FILENO;
 use libc::STDOUT_FILENO;
+use program_parts::list_into;
 use read::read;
-use report::list_into;
 
 fn main() {
     // One octet more than a message may have: longer input is answered like this much of it.

@@ -22,7 +22,7 @@ use transaction_states::ids_ok;
 use transaction_states::is_open;
 use transaction_states::move_of;
 use transaction_states::moving_in;
-use transaction_states::octet_at;
+use transaction_states::octet_or_zero;
 use transaction_states::opening_in;
 use transaction_states::taken_of;
 use transaction_states::told_by;
@@ -69,16 +69,16 @@ fn same_id(entry: Entry, id: &[u8]) -> bool
     if span.len as usize != id.len() {
         return false;
     }
-    if entry.octets[0] != octet_at(id, 0) {
+    if entry.octets[0] != octet_or_zero(id, 0) {
         return false;
     }
-    if entry.octets[1] != octet_at(id, 1) {
+    if entry.octets[1] != octet_or_zero(id, 1) {
         return false;
     }
-    if entry.octets[2] != octet_at(id, 2) {
+    if entry.octets[2] != octet_or_zero(id, 2) {
         return false;
     }
-    entry.octets[3] == octet_at(id, 3)
+    entry.octets[3] == octet_or_zero(id, 3)
 }
 
 fn holds_id(entry: Entry, id: &[u8]) -> bool
@@ -107,14 +107,14 @@ fn entry_for(state: State, ours: &[u8], partner: &[u8]) -> Entry
     let ours_len = ours.len() as u32;
     let partner_len = partner.len() as u32;
     let octets = [
-        octet_at(ours, 0),
-        octet_at(ours, 1),
-        octet_at(ours, 2),
-        octet_at(ours, 3),
-        octet_at(partner, 0),
-        octet_at(partner, 1),
-        octet_at(partner, 2),
-        octet_at(partner, 3),
+        octet_or_zero(ours, 0),
+        octet_or_zero(ours, 1),
+        octet_or_zero(ours, 2),
+        octet_or_zero(ours, 3),
+        octet_or_zero(partner, 0),
+        octet_or_zero(partner, 1),
+        octet_or_zero(partner, 2),
+        octet_or_zero(partner, 3),
     ];
     let partner_id = partner_of(partner_len);
     Entry {

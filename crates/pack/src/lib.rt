@@ -9,7 +9,7 @@ ghost use lib.ListN.{length};
 ghost use Rattle.base.specs.inner.Put.{Put};
 ghost use Rattle.layout.specs.Fits.{RecordFits};
 ghost use Rattle.layout.specs.Layout.{recordOctets};
-ghost use Rattle.pack.specs.Laid.{laidOut};
+ghost use Rattle.pack.specs.LaidOut.{laidOut};
 use crate::head::put_head;
 use crate::row::put_row;
 use tcap::Record;

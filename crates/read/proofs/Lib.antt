@@ -2,6 +2,6 @@ pub mod LaidRow
 pub mod LaidHead
 pub mod Accepted
 pub mod Outcomes
-pub mod Whole
+pub mod Records
 pub mod Few
 pub mod Octets

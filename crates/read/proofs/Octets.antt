@@ -8,7 +8,7 @@ use Rattle.tcap.specs.declared.{Outcome.Outcome, Record.Record}
 use Rattle.tcap.specs.Reading.{reading}
 use Rattle.layout.specs.Layout.{headOctets, recordOctets}
 use Rattle.base.specs.Number.{octetsIn}
-use Rattle.read.specs.Held.{Held}
+use Rattle.read.specs.Octets.{Held}
 use Rattle.read.proofs.Few.{reading-few, reading-size}
 
 -- the count, in the last of its four octets

@@ -17,8 +17,8 @@ use Rattle.read_place.specs.Leaves.{Left}
 use Rattle.read_place.specs.Blames.{Blames}
 use Rattle.read_place.proofs.Answers.{far-fault}
 use Rattle.read_message.specs.Messages.{Answers}
-use Rattle.read_refusal.specs.Told.{Blamed, RefusedAs}
-use Rattle.read.specs.Held.{Held}
+use Rattle.read_refusal.specs.Refusals.{Blamed, RefusedAs}
+use Rattle.read.specs.Octets.{Held}
 use Rattle.read.proofs.Accepted.{accepted-held}
 
 -- The outcome, and what is left in the octets

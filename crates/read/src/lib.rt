@@ -2,7 +2,7 @@
 ghost use mathlib.Core.Path.{_≡_};
 ghost use lib.ListN.{replicate};
 ghost use Rattle.tcap.specs.Reading.{reading};
-ghost use Rattle.read.specs.Held.{Held};
+ghost use Rattle.read.specs.Octets.{Held};
 use base::after;
 use read_message::message_at;
 use read_place::FAULT;

@@ -31,17 +31,17 @@ use Rattle.read_place.specs.Places.{Far, Near, until, finite, part, front, Plac
 use Rattle.read_place.proofs.Answers.{placed-near}
 use Rattle.read_place.proofs.Values.{placed-got}
 use Rattle.read_place.proofs.Fronts.{byFront, ask-front}
-use Rattle.read_place.proofs.Onto.{ask-bind, ask-map}
+use Rattle.read_place.proofs.Asked.{ask-bind, ask-map}
 use Rattle.read_place.proofs.Items.{stands-here, stands-only, stands-other, or-left, or-right, placed-item, front-octet, Entered, ask-entered}
 use Rattle.read_place.proofs.Bodies.{placed-where}
 use Rattle.read_place.proofs.Optional.{entry-from, entry-to}
-use Rattle.read_row.specs.Component.{bodyOf}
-use Rattle.read_component.specs.Components.{Carries, idTold, KnowsId}
+use Rattle.read_row.specs.Component.{componentBodyOf}
+use Rattle.read_component.specs.Components.{Carries, idInNumber, KnowsId}
 use Rattle.read_place.proofs.Around.{around-ask}
-use Rattle.read_part.proofs.Laid.{item-map}
+use Rattle.read_part.proofs.FieldsLeft.{item-map}
 use Rattle.read_row.proofs.Contents.{lead, by-tag}
 use Rattle.read_component.proofs.Values.{value-id, id-is, head-first}
-use Rattle.read_component.proofs.Carried.{carries-map, plain-id, carries-none, carries-id, near-carries, far-carries, null-carries}
+use Rattle.read_component.proofs.FaultIds.{carries-map, plain-id, carries-none, carries-id, near-carries, far-carries, null-carries}
 
 -- A Reject
 
@@ -122,11 +122,11 @@ map-carries f b j d p part e = rw (ask-map f b d p part) (carries-map f (λ n. n
 
 module _ (tag : ℕ) (m : List ℕ) (at stop : ℕ) (h : until stop ≤ length m) where
   abbrev Known : Option ℤ → Type 0
-  Known j = Carries j (ask (bodyOf tag) (finite stop) at (part m at stop))
+  Known j = Carries j (ask (componentBodyOf tag) (finite stop) at (part m at stop))
 
   module _ (other : tag ≡ 164 → ⊥) (r : ℕ) (id : Reads (integerItem 2 1) m at stop r) where
     by-kind : (j : Option ℤ) → ((B : Type 0) (y : ℤ → Body B) → Carries j (ask (bindBody (level 13) noted (integerItem 2 1) y) (finite stop) at (part m at stop))) → Known j
-    unfolding bodyOf
+    unfolding componentBodyOf
     by-kind j all = rw (ne-eqb tag 164 other) (go (eqb tag 161) (eqb tag 162) (eqb tag 163))
       where
         go : (a b c : Bool) → Carries j (ask (cond a (invokeBody the93) (cond b (resultBody the93 last) (cond c (errorBody the93) (resultBody the93 notLast)))) (finite stop) at (part m at stop))
@@ -143,7 +143,7 @@ module _ (tag : ℕ) (m : List ℕ) (at stop : ℕ) (h : until stop ≤ length m
 
   module _ (rejects : tag ≡ 164) where
     its-body : (j : Option ℤ) → Carries j (ask (bindBody (level 13) withInvokeId idOrNullItem (λ i. onlyBody (level 13) problemItem)) (finite stop) at (part m at stop)) → Known j
-    unfolding bodyOf
+    unfolding componentBodyOf
     its-body j e = rw rejects (map-carries (λ v. reject (v .0) (v .1)) _ j (finite stop) at (part m at stop) e)
 
     module _ (b : Bool) (is : b ≡ standsOf m at stop 5) where
@@ -200,12 +200,12 @@ wrong-front x d p part EndRead.More (TagRead.Fault k) h = unfold Carries in refl
 wrong-front x d p part EndRead.More (TagRead.Tag a s) h = rw (h a s refl) (unfold Carries in refl)
 
 module _ (m : List ℕ) (at stop : ℕ) (h : until stop ≤ length m) (here : at < until stop) (b : Bool) (asked : b ≡ componentItem the93 .mine (getD m at 0)) (told : b ≡ true) (inner : ℕ) (entry : inner ≡ entryPlace true m at stop (getD m at 0)) where
-  pub component-carries : length m ≤ 65535 → Near inner → (st : ℕ) → st ≡ at + 1 + lengthSize (getD m (at + 1) 0) → (j : Option ℤ) → Carries j (ask (bodyOf (getD m at 0)) (finite inner) st (part m st inner))
+  pub component-carries : length m ≤ 65535 → Near inner → (st : ℕ) → st ≡ at + 1 + lengthSize (getD m (at + 1) 0) → (j : Option ℤ) → Carries j (ask (componentBodyOf (getD m at 0)) (finite inner) st (part m st inner))
       → Carries j (ask (front (level 1) FaultKind.UnknownComponent (componentItem the93)) (finite stop) at (part m at stop))
   component-carries top near st start j e =
       rw (by-tag m at stop h (sym asked ∙ told)) (
       let s = lead (getD m at 0) (sym asked ∙ told) in
-      let q = around-ask (bodyOf (getD m at 0)) m at stop (getD m at 0) inner st (omega (arith, here)) h top (s .0) (s .1) entry near start in
+      let q = around-ask (componentBodyOf (getD m at 0)) m at stop (getD m at 0) inner st (omega (arith, here)) h top (s .0) (s .1) entry near start in
       rw (q .1) (carries-map (λ v. v) (q .0) j _ e))
 
   -- its length is none
@@ -216,10 +216,10 @@ module _ (m : List ℕ) (at stop : ℕ) (h : until stop ≤ length m) (here : at
       let s = lead (getD m at 0) (sym asked ∙ told) in
       let answer : inner ≡ lengthPlace at (at + 1) (until stop) (lengthOf (part m (at + 1) stop) true) = entry ∙ rw (ne-eqb at (until stop) (λ z. omega (arith, z, here)), eq-eqb (getD m at 0) (getD m at 0) refl) in
       let i : Entered true m at stop (getD m at 0) inner = record { here = here; first = refl; len = lengthOf (part m (at + 1) stop) true; len-is = refl; answer = answer } in
-      rw (ask-entered true m at stop (getD m at 0) inner (omega (arith, here)) h entry (aroundItem (getD m at 0) (bodyOf (getD m at 0))) (s .0) (s .1) (λ a. refl) i) (go (lengthOf (part m (at + 1) stop) true) refl answer))
+      rw (ask-entered true m at stop (getD m at 0) inner (omega (arith, here)) h entry (aroundItem (getD m at 0) (componentBodyOf (getD m at 0))) (s .0) (s .1) (λ a. refl) i) (go (lengthOf (part m (at + 1) stop) true) refl answer))
     where
-      go : (l : LengthRead) → lengthOf (part m (at + 1) stop) true ≡ l → inner ≡ lengthPlace at (at + 1) (until stop) l → Carries none (askLength (front (level 1) FaultKind.Another (aroundItem (getD m at 0) (bodyOf (getD m at 0)))) (finite stop) at (part m at stop) (getD m at 0) 1 l)
-      go l q e = by-length (aroundItem (getD m at 0) (bodyOf (getD m at 0))) m at stop h here inner f (getD m at 0) l q e
+      go : (l : LengthRead) → lengthOf (part m (at + 1) stop) true ≡ l → inner ≡ lengthPlace at (at + 1) (until stop) l → Carries none (askLength (front (level 1) FaultKind.Another (aroundItem (getD m at 0) (componentBodyOf (getD m at 0)))) (finite stop) at (part m at stop) (getD m at 0) 1 l)
+      go l q e = by-length (aroundItem (getD m at 0) (componentBodyOf (getD m at 0))) m at stop h here inner f (getD m at 0) l q e
 
 -- no component stands here
 pub wrong-carries : (m : List ℕ) (at stop : ℕ) → until stop ≤ length m → (b : Bool) → b ≡ componentItem the93 .mine (getD m at 0) → b ≡ false → Carries none (ask (front (level 1) FaultKind.UnknownComponent (componentItem the93)) (finite stop) at (part m at stop))
@@ -231,12 +231,12 @@ wrong-carries m at stop h b asked told =
 
 module _ (m : List ℕ) (at stop : ℕ) (h : until stop ≤ length m) where
   pub told-wrong : (b : Bool) → b ≡ componentItem the93 .mine (getD m at 0) → b ≡ false → KnowsId m at stop 0
-  unfolding idTold
+  unfolding idInNumber
   told-wrong b asked told = wrong-carries m at stop h b asked told
 
   module _ (here : at < until stop) (b : Bool) (asked : b ≡ componentItem the93 .mine (getD m at 0)) (told : b ≡ true) (inner : ℕ) (entry : inner ≡ entryPlace true m at stop (getD m at 0)) where
     pub told-entry : Far inner → KnowsId m at stop 0
-    unfolding idTold
+    unfolding idInNumber
     told-entry f = entry-carries m at stop h here b asked told inner entry f
 
     module _ (top : length m ≤ 65535) (near : Near inner) (st : ℕ) (start : st ≡ at + 1 + lengthSize (getD m (at + 1) 0)) (r : ℕ) (id : Reads (integerItem 2 1) m st inner r) where
@@ -247,11 +247,11 @@ module _ (m : List ℕ) (at stop : ℕ) (h : until stop ≤ length m) where
       octet-inside f = id-inside m st inner r (fits .1) id f
 
       pub told-none : Far r → KnowsId m at stop 0
-      unfolding idTold
+      unfolding idInNumber
       told-none f = component-carries m at stop h here b asked told inner entry top near st start none (first-none (getD m at 0) m st inner (fits .1) (fits .0) r id f)
 
       pub told-id : getD m (st + 2) 0 < 256 → Near r → KnowsId m at stop (256 + getD m (st + 2) 0)
-      unfolding idTold
+      unfolding idInNumber
       told-id low f =
           let some-id : (256 + getD m (st + 2) 0) / 256 ≡ 1 = omega (arith, low) in
           let octet : (256 + getD m (st + 2) 0) % 256 ≡ getD m (st + 2) 0 = omega (arith, low) in

@@ -1,5 +1,5 @@
 pub mod Rows
 pub mod Values
-pub mod Carried
+pub mod FaultIds
 pub mod Ids
-pub mod Filled
+pub mod RowsLeft

@@ -22,7 +22,7 @@ use Rattle.tcap.specs.Productions.{componentAt, componentItem}
 use Rattle.read_place.specs.Places.{Near, until, finite, part, faultPlace, front, Placed, endedOf, unfinishedOf}
 use Rattle.read_place.proofs.Answers.{Keeps, placed-near}
 use Rattle.read_place.proofs.Fronts.{byFront, ask-front, not-ended, more-here}
-use Rattle.read_place.proofs.Onto.{blamed-same, rest, ask-onto}
+use Rattle.read_place.proofs.Asked.{blamed-same, rest, ask-onto}
 use Rattle.read_place.proofs.Bodies.{placed-where}
 use Rattle.read_row.specs.Component.{ReadsComponent}
 use Rattle.read_component.specs.Components.{endsAt, rowsBody}

@@ -22,8 +22,8 @@ Carries j (got a n) = Unit {0}
 Carries j (bad (fault k q o i t)) = i ≡ j
 
 -- an invoke ID told by a number: 0 is none, else 256 and its octet
-unfoldable pub idTold : ℕ → Option ℤ
-idTold r = cond (eqb (r / 256) 0) none (some (signedOf (r % 256 ∷ [])))
+unfoldable pub idInNumber : ℕ → Option ℤ
+idInNumber r = cond (eqb (r / 256) 0) none (some (signedOf (r % 256 ∷ [])))
 
 -- the invoke ID goes with a fault of the component that stands at a place
 abbrev pub CarriesHere : Option ℤ → List ℕ → ℕ → ℕ → Type 0
@@ -31,4 +31,4 @@ CarriesHere j m at stop = Carries j (ask (front (level 1) FaultKind.UnknownCompo
 
 -- told by a number
 abbrev pub KnowsId : List ℕ → ℕ → ℕ → ℕ → Type 0
-KnowsId m at stop r = CarriesHere (idTold r) m at stop
+KnowsId m at stop r = CarriesHere (idInNumber r) m at stop

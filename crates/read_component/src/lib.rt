@@ -8,7 +8,7 @@ ghost use Rattle.read_place.specs.Leaves.{LeavesAll};
 ghost use Rattle.read_place.specs.Laying.{layComponents};
 ghost use Rattle.read_place.specs.Blames.{Blames, ownerIn, idIn};
 ghost use Rattle.read_component.specs.Components.{CarriesHere, KnowsId, rowsBody};
-use read_field::octet_at;
+use read_field::one_octet_at;
 use read_place::CUT_OFF;
 use read_place::FAULT;
 use read_place::MISSING;
@@ -37,7 +37,7 @@ fn known_id(m: &[u8], at: usize, stop: usize) -> usize
             return 0;
         }
         let first = start_of(m, at + 1);
-        let r = octet_at(m, first, inner, 0x02);
+        let r = one_octet_at(m, first, inner, 0x02);
         if r >= FAULT {
             return 0;
         }

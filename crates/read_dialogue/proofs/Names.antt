@@ -16,7 +16,7 @@ use Rattle.element.proofs.Views.{span-length, span-drop, span-take, span-cut, S
 use Rattle.tcap.specs.{Meaning.Dialogue, Meaning.single, Meaning.octets, Meaning.structured, Meaning.unstructured, inner.Names.kindOf, inner.Names.nameKind, WellFormed.the93, Productions.nameItem, Productions.heldItem, Productions.externalBody}
 use Rattle.read_place.specs.Places.{Far, Near, until, faults, finite, part, base, front, Placed, nothing, Reads, Finishes, endedOf, unfinishedOf, standsOf, entryPlace, badPlace, countOf, lengthPlace, Ready, Walked, cutOff, missing, badContents}
 use Rattle.read_place.specs.{Laying.layText, Laying.laySpan, Laying.layName, Laying.layDialogue, Leaves.Left, Leaves.untold}
-use Rattle.read_place.proofs.{Answers.far, Answers.close-near, Answers.closing-blamed, Answers.closing-rest, Onto.ask-bind, Bodies.placed-where, Bodies.bind-far, Bodies.map-closed, Walks.walked-near, Values.value-walk}
+use Rattle.read_place.proofs.{Answers.far, Answers.close-near, Answers.closing-blamed, Answers.closing-rest, Asked.ask-bind, Bodies.placed-where, Bodies.bind-far, Bodies.map-closed, Walks.walked-near, Values.value-walk}
 use Rattle.read_place.proofs.Items.{Entered, entered, ask-entered, entry-far, stands-other}
 use Rattle.read_place.proofs.Optional.{here-placed, sole-missing, sole-cut, sole-walk-far, sole-walk, entry-from, entry-to, reads-within}
 use Rattle.read_place.proofs.Leaves.{left-blamed, left-next, map-left, only-left}

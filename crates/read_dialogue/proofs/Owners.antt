@@ -12,7 +12,7 @@ use Rattle.element.proofs.{Reading.definite-size, Views.span-length, Views.span
 use Rattle.tcap.specs.{Meaning.Dialogue, WellFormed.the93, Productions.externalBody, Productions.inside6B, Productions.dialogueItem}
 use Rattle.read_place.specs.Places.{Far, Near, until, finite, part, front, nothing, faultPlace, Placed, Reads, Finishes, Leads, standsOf, entryPlace, lengthPlace, wrongPlace, Ready, base, endedOf, unfinishedOf}
 use Rattle.read_place.specs.{Laying.layDialogue, Leaves.Leaves, Blames.Blames}
-use Rattle.read_place.proofs.{Around.around-ask, Answers.Keeps, Answers.far-fault, Walks.unfinished-is, Onto.ask-only, Bodies.placed-where}
+use Rattle.read_place.proofs.{Around.around-ask, Answers.Keeps, Answers.far-fault, Walks.unfinished-is, Asked.ask-only, Bodies.placed-where}
 use Rattle.read_place.proofs.Fronts.{byFront, ask-front, ended-is, more-here}
 use Rattle.read_place.proofs.{Items.Entered, Items.ask-entered, Items.stands-here, Items.stands-other, Optional.entry-inside, Optional.entry-from, Optional.entry-to}
 use Rattle.read_pdu.specs.Pdus.{Takes}

@@ -32,7 +32,7 @@ pub fn name_at(m: &[u8], at: usize, stop: usize) -> usize
 }
 
 // One octet, an ID.
-pub fn octet_at(m: &[u8], at: usize, stop: usize, tag: u8) -> usize
+pub fn one_octet_at(m: &[u8], at: usize, stop: usize, tag: u8) -> usize
     requires { ⌜ Ready (now m) at stop × Leads tag × (tag / 32 % 2 ≡ 0) ⌝ }
     ensures { λ r. ⌜ Reads (integerItem tag 1) (now (m .entry)) at stop r ⌝ }
 {

@@ -26,11 +26,11 @@ use Rattle.read_place.proofs.Leaves.{left-next}
 use Rattle.read_place.proofs.Values.{value-leaf, placed-got}
 use Rattle.read_field.proofs.Fields.{single-sized}
 use Rattle.read_field.proofs.Choices.{reads-map, transaction-sized}
-use Rattle.read_part.proofs.Laid.{item-map}
+use Rattle.read_part.proofs.FieldsLeft.{item-map}
 use Rattle.read_row.proofs.Pairs.{Does}
 use Rattle.read_dialogue.proofs.Told.{Belongs, says-portion, told-far}
-use Rattle.read_message.specs.Messages.{idItem, layIdAt, endingItem}
-use Rattle.read_message.proofs.Told.{plain-leaf, plain-map}
+use Rattle.read_message.specs.Messages.{transactionIdItem, layIdAt, endingItem}
+use Rattle.read_message.proofs.PortionFaults.{plain-leaf, plain-map}
 
 -- Under another name
 pub leaves-map : {A B : Type 0} (f : A → B) (x : Item A) (lay : A → List ℕ → List ℕ) (out : B → List ℕ → List ℕ) (m : List ℕ) (at stop : ℕ) (old new : List ℕ) → ((a : A) → lay a old ≡ out (f a) old) → Leaves lay Blames x m at stop old new → Leaves out Blames (mapItem f x) m at stop old new
@@ -73,21 +73,21 @@ module _ {A : Type 0} (x : Item A) (f : Text → A) (most : ℕ) (m : List ℕ) 
 
 -- The IDs
 
-module _ (tag : ℕ) (m : List ℕ) (at stop r : ℕ) (e : Reads (idItem tag) m at stop r) where
-  pub id-fault : Far r → (flag o : ℕ) (old new : List ℕ) → length old ≡ 428 → (s : ℕ) → s ≡ r → new ≡ set old 0 0 → Does Blames (layIdAt flag o) (idItem tag) m at stop s old new
-  id-fault far flag o old new long s i z = rw i (e, leaf-told (idItem tag) (λ v. v) mostTransactionIdOctets m at stop r e (plain-leaf tag idOk (finite stop) at (part m at stop)) far (layIdAt flag o) old new long z)
+module _ (tag : ℕ) (m : List ℕ) (at stop r : ℕ) (e : Reads (transactionIdItem tag) m at stop r) where
+  pub id-fault : Far r → (flag o : ℕ) (old new : List ℕ) → length old ≡ 428 → (s : ℕ) → s ≡ r → new ≡ set old 0 0 → Does Blames (layIdAt flag o) (transactionIdItem tag) m at stop s old new
+  id-fault far flag o old new long s i z = rw i (e, leaf-told (transactionIdItem tag) (λ v. v) mostTransactionIdOctets m at stop r e (plain-leaf tag idOk (finite stop) at (part m at stop)) far (layIdAt flag o) old new long z)
 
-  pub id-laid : Leads tag → Near r → until stop ≤ length m → (flag o : ℕ) (old new : List ℕ) → new ≡ layText o (at + 2) (r - at - 2) (set old flag 1) → Does Blames (layIdAt flag o) (idItem tag) m at stop r old new
+  pub id-laid : Leads tag → Near r → until stop ≤ length m → (flag o : ℕ) (old new : List ℕ) → new ≡ layText o (at + 2) (r - at - 2) (set old flag 1) → Does Blames (layIdAt flag o) (transactionIdItem tag) m at stop r old new
   id-laid leads near h flag o old new z =
       let known = value-leaf tag mostTransactionIdOctets idOk leads (omega arith) transaction-sized at (part m at stop) (level 1) (finite stop) in (
         e,
-        leaf-left (idItem tag) (λ v. v) mostTransactionIdOctets m at stop r e known near (layIdAt flag o) old new
-            (z ∙ ap (λ (n : ℕ). layText o (at + 2) n (set old flag 1)) (sym (leaf-length (idItem tag) (λ v. v) mostTransactionIdOctets m at stop r e known near h))),
+        leaf-left (transactionIdItem tag) (λ v. v) mostTransactionIdOctets m at stop r e known near (layIdAt flag o) old new
+            (z ∙ ap (λ (n : ℕ). layText o (at + 2) n (set old flag 1)) (sym (leaf-length (transactionIdItem tag) (λ v. v) mostTransactionIdOctets m at stop r e known near h))),
       )
 
   -- how many octets they have
   pub id-room : Leads tag → Near r → at + 3 ≤ r
-  id-room leads near = leaf-room (idItem tag) (λ v. v) mostTransactionIdOctets m at stop r e (value-leaf tag mostTransactionIdOctets idOk leads (omega arith) transaction-sized at (part m at stop) (level 1) (finite stop)) near
+  id-room leads near = leaf-room (transactionIdItem tag) (λ v. v) mostTransactionIdOctets m at stop r e (value-leaf tag mostTransactionIdOctets idOk leads (omega arith) transaction-sized at (part m at stop) (level 1) (finite stop)) near
 
 -- A cause, or 6B
 

@@ -1,4 +1,4 @@
-pub mod Told
+pub mod PortionFaults
 pub mod Fields
 pub mod Portions
-pub mod Whole
+pub mod Messages

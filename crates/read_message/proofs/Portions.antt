@@ -32,8 +32,8 @@ use Rattle.read_pdu.specs.Pdus.{Passed, Passes}
 use Rattle.read_dialogue.proofs.Owners.{entry-belongs}
 use Rattle.read_pdu.proofs.Pdus.{pass-far, pass-near, passed-there, passed-not}
 use Rattle.read_dialogue.proofs.Told.{says-portion, told-far}
-use Rattle.read_message.specs.Messages.{idItem, layIdAt, componentsBody, endingBody, unidirectionalBody, bodyOf, layListed, layTail, layLast, Lays, LaysPast}
-use Rattle.read_message.proofs.Told.{carried-stays}
+use Rattle.read_message.specs.Messages.{transactionIdItem, layIdAt, componentsBody, endingBody, unidirectionalBody, messageBodyOf, layListed, layTail, layLast, LaysPortion, LaysPast}
+use Rattle.read_message.proofs.PortionFaults.{carried-stays}
 use Rattle.read_message.proofs.Fields.{leaves-map}
 
 -- 6C
@@ -56,11 +56,11 @@ module _ (m : List ℕ) (at stop inner : ℕ) (g : at ≤ until stop) (h : until
 
 module _ (m : List ℕ) (at stop : ℕ) (b : Bool) (is : b ≡ standsOf m at stop 107) where
   pub passes-it : b ≡ true → (r : ℕ) (old new : List ℕ) → Does Blames layDialogue (dialogueItem the93) m at stop r old new → Passes 107 (dialogueItem the93) m at stop r × LaysPast m at stop old new
-  unfolding Lays
+  unfolding LaysPortion
   passes-it t r old new e = (passed-there 107 (dialogueItem the93) m at stop r b is t (e .0), rw (← is, t) (e .1))
 
   pub passes-none : b ≡ false → (old : List ℕ) → Passes 107 (dialogueItem the93) m at stop at × LaysPast m at stop old old
-  unfolding Lays
+  unfolding LaysPortion
   passes-none t old = (passed-not 107 (dialogueItem the93) m at stop b is t, rw (← is, t))
 
 module _ {B : Type 0} (y : Body B) (full : y .full ≡ false) (deep : ltb 0 (y .left) ≡ true) (another : y .other ≡ FaultKind.Another) (keeps : Keeps (y .owner)) (stays : Stays Blames (y .owner)) (put : B → List ℕ → List ℕ)
@@ -69,18 +69,18 @@ module _ {B : Type 0} (y : Body B) (full : y .full ≡ false) (deep : ltb 0 (y .
   opened = optBody (dialogueItem the93) y
 
   pass-fault : length m ≤ 65535 → Far r → DoesAll Blames (layBoth layPortion put) opened m at stop r old mid
-  unfolding Passed Lays
+  unfolding Passed LaysPortion
   pass-fault top f = (pass-far 107 (dialogueItem the93) (λ a. refl) y full deep another keeps (omega arith, omega arith, omega arith) m at stop g h r (e .0) top f, go (standsOf m at stop 107) refl (e .0) (e .1))
     where
-      go : (b : Bool) → standsOf m at stop 107 ≡ b → Passed b (dialogueItem the93) m at stop r → Lays b m at stop old mid → LeavesAll (layBoth layPortion put) Blames opened m at stop old mid
+      go : (b : Bool) → standsOf m at stop 107 ≡ b → Passed b (dialogueItem the93) m at stop r → LaysPortion b m at stop old mid → LeavesAll (layBoth layPortion put) Blames opened m at stop old mid
       go true t e q = opt-left-far Blames 107 (dialogueItem the93) (λ a. refl) y full deep another keeps (omega arith, omega arith, omega arith) m at stop g h true (sym t) layDialogue put (layBoth layPortion put) old refl r e stays mid f q
       go false t e q = absurd (omega (arith, e, g, h, top, f))
 
   pass-rest : Near r → (s : ℕ) (new : List ℕ) → DoesAll Blames put y m r stop s mid new → DoesAll Blames (layBoth layPortion put) opened m at stop s old new
-  unfolding Passed Lays layPortion
+  unfolding Passed LaysPortion layPortion
   pass-rest f s new w = (pass-near 107 (dialogueItem the93) (λ a. refl) y full deep another keeps (omega arith, omega arith, omega arith) m at stop g h r (e .0) f s (w .0), go (standsOf m at stop 107) refl (e .0) (e .1))
     where
-      go : (b : Bool) → standsOf m at stop 107 ≡ b → Passed b (dialogueItem the93) m at stop r → Lays b m at stop old mid → LeavesAll (layBoth layPortion put) Blames opened m at stop old new
+      go : (b : Bool) → standsOf m at stop 107 ≡ b → Passed b (dialogueItem the93) m at stop r → LaysPortion b m at stop old mid → LeavesAll (layBoth layPortion put) Blames opened m at stop old new
       go true t e q = opt-left Blames 107 (dialogueItem the93) (λ a. refl) y full deep another keeps (omega arith, omega arith, omega arith) m at stop g h true (sym t) layDialogue put (layBoth layPortion put) old refl r e stays (λ a v l. refl) mid new f q (w .1)
       go false t e q = opt-left-none Blames 107 (dialogueItem the93) (λ a. refl) y full deep another keeps (omega arith, omega arith, omega arith) m at stop g h false (sym t) layDialogue put (layBoth layPortion put) old refl (λ v l. refl) new (rw (e, q) at (w .1))
 
@@ -119,10 +119,10 @@ unfolding withOrigId faultPlace
 carried-keeps (orig i) (fault k q o j t) = refl
 
 module _ {B : Type 0} (y : Body B) (put : B → List ℕ → List ℕ) (m : List ℕ) (at stop r : ℕ) (old mid : List ℕ) where
-  module _ (e : Does Blames (layIdAt 1 8) (idItem 72) m at stop r old mid) where
+  module _ (e : Does Blames (layIdAt 1 8) (transactionIdItem 72) m at stop r old mid) where
     its-orig : Does Blames layOrig origItem m at stop r old mid
     unfolding layOrig
-    its-orig = (reads-map orig (idItem 72) m at stop r (e .0), leaves-map orig (idItem 72) (layIdAt 1 8) layOrig m at stop old mid (λ t. refl) (e .1))
+    its-orig = (reads-map orig (transactionIdItem 72) m at stop r (e .0), leaves-map orig (transactionIdItem 72) (layIdAt 1 8) layOrig m at stop old mid (λ t. refl) (e .1))
 
     pub orig-fault : Far r → DoesAll Blames (layBoth layOrig put) (bindBody (level 15) carried origItem (λ o. y)) m at stop r old mid
     orig-fault = bind-fault Blames 15 refl origItem layOrig m at stop r old mid its-orig carried carried-keeps carried-stays y put
@@ -130,10 +130,10 @@ module _ {B : Type 0} (y : Body B) (put : B → List ℕ → List ℕ) (m : List
     pub orig-rest : Near r → (s : ℕ) (new : List ℕ) → DoesAll Blames put y m r stop s mid new → DoesAll Blames (layBoth layOrig put) (bindBody (level 15) carried origItem (λ o. y)) m at stop s old new
     orig-rest = bind-rest Blames 15 refl origItem layOrig m at stop r old mid its-orig carried carried-keeps carried-stays y put
 
-  module _ (e : Does Blames (layIdAt 2 16) (idItem 73) m at stop r old mid) where
+  module _ (e : Does Blames (layIdAt 2 16) (transactionIdItem 73) m at stop r old mid) where
     its-dest : Does Blames layDest destItem m at stop r old mid
     unfolding layDest
-    its-dest = (reads-map dest (idItem 73) m at stop r (e .0), leaves-map dest (idItem 73) (layIdAt 2 16) layDest m at stop old mid (λ t. refl) (e .1))
+    its-dest = (reads-map dest (transactionIdItem 73) m at stop r (e .0), leaves-map dest (transactionIdItem 73) (layIdAt 2 16) layDest m at stop old mid (λ t. refl) (e .1))
 
     pub dest-fault : Far r → DoesAll Blames (layBoth layDest put) (thenBody (level 15) destItem y) m at stop r old mid
     dest-fault = bind-fault Blames 15 refl destItem layDest m at stop r old mid its-dest silently (λ a f. refl) (λ a f l t. t) y put
@@ -148,22 +148,22 @@ toDest = thenBody (level 15) destItem (tailBody the93)
 
 module _ (tag : ℕ) (m : List ℕ) (at stop r : ℕ) (old new : List ℕ) where
   abbrev Contents : Type 0
-  Contents = DoesAll Blames layMessage (bodyOf tag) m at stop r old new
+  Contents = DoesAll Blames layMessage (messageBodyOf tag) m at stop r old new
 
-  by-name : {A : Type 0} (f : A → Message Text) (b : Body A) (lay : A → List ℕ → List ℕ) → bodyOf tag ≡ mapBody f b → ((a : A) (l : List ℕ) → lay a l ≡ layMessage (f a) l) → DoesAll Blames lay b m at stop r old new → Contents
+  by-name : {A : Type 0} (f : A → Message Text) (b : Body A) (lay : A → List ℕ → List ℕ) → messageBodyOf tag ≡ mapBody f b → ((a : A) (l : List ℕ) → lay a l ≡ layMessage (f a) l) → DoesAll Blames lay b m at stop r old new → Contents
   by-name f b lay is same e = rw is (named Blames f b lay layMessage m at stop r old new same e)
 
   pub of-begin : tag ≡ 98 → DoesAll Blames (layBoth layOrig layTail) (bindBody (level 15) carried origItem (λ o. tailBody the93)) m at stop r old new → Contents
-  unfolding bodyOf layMessage
-  of-begin t = by-name (λ v. begin (v .0) (v .1 .0) (v .1 .1)) _ _ (ap bodyOf t) (λ v l. refl)
+  unfolding messageBodyOf layMessage
+  of-begin t = by-name (λ v. begin (v .0) (v .1 .0) (v .1 .1)) _ _ (ap messageBodyOf t) (λ v l. refl)
 
   pub of-continue : tag ≡ 101 → DoesAll Blames (layBoth layOrig (layBoth layDest layTail)) (bindBody (level 15) carried origItem (λ o. toDest)) m at stop r old new → Contents
-  unfolding bodyOf layMessage
-  of-continue t = by-name (λ v. continue (v .0) (v .1 .0) (v .1 .1 .0) (v .1 .1 .1)) _ _ (ap bodyOf t) (λ v l. refl)
+  unfolding messageBodyOf layMessage
+  of-continue t = by-name (λ v. continue (v .0) (v .1 .0) (v .1 .1 .0) (v .1 .1 .1)) _ _ (ap messageBodyOf t) (λ v l. refl)
 
   pub of-end : tag ≡ 100 → DoesAll Blames (layBoth layDest layTail) toDest m at stop r old new → Contents
-  unfolding bodyOf layMessage
-  of-end t = by-name (λ v. finish (v .0) (v .1 .0) (v .1 .1)) _ _ (ap bodyOf t) (λ v l. refl)
+  unfolding messageBodyOf layMessage
+  of-end t = by-name (λ v. finish (v .0) (v .1 .0) (v .1 .1)) _ _ (ap messageBodyOf t) (λ v l. refl)
 
   lasting : (v : Option (Ending Text)) (l : List ℕ) → layLast v l ≡ layEnding (Option·getD v silent) l
   unfolding layLast layEnding
@@ -171,14 +171,14 @@ module _ (tag : ℕ) (m : List ℕ) (at stop r : ℕ) (old new : List ℕ) where
   lasting (some s) l = refl
 
   pub of-abort : tag ≡ 103 → DoesAll Blames (layBoth layDest layLast) (thenBody (level 15) destItem endingBody) m at stop r old new → Contents
-  unfolding bodyOf layMessage
-  of-abort t = by-name (λ v. abort (v .0) (Option·getD (v .1) silent)) _ _ (ap bodyOf t) (λ v l. lasting (v .1) (layDest (v .0) l))
+  unfolding messageBodyOf layMessage
+  of-abort t = by-name (λ v. abort (v .0) (Option·getD (v .1) silent)) _ _ (ap messageBodyOf t) (λ v l. lasting (v .1) (layDest (v .0) l))
 
   pub of-uni : (tag ≡ 98 → ⊥) → (tag ≡ 101 → ⊥) → (tag ≡ 100 → ⊥) → (tag ≡ 103 → ⊥) → messageItem the93 .mine tag ≡ true → DoesAll Blames layTail unidirectionalBody m at stop r old new → Contents
-  unfolding bodyOf layMessage
+  unfolding messageBodyOf layMessage
   of-uni a b c d mine =
       let t : tag ≡ 97 = go (eqb tag 97) refl (rw (ne-eqb tag 98 a, ne-eqb tag 100 c, ne-eqb tag 101 b, ne-eqb tag 103 d) at mine) in
-      by-name (λ v. unidirectional (v .0) (v .1)) _ _ (ap bodyOf t) (λ v l. refl)
+      by-name (λ v. unidirectional (v .0) (v .1)) _ _ (ap messageBodyOf t) (λ v l. refl)
     where
       go : (e : Bool) → eqb tag 97 ≡ e → (e || false) ≡ true → tag ≡ 97
       go true i o = eqb-true tag 97 i

@@ -8,8 +8,8 @@ use Rattle.tcap.specs.{Meaning.Ending, Meaning.cause, Meaning.says, Meaning.Com
 use Rattle.read_place.specs.{Places.Placed, Places.standsOf, Leaves.Leaves, Laying.laySpan, Laying.layComponents, Laying.layDialogue, Laying.layPortion, Laying.layEnding, Blames.Blames}
 
 -- an ID by its tag, and what it is laid out as: the octet that says that it stands, its place and its length
-abbrev pub idItem : ℕ → Item Text
-idItem tag = leafItem tag idOk
+abbrev pub transactionIdItem : ℕ → Item Text
+transactionIdItem tag = leafItem tag idOk
 
 abbrev pub layIdAt : ℕ → ℕ → Text → List ℕ → List ℕ
 layIdAt flag o t l = laySpan o t (set l flag 1)
@@ -30,8 +30,8 @@ abbrev pub unidirectionalBody : Body (Option (Dialogue Text) × List (Component 
 unidirectionalBody = optBody (dialogueItem the93) (onlyBody (levelAt the93 2) (componentsItem the93))
 
 -- the contents of a message by its tag
-unfoldable pub bodyOf : ℕ → Body (Message Text)
-bodyOf a =
+unfoldable pub messageBodyOf : ℕ → Body (Message Text)
+messageBodyOf a =
     cond (eqb a 0x61) (uniBody the93)
     (cond (eqb a 0x62) (beginBody the93)
     (cond (eqb a 0x64) (endBody the93)
@@ -55,9 +55,9 @@ layLast none l = l
 layLast (some e) l = layEnding e l
 
 -- 6B where it stands; where it does not, the octets are as they were
-unfoldable pub Lays : Bool → List ℕ → ℕ → ℕ → List ℕ → List ℕ → Type 0
-Lays true m at stop old new = Leaves layDialogue Blames (dialogueItem the93) m at stop old new
-Lays false m at stop old new = new ≡ old
+unfoldable pub LaysPortion : Bool → List ℕ → ℕ → ℕ → List ℕ → List ℕ → Type 0
+LaysPortion true m at stop old new = Leaves layDialogue Blames (dialogueItem the93) m at stop old new
+LaysPortion false m at stop old new = new ≡ old
 
 abbrev pub LaysPast : List ℕ → ℕ → ℕ → List ℕ → List ℕ → Type 0
-LaysPast m at stop old new = Lays (standsOf m at stop 0x6B) m at stop old new
+LaysPast m at stop old new = LaysPortion (standsOf m at stop 0x6B) m at stop old new

@@ -13,7 +13,7 @@ ghost use Rattle.tcap.specs.WellFormed.{the93};
 ghost use Rattle.tcap.specs.Reading.{locatedUpTo};
 ghost use Rattle.tcap.specs.Productions.{levelAt, destItem, componentsItem, dialogueItem, tailBody, messageItem};
 ghost use Rattle.read_row.specs.Component.{layBoth};
-ghost use Rattle.read_message.specs.Messages.{idItem, layIdAt, componentsBody, endingBody, unidirectionalBody, bodyOf, Answers, layListed, layTail, layLast, LaysPast};
+ghost use Rattle.read_message.specs.Messages.{transactionIdItem, layIdAt, componentsBody, endingBody, unidirectionalBody, messageBodyOf, Answers, layListed, layTail, layLast, LaysPast};
 use read_component::rows_at;
 use read_dialogue::dialogue_at;
 use read_field::small_at;
@@ -59,10 +59,18 @@ fn end_at(m: &[u8], at: usize, stop: usize, out: &mut [u8]) -> usize
 }
 
 // A transaction ID by its tag; `flag` is the octet that says that it stands, `o` where its place and length are laid out.
-fn id_at(m: &[u8], at: usize, stop: usize, tag: u8, flag: usize, o: usize, out: &mut [u8]) -> usize
+fn transaction_id_into(
+    m: &[u8],
+    at: usize,
+    stop: usize,
+    tag: u8,
+    flag: usize,
+    o: usize,
+    out: &mut [u8],
+) -> usize
     requires { ⌜ Ready (now m) at stop × Leads tag × (tag / 32 % 2 ≡ 0) × (flag < 428) × (o + 8 ≤ 428) × (length (now out) ≡ 428) ⌝ }
-    ensures { λ r. ⌜ Reads (idItem tag) (now (m .entry)) at stop r ⌝ }
-    ensures { λ _. ⌜ Leaves (layIdAt flag o) Blames (idItem tag) (now (m .entry)) at stop (now (out .entry)) (now (out .exit)) ⌝ }
+    ensures { λ r. ⌜ Reads (transactionIdItem tag) (now (m .entry)) at stop r ⌝ }
+    ensures { λ _. ⌜ Leaves (layIdAt flag o) Blames (transactionIdItem tag) (now (m .entry)) at stop (now (out .entry)) (now (out .exit)) ⌝ }
 {
     let r = transaction_id_at(m, at, stop, tag);
     if r >= FAULT {
@@ -175,7 +183,7 @@ fn abort_at(m: &[u8], at: usize, stop: usize, out: &mut [u8]) -> usize
     ensures { λ r. ⌜ Finishes (thenBody (levelAt the93 2) destItem endingBody) (now (m .entry)) at stop r ⌝ }
     ensures { λ _. ⌜ LeavesAll (layBoth layDest layLast) Blames (thenBody (levelAt the93 2) destItem endingBody) (now (m .entry)) at stop (now (out .entry)) (now (out .exit)) ⌝ }
 {
-    let r = id_at(m, at, stop, 0x49, 2, 16, out);
+    let r = transaction_id_into(m, at, stop, 0x49, 2, 16, out);
     if r >= FAULT {
         return r;
     }
@@ -183,31 +191,31 @@ fn abort_at(m: &[u8], at: usize, stop: usize, out: &mut [u8]) -> usize
 }
 
 // The contents of a message by its tag: its IDs, and what follows them.
-fn contents_at(m: &[u8], at: usize, stop: usize, tag: u8, out: &mut [u8]) -> usize
+fn message_contents_at(m: &[u8], at: usize, stop: usize, tag: u8, out: &mut [u8]) -> usize
     requires { ⌜ Ready (now m) at stop × (messageItem the93 .mine tag ≡ true) × (length (now out) ≡ 428) ⌝ }
-    ensures { λ r. ⌜ Finishes (bodyOf tag) (now (m .entry)) at stop r ⌝ }
-    ensures { λ _. ⌜ LeavesAll layMessage Blames (bodyOf tag) (now (m .entry)) at stop (now (out .entry)) (now (out .exit)) ⌝ }
+    ensures { λ r. ⌜ Finishes (messageBodyOf tag) (now (m .entry)) at stop r ⌝ }
+    ensures { λ _. ⌜ LeavesAll layMessage Blames (messageBodyOf tag) (now (m .entry)) at stop (now (out .entry)) (now (out .exit)) ⌝ }
 {
     if tag == 0x62 {
-        let r = id_at(m, at, stop, 0x48, 1, 8, out);
+        let r = transaction_id_into(m, at, stop, 0x48, 1, 8, out);
         if r >= FAULT {
             return r;
         }
         return tail_at(m, r, stop, out);
     }
     if tag == 0x65 {
-        let r = id_at(m, at, stop, 0x48, 1, 8, out);
+        let r = transaction_id_into(m, at, stop, 0x48, 1, 8, out);
         if r >= FAULT {
             return r;
         }
-        let s = id_at(m, r, stop, 0x49, 2, 16, out);
+        let s = transaction_id_into(m, r, stop, 0x49, 2, 16, out);
         if s >= FAULT {
             return s;
         }
         return tail_at(m, s, stop, out);
     }
     if tag == 0x64 {
-        let r = id_at(m, at, stop, 0x49, 2, 16, out);
+        let r = transaction_id_into(m, at, stop, 0x49, 2, 16, out);
         if r >= FAULT {
             return r;
         }
@@ -257,7 +265,7 @@ pub fn message_at(m: &[u8], out: &mut [u8]) -> usize
         if inner >= FAULT {
             return portion_fault(out, inner);
         }
-        let r = contents_at(m, start_of(m, 1), inner, tag, out);
+        let r = message_contents_at(m, start_of(m, 1), inner, tag, out);
         if r >= FAULT {
             return r;
         }

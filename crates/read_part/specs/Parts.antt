@@ -11,16 +11,16 @@ layOctet tag n l = set (set l 5 tag) 7 n
 
 -- a parameter that must stand, or one that may be missing
 
-unfoldable pub Held : Bool → Type 0
-Held true = Text
-Held false = Option Text
+unfoldable pub HeldText : Bool → Type 0
+HeldText true = Text
+HeldText false = Option Text
 
-unfoldable pub parameterBody : (must : Bool) → ℕ → Body (Held must)
-unfolding Held
+unfoldable pub parameterBody : (must : Bool) → ℕ → Body (HeldText must)
+unfolding HeldText
 parameterBody true left = onlyBody (level left) (walkItem left)
 parameterBody false left = lastBody (level left) (walkItem left)
 
-unfoldable pub layHeld : (must : Bool) → Held must → List ℕ → List ℕ
-unfolding Held
+unfoldable pub layHeld : (must : Bool) → HeldText must → List ℕ → List ℕ
+unfolding HeldText
 layHeld true v l = layElement v l
 layHeld false v l = layParameter v l

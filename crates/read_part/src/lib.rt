@@ -14,7 +14,7 @@ use primitive::MOST_INTEGER_OCTETS;
 use primitive::bits;
 use read_field::name_at;
 use read_field::null_at;
-use read_field::octet_at;
+use read_field::one_octet_at;
 use read_field::small_at;
 use read_place::BAD_CONTENTS;
 use read_place::CUT_OFF;
@@ -36,7 +36,7 @@ use tcap::MOST_INVOKE_PROBLEM;
 use tcap::MOST_RESULT_PROBLEM;
 
 // A number of four octets, most significant first.
-fn put_number(out: &mut [u8], o: usize, n: u32)
+fn lay_number(out: &mut [u8], o: usize, n: u32)
     requires { ⌜ o + 4 ≤ length (now out) ⌝ }
     ensures { λ r. ⌜ now (out .exit) ≡ sets (now (out .entry)) o (octetsIn 4 n) ⌝ }
 {
@@ -47,12 +47,12 @@ fn put_number(out: &mut [u8], o: usize, n: u32)
 }
 
 // An invoke ID.
-pub fn id_at(m: &[u8], at: usize, stop: usize, row: &mut [u8]) -> usize
+pub fn invoke_id_at(m: &[u8], at: usize, stop: usize, row: &mut [u8]) -> usize
     requires { ⌜ Ready (now m) at stop × (length (now row) ≡ 24) ⌝ }
     ensures { λ r. ⌜ Reads idItem (now (m .entry)) at stop r ⌝ }
     ensures { λ r. ⌜ Leaves layId untold idItem (now (m .entry)) at stop (now (row .entry)) (now (row .exit)) ⌝ }
 {
-    let r = octet_at(m, at, stop, 0x02);
+    let r = one_octet_at(m, at, stop, 0x02);
     if r >= FAULT {
         return r;
     }
@@ -84,7 +84,7 @@ pub fn code_at(m: &[u8], at: usize, stop: usize, row: &mut [u8]) -> usize
         primitive::IntegerRead::Wrong => BAD_CONTENTS + at,
         primitive::IntegerRead::Value(value) => {
             row[5] = 0x02;
-            put_number(row, 8, bits(4294967295, value));
+            lay_number(row, 8, bits(4294967295, value));
             at + 2 + n
         }
     }
@@ -130,7 +130,7 @@ pub fn reject_id_at(m: &[u8], at: usize, stop: usize, row: &mut [u8]) -> usize
     if stands(m, at, stop, 0x05) {
         return null_at(m, at, stop);
     }
-    id_at(m, at, stop, row)
+    invoke_id_at(m, at, stop, row)
 }
 
 // A problem of this tag, 0 to `most`.

@@ -9,14 +9,14 @@ use Rattle.element.specs.{declared.FaultKind.FaultKind, declared.EndRead.EndRea
 use Rattle.element.specs.{Element.constructorOf, Element.codeZero, Fault.Text, Fault.at, Head.endOf, Head.lengthOf, inner.Fronts.frontOf, Answers.elementWalk, inner.Fronts.lengthSize}
 use Rattle.element.specs.Ask.{Got, got, bad, next, check, blamed, Body, askLength, atEnd, askEnd, ask}
 use Rattle.element.specs.{Parts.level, Parts.onward, Parts.silently, Parts.inside, Parts.keptItem, Parts.seriesBody, Walk.walkItem, Walk.walkTagItem}
-use Rattle.element.proofs.{Asking.Then, Asking.fact, Asking.void, Walking.not-more, Whole.element-size, Reading.definite-size, Reading.indefinite-size}
+use Rattle.element.proofs.{Asking.Then, Asking.fact, Asking.void, Walking.not-more, WalkedWhole.element-size, Reading.definite-size, Reading.indefinite-size}
 use Rattle.element.proofs.Views.{span-length, span-get, span-drop, span-take, span-cut, SizeIs, length-sized}
 use Rattle.tcap.specs.{WellFormed.the93, Productions.infoBody}
 use Rattle.read_place.specs.Places.{Far, Near, until, finite, part, base, faultPlace, front, Placed, Closing, Shut, nothing, Reads, Finishes, Leads, endedOf, behindOf, askedPlace, standsOf, wrongPlace, entryPlace, lengthPlace, opening, Walked, another}
 use Rattle.read_place.specs.{Laying.layText, Laying.laySpan, Laying.layInfo, Leaves.untold}
 use Rattle.read_place.proofs.Answers.{far, far-fault, close-far, close-near, closing-rest}
 use Rattle.read_place.proofs.Fronts.{byFront, ask-front, ended-is, not-ended, shut-here, wrong-closed}
-use Rattle.read_place.proofs.{Onto.rest, Onto.blamed-same, Onto.ask-onto, Bodies.placed-where, Bodies.last-far, Bodies.last-near, Bodies.last-none, Walks.walked-near}
+use Rattle.read_place.proofs.{Asked.rest, Asked.blamed-same, Asked.ask-onto, Bodies.placed-where, Bodies.last-far, Bodies.last-near, Bodies.last-none, Walks.walked-near}
 use Rattle.read_place.proofs.Items.{Entered, entered, ask-entered, lead-more, lead-front, stands-here, stands-other, entry-far}
 use Rattle.read_place.proofs.{Optional.walk-placed, Optional.reads-within, Optional.entry-from, Optional.entry-to, Leaves.left-where, Leaves.last-left, Leaves.last-left-none}
 use Rattle.read_pdu.specs.Pdus.{TakesAll, externalsBody, textAt, contentsEnd}

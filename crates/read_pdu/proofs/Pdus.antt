@@ -14,7 +14,7 @@ use Rattle.tcap.specs.Productions.{octetItem, versionBody, infoBody, numberItem
 use Rattle.tcap.proofs.Names.{eqb-turned, other-length}
 use Rattle.read_place.specs.Places.{Far, Near, until, finite, part, front, nothing, Reads, Finishes, Leads, standsOf, entryPlace, badPlace, countOf, badContents}
 use Rattle.read_place.specs.{Laying.layInfo, Laying.layDiagnostic, Laying.layDialogue, Leaves.LeavesAll, Leaves.untold, Leaves.unlaid}
-use Rattle.read_place.proofs.{Answers.Keeps, Onto.ask-map, Bodies.map-closed, Items.stands-other, Items.leaf-good, Items.leaf-bad, Items.leaf-none}
+use Rattle.read_place.proofs.{Answers.Keeps, Asked.ask-map, Bodies.map-closed, Items.stands-other, Items.leaf-good, Items.leaf-bad, Items.leaf-none}
 use Rattle.read_place.proofs.{Optional.opt-far, Optional.opt-near, Optional.opt-none, Optional.reads-within, Leaves.map-left, Leaves.opt-left, Leaves.opt-left-none}
 use Rattle.read_field.proofs.Fields.{count-room}
 use Rattle.read_pdu.specs.Pdus.{built, Takes, TakesAll, versionItem, Passed, Passes, TakesNumber, layNumber, diagnosticItem, layBoth, askedBody, layAsked, answeredBody, layAnswered, abortedBody, layAborted, pduItem}

@@ -13,7 +13,7 @@ use Rattle.primitive.specs.Primitive.{mostIdentifierOctets, identifierOk}
 use Rattle.tcap.specs.Productions.{single?, octetItem, nameItem}
 use Rattle.read_place.specs.Places.{Far, Near, until, finite, part, front, Placed, nothing, Reads, Finishes, Leads, standsOf, entryPlace}
 use Rattle.read_place.specs.{Laying.layText, Laying.laySpan, Laying.layName, Leaves.Left, Leaves.untold, Leaves.unlaid}
-use Rattle.read_place.proofs.{Answers.Keeps, Answers.placed-near, Onto.ask-onto, Onto.missing-both, Bodies.placed-where, Bodies.then-far, Bodies.then-near, Bodies.only-far, Bodies.only-near}
+use Rattle.read_place.proofs.{Answers.Keeps, Answers.placed-near, Asked.ask-onto, Asked.missing-both, Bodies.placed-where, Bodies.then-far, Bodies.then-near, Bodies.only-far, Bodies.only-near}
 use Rattle.read_place.proofs.{Items.stands-only, Items.or-left, Items.or-right, Optional.around-entry, Optional.around-read, Optional.reads-within, Values.placed-got, Values.value-leaf}
 use Rattle.read_place.proofs.Leaves.{leaves-far, leaves-all-far, left-next, left-where, then-left, only-left, around-left}
 use Rattle.read_field.proofs.{Choices.reads-map, Fields.name-sized, Fields.single-sized}

@@ -131,7 +131,15 @@ fn context_at(m: &[u8], at: usize, stop: usize, out: &mut [u8]) -> usize
 }
 
 // A constructor around 02 01 with 0 to `most`.
-fn number_at(m: &[u8], at: usize, stop: usize, tag: u8, most: u8, o: usize, out: &mut [u8]) -> usize
+fn enclosed_number_at(
+    m: &[u8],
+    at: usize,
+    stop: usize,
+    tag: u8,
+    most: u8,
+    o: usize,
+    out: &mut [u8],
+) -> usize
     requires { ⌜ Ready (now m) at stop × (built tag ≡ true) × (o < 428) × (length (now out) ≡ 428) ⌝ }
     ensures { λ r. ⌜ TakesNumber o tag most (now (m .entry)) at stop r (now (out .entry)) (now (out .exit)) ⌝ }
 {
@@ -159,14 +167,14 @@ fn source_at(m: &[u8], at: usize, stop: usize, out: &mut [u8]) -> usize
     let from = start_of(m, at + 1);
     if stands(m, from, inner, 0xA1) {
         out[42] = 0xA1;
-        let r = number_at(m, from, inner, 0xA1, MOST_USER_DIAGNOSTIC, 43, out);
+        let r = enclosed_number_at(m, from, inner, 0xA1, MOST_USER_DIAGNOSTIC, 43, out);
         if r >= FAULT {
             return r;
         }
         return leave(m, r, inner);
     }
     out[42] = 0xA2;
-    let s = number_at(m, from, inner, 0xA2, MOST_PROVIDER_DIAGNOSTIC, 43, out);
+    let s = enclosed_number_at(m, from, inner, 0xA2, MOST_PROVIDER_DIAGNOSTIC, 43, out);
     if s >= FAULT {
         return s;
     }
@@ -210,7 +218,7 @@ fn response_at(m: &[u8], at: usize, stop: usize, out: &mut [u8]) -> usize
     if s >= FAULT {
         return s;
     }
-    let t = number_at(m, s, inner, 0xA2, MOST_RESULT, 41, out);
+    let t = enclosed_number_at(m, s, inner, 0xA2, MOST_RESULT, 41, out);
     if t >= FAULT {
         return t;
     }
@@ -222,7 +230,7 @@ fn response_at(m: &[u8], at: usize, stop: usize, out: &mut [u8]) -> usize
 }
 
 // 64: an abort.
-fn abort_at(m: &[u8], at: usize, stop: usize, out: &mut [u8]) -> usize
+fn dialogue_abort_at(m: &[u8], at: usize, stop: usize, out: &mut [u8]) -> usize
     requires { ⌜ Ready (now m) at stop × (length (now out) ≡ 428) ⌝ }
     ensures { λ r. ⌜ Takes layAborted (aroundItem 0x64 abortedBody) (now (m .entry)) at stop r (now (out .entry)) (now (out .exit)) ⌝ }
 {
@@ -250,7 +258,7 @@ pub fn pdu_at(m: &[u8], at: usize, stop: usize, in_structured: bool, out: &mut [
         }
         if stands(m, at, stop, 0x64) {
             out[3] = 4;
-            return abort_at(m, at, stop, out);
+            return dialogue_abort_at(m, at, stop, out);
         }
         out[3] = 2;
     } else {

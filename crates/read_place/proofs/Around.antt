@@ -24,7 +24,7 @@ use Rattle.read_place.proofs.Answers.{far}
 use Rattle.read_place.proofs.Items.{Entered, entered, ask-entered}
 use Rattle.read_place.proofs.Fronts.{byFront, ask-front}
 use Rattle.read_place.proofs.Walks.{size-of}
-use Rattle.read_place.proofs.Onto.{blamed-same}
+use Rattle.read_place.proofs.Asked.{blamed-same}
 
 inside-next : {A : Type 0} (x : Got A) (t : A → ℕ → Text) (f : ℕ → ℕ) → next {A = A × Text} (next x (λ v k. got (v, t v k) (f k))) (λ v n. got (v .0) n) ≡ next x (λ v k. got v (f k))
 unfolding next

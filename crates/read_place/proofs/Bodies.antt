@@ -21,7 +21,7 @@ use Rattle.element.proofs.Views.{span-drop}
 use Rattle.read_place.specs.Places.{part, finite, behindOf, Placed, Closing, Closed, front, nothing, until, Far, Near}
 use Rattle.read_place.proofs.Answers.{Keeps, close-far, close-near, closing-map, placed-blamed, closing-blamed, closing-rest}
 use Rattle.read_place.proofs.Fronts.{byFront, ask-front, closed-ends}
-use Rattle.read_place.proofs.Onto.{ask-bind, ask-only, ask-last, ask-map, blamed-same}
+use Rattle.read_place.proofs.Asked.{ask-bind, ask-only, ask-last, ask-map, blamed-same}
 
 -- Whom faults belong to, and how many levels are left, if any, does not change an answer
 

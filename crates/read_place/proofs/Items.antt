@@ -29,7 +29,7 @@ use Rattle.element.proofs.Views.{span-length, span-get, span-drop, span-take, s
 use Rattle.read_place.specs.Places.{base, faultPlace, part, finite, lengthPlace, Placed, Shut, Closing, Closed, front, wrongPlace, standsOf, entryPlace, badPlace, countOf, Leads, until, Far, Near, opening, faults, badContents}
 use Rattle.read_place.proofs.Answers.{far, placed-map}
 use Rattle.read_place.proofs.Fronts.{byFront, ask-front, wrong-ask, asked-far}
-use Rattle.read_place.proofs.Onto.{ask-onto, missing-both, blamed-same}
+use Rattle.read_place.proofs.Asked.{ask-onto, missing-both, blamed-same}
 
 -- The tag that stands here
 

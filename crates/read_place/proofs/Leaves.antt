@@ -22,7 +22,7 @@ use Rattle.read_place.specs.Places.{Far, Near, until, finite, part, fron
 use Rattle.read_place.specs.Leaves.{Left, Leaves, LeavesAll, untold}
 use Rattle.read_place.proofs.Answers.{Keeps, far-fault}
 use Rattle.read_place.proofs.Fronts.{byFront, ask-front}
-use Rattle.read_place.proofs.Onto.{rest, ask-bind, ask-then, ask-only, ask-last, ask-last-ended, ask-map, blamed-same}
+use Rattle.read_place.proofs.Asked.{rest, ask-bind, ask-then, ask-only, ask-last, ask-last-ended, ask-map, blamed-same}
 use Rattle.read_place.proofs.Items.{stands-other}
 use Rattle.read_place.proofs.Optional.{opt-absent, opened, lifted}
 use Rattle.read_place.proofs.Around.{around-ask}

@@ -1,10 +1,10 @@
 pub mod Views
 pub mod Answers
 pub mod Fronts
-pub mod Onto
+pub mod Asked
 pub mod Bodies
 pub mod Items
-pub mod Laid
+pub mod Laying
 pub mod Walks
 pub mod Optional
 pub mod Values

@@ -23,7 +23,7 @@ use Rattle.read_place.specs.Places.{base, faultPlace, part, finite, ende
 use Rattle.read_place.proofs.Answers.{Keeps, close-far, close-near, closing-map, closing-rest, placed-near}
 use Rattle.read_place.proofs.Fronts.{byFront, ask-front, ended-is, not-ended, more-here}
 use Rattle.read_place.proofs.Bodies.{placed-where, only-far, only-near, last-far, last-near, last-none}
-use Rattle.read_place.proofs.Onto.{rest, blamed-same, next-check}
+use Rattle.read_place.proofs.Asked.{rest, blamed-same, next-check}
 use Rattle.read_place.proofs.Items.{lead-more, stands-here, stands-only, stands-other, around-near, entered, entry-far}
 use Rattle.read_place.proofs.Walks.{unfinished-is, length-inside, length-stands}
 use Rattle.element.specs.Walk.{walkItem}

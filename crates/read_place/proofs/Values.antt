@@ -22,7 +22,7 @@ use Rattle.element.proofs.Heads.{TagIs, tag-sound, LengthIs, length-sound}
 use Rattle.element.proofs.Reading.{definite-size}
 use Rattle.read_place.specs.Places.{part, finite, Placed, front, Leads, until, Near}
 use Rattle.read_place.proofs.Answers.{far-fault}
-use Rattle.read_place.proofs.Onto.{ask-last, ask-map}
+use Rattle.read_place.proofs.Asked.{ask-last, ask-map}
 use Rattle.read_place.proofs.Items.{stands-short, take-head}
 use Rattle.element.specs.Walk.{walkItem, walkContents, walkPick}
 use Rattle.element.proofs.Asking.{Then, fact, void, the-fact, then-next, then-check, then-blamed, HeadOf, finite as finite-head, unended, ask-sound}

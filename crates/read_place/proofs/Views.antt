@@ -12,7 +12,7 @@ use Rattle.element.specs.declared.EndRead.{EndRead}
 use Rattle.element.specs.declared.LengthRead.{LengthRead}
 use Rattle.base.specs.Number.{numberFrom}
 use Rattle.element.specs.Head.{endOf, within, lengthOf}
-use Rattle.walk.specs.Walks.{contentsEnd}
+use Rattle.walk.specs.Walks.{endByLength}
 use Rattle.walk.proofs.Views.{long-more}
 use Rattle.element.proofs.Views.{lengthBy, length-view, lengthOctets, endBy, end-view}
 use Rattle.element.specs.inner.Fronts.{span, longRead}
@@ -57,16 +57,16 @@ unfinished-not true = refl
 unfinished-not false = refl
 
 -- a length whose octets are there passes the end, or it does not
-count-place : (at from end size n room : ℕ) → contentsEnd from (passesEnd + at) (within size n room) ≡ lengthPlace at from end (within size n room)
-unfolding contentsEnd lengthPlace base within
+count-place : (at from end size n room : ℕ) → endByLength from (passesEnd + at) (within size n room) ≡ lengthPlace at from end (within size n room)
+unfolding endByLength lengthPlace base within
 count-place at from end size n room = go (leb n room)
   where
-    go : (b : Bool) → contentsEnd from (passesEnd + at) (cond b (LengthRead.Definite size n) (LengthRead.Fault FaultKind.PassesEnd)) ≡ lengthPlace at from end (cond b (LengthRead.Definite size n) (LengthRead.Fault FaultKind.PassesEnd))
+    go : (b : Bool) → endByLength from (passesEnd + at) (cond b (LengthRead.Definite size n) (LengthRead.Fault FaultKind.PassesEnd)) ≡ lengthPlace at from end (cond b (LengthRead.Definite size n) (LengthRead.Fault FaultKind.PassesEnd))
     go true = refl
     go false = refl
 
 pub count-more : (m : List ℕ) (at from end k r : ℕ) → from < end → end ≤ length m → 1 ≤ k → k ≤ 126 → k ≤ end - from - 1 → (getD m (from + 1) 0 ≡ 0 → ⊥) → (k ≡ 1 → ⊥)
-    → r ≡ contentsEnd from (passesEnd + at) (within (suc k) (numberFrom 0 (lengthOctets m from k)) (end - from - 1 - k)) → r ≡ lengthPlace at from end (longRead (span m from end) k)
+    → r ≡ endByLength from (passesEnd + at) (within (suc k) (numberFrom 0 (lengthOctets m from k)) (end - from - 1 - k)) → r ≡ lengthPlace at from end (longRead (span m from end) k)
 count-more m at from end k r b h l most g o n e = rw (long-more m from end k b h l most g o n) (e ∙ count-place at from end (suc k) (numberFrom 0 (lengthOctets m from k)) (end - from - 1 - k))
 
 -- no octet of a length, and 80

@@ -29,7 +29,7 @@ use Rattle.element.proofs.Views.{span-inner, tag-view, tagBy, span-length, span
 use Rattle.read_place.proofs.Answers.{far}
 use Rattle.read_place.proofs.Fronts.{ended-is, TagHere, tag-here, shut-here, more-here}
 use Rattle.element.specs.declared.Walk.{Walk}
-use Rattle.element.proofs.Whole.{element-size}
+use Rattle.element.proofs.WalkedWhole.{element-size}
 use Rattle.element.proofs.Walking.{thenWalk, grown, grown-zero, grown-grown, element-length, element-primitive, element-definite, element-indefinite, series-ended, series-unfinished, series-more}
 
 -- how many octets a length takes

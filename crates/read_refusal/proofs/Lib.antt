@@ -1,4 +1,4 @@
-pub mod Bare
+pub mod NoOrig
 pub mod Unknown
 pub mod Origs
 pub mod Refusals

@@ -33,17 +33,17 @@ use Rattle.tcap.proofs.UnknownLocal.{unsought}
 use Rattle.read_place.specs.Places.{Far, Near, until, finite, opening, part, front, Placed, Reads, Leads, standsOf, entryPlace, lengthPlace}
 use Rattle.read_place.proofs.Answers.{far-fault, placed-near}
 use Rattle.read_place.proofs.Fronts.{byFront, ask-front}
-use Rattle.read_place.proofs.Onto.{ask-bind, ask-map}
+use Rattle.read_place.proofs.Asked.{ask-bind, ask-map}
 use Rattle.read_place.proofs.Bodies.{placed-where}
 use Rattle.read_place.proofs.Items.{Entered, ask-entered, front-octet}
 use Rattle.read_place.proofs.Around.{around-ask}
 use Rattle.read_place.proofs.Values.{leaf-stood}
 use Rattle.read_field.proofs.Choices.{reads-map, transaction-sized}
-use Rattle.read_message.proofs.Whole.{by-tag as by-its-tag, alone-is, first-is, all-of-it, alone-to}
-use Rattle.read_message.specs.Messages.{bodyOf}
-use Rattle.read_refusal.specs.Told.{constructorTag, idSought, OrigTold}
+use Rattle.read_message.proofs.Messages.{by-tag as by-its-tag, alone-is, first-is, all-of-it, alone-to}
+use Rattle.read_message.specs.Messages.{messageBodyOf}
+use Rattle.read_refusal.specs.Refusals.{constructorTag, idSought, OrigTold}
 use Rattle.read_refusal.proofs.Unknown.{text-next, Strange, strange-of, unsought-of, first-as, unknown-ask}
-use Rattle.read_refusal.proofs.Bare.{Said, Any, said-got, said-next, said-check, said-blamed, ask-said, Bare, bare-ask, map-bare, leaf-bare, uni-bare, end-bare, abort-bare}
+use Rattle.read_refusal.proofs.NoOrig.{Said, Any, said-got, said-next, said-check, said-blamed, ask-said, Bare, bare-ask, map-bare, leaf-bare, uni-bare, end-bare, abort-bare}
 
 abbrev kinds : Item (Message Text)
 kinds = messageItem the93
@@ -197,7 +197,7 @@ module _ (m : List ℕ) (len : ℕ) (is : len ≡ length m) (any : 1 ≤ len) (s
   only tag e a s z = sym (front-octet m 0 (until len) a s (inside-it .0) z .1) ∙ e
 
   -- where the tag of a message stands, its contents are asked
-  asked-as : (t : Option Text) → kinds .mine (getD m 0 0) ≡ true → Said (Learnt t) t (ask (front (level 1) FaultKind.Another (aroundItem (getD m 0 0) (bodyOf (getD m 0 0)))) (finite len) 0 (part m 0 len)) → Here t
+  asked-as : (t : Option Text) → kinds .mine (getD m 0 0) ≡ true → Said (Learnt t) t (ask (front (level 1) FaultKind.Another (aroundItem (getD m 0 0) (messageBodyOf (getD m 0 0)))) (finite len) 0 (part m 0 len)) → Here t
   asked-as t mine q = rw (plain-ask kinds (finite len) 0 (part m 0 len) (λ a s z. ap (λ (v : ℕ). kinds .mine v) (only (getD m 0 0) refl a s z) ∙ mine), by-its-tag FaultKind.Another m 0 len (inside-it .0) mine) q
 
   opened-as : (t : Option Text) → kinds .mine (getD m 0 0) ≡ true → Here t → Said Any t (locatedUpTo the93 m)
@@ -209,7 +209,7 @@ module _ (m : List ℕ) (len : ℕ) (is : len ≡ length m) (any : 1 ≤ len) (s
       (said-next (Learnt t) Any t _ _ g (λ v n k. said-blamed Any t (learnt v) _ k (said-check Any none (eqb n (length m)) _ _ refl (said-got Any none v n tt))))
 
   -- of a kind
-  sent-as : (k : ℕ) → getD m 0 0 ≡ k → kinds .mine k ≡ true → (t : Option Text) → Said (Learnt t) t (ask (front (level 1) FaultKind.Another (aroundItem k (bodyOf k))) (finite len) 0 (part m 0 len)) → Said Any t (locatedUpTo the93 m)
+  sent-as : (k : ℕ) → getD m 0 0 ≡ k → kinds .mine k ≡ true → (t : Option Text) → Said (Learnt t) t (ask (front (level 1) FaultKind.Another (aroundItem k (messageBodyOf k))) (finite len) 0 (part m 0 len)) → Said Any t (locatedUpTo the93 m)
   sent-as k e mine t q = let is-mine : kinds .mine (getD m 0 0) ≡ true = rw e mine in opened-as t is-mine (asked-as t is-mine (rw e q))
 
   -- around the contents
@@ -289,13 +289,13 @@ module _ (m : List ℕ) (len : ℕ) (is : len ≡ length m) where
       go (a ∷ r) e = absurd (omega (arith, e))
 
   pub orig-other : len ≤ 255 → (len ≡ 0 → ⊥) → (b : Bool) → b ≡ idSought (getD m 0 0) → b ≡ false → OrigTold OptionalOrig.NoOrig (locatedUpTo the93 m)
-  unfolding idSought bodyOf
+  unfolding idSought messageBodyOf
   orig-other short any b asked t = told-by none (locatedUpTo the93 m) (go (eqb (getD m 0 0) 98) (eqb (getD m 0 0) 101) (eqb (getD m 0 0) 100) (eqb (getD m 0 0) 103) (eqb (getD m 0 0) 97) refl refl refl refl refl (sym asked ∙ t))
     where
       some-octet : 1 ≤ len
       some-octet = omega (arith, any)
 
-      stood : {A : Type 0} (k : ℕ) → eqb (getD m 0 0) k ≡ true → kinds .mine k ≡ true → (f : A → Message Text) (b : Body A) → bodyOf k ≡ mapBody f b → Bare b → ((a : A) → Learnt none (f a)) → Said Any none (locatedUpTo the93 m)
+      stood : {A : Type 0} (k : ℕ) → eqb (getD m 0 0) k ≡ true → kinds .mine k ≡ true → (f : A → Message Text) (b : Body A) → messageBodyOf k ≡ mapBody f b → Bare b → ((a : A) → Learnt none (f a)) → Said Any none (locatedUpTo the93 m)
       stood k e mine f b same bare all = sent-as m len is some-octet short k (eqb-true (getD m 0 0) k e) mine none (rw same (front-said (Learnt none) f b bare all FaultKind.Another 1 k (finite len) 0 (part m 0 len)))
 
       go : (u v a b c : Bool) → eqb (getD m 0 0) 98 ≡ u → eqb (getD m 0 0) 101 ≡ v → eqb (getD m 0 0) 100 ≡ a → eqb (getD m 0 0) 103 ≡ b → eqb (getD m 0 0) 97 ≡ c
@@ -328,11 +328,11 @@ module _ (m : List ℕ) (len : ℕ) (is : len ≡ length m) where
     strange : kinds .mine tag ≡ false → (t : Option Text) → unknownOrig the93 m ≡ t → Said Any t (locatedUpTo the93 m)
     strange mine t e = told-as m len is any short (rw (← first) mine) t e
 
-    sent : (k : ℕ) → tag ≡ k → kinds .mine k ≡ true → (t : Option Text) → Said (Learnt t) t (ask (front (level 1) FaultKind.Another (aroundItem k (bodyOf k))) (finite len) 0 (part m 0 len)) → Said Any t (locatedUpTo the93 m)
+    sent : (k : ℕ) → tag ≡ k → kinds .mine k ≡ true → (t : Option Text) → Said (Learnt t) t (ask (front (level 1) FaultKind.Another (aroundItem k (messageBodyOf k))) (finite len) 0 (part m 0 len)) → Said Any t (locatedUpTo the93 m)
     sent k e = sent-as m len is any short k (sym first ∙ e)
 
     pub orig-entry : Far inner → OrigTold OptionalOrig.NoOrig (locatedUpTo the93 m)
-    unfolding constructorOf bodyOf
+    unfolding constructorOf messageBodyOf
     orig-entry f =
         told-by none (locatedUpTo the93 m) (by-tag
         (λ e. sent 98 e refl none (entry-said m len is any short (Learnt none) (beginBody the93) 98 (omega arith, omega arith, omega arith) refl (sym first ∙ e) inner (rw e at entry) f))
@@ -344,7 +344,7 @@ module _ (m : List ℕ) (len : ℕ) (is : len ≡ length m) where
       to = alone-to m len tag inner is short entry near st start
 
       pub orig-unread : Far r → OrigTold OptionalOrig.NoOrig (locatedUpTo the93 m)
-      unfolding constructorOf bodyOf
+      unfolding constructorOf messageBodyOf
       orig-unread f =
           told-by none (locatedUpTo the93 m) (by-tag
           (λ i. sent 98 i refl none (far-said m len is any short (beginBody the93) 98 (omega arith, omega arith, omega arith) refl (sym first ∙ i) inner (rw i at entry)
@@ -360,7 +360,7 @@ module _ (m : List ℕ) (len : ℕ) (is : len ≡ length m) where
       orig-within f = let l = id-long m st inner r to e f in (omega (arith, l), omega (arith, l, to, is, short))
 
       pub orig-read : Near r → OrigTold (OptionalOrig.Orig (record { 0 = record { octets = record { place = st + 2; len = r - (st + 2) } } })) (locatedUpTo the93 m)
-      unfolding constructorOf bodyOf
+      unfolding constructorOf messageBodyOf
       orig-read f =
           let l = orig-within f in
           let long : length (take (r - (st + 2)) (drop (st + 2) m)) ≡ r - (st + 2) = length-take-le (r - (st + 2)) (drop (st + 2) m) (omega (arith, length-drop (st + 2) m, l, id-long m st inner r to e f, to)) in

@@ -23,9 +23,9 @@ use Rattle.tcap.proofs.Places.{placeOf, fault-placed}
 use Rattle.read_place.specs.Places.{opening, Placed}
 use Rattle.read_place.specs.Blames.{ownerIn, idIn, Blames}
 use Rattle.read_fault.specs.Faults.{kindFrom}
-use Rattle.read_fault.proofs.Back.{kind-told, place-told}
+use Rattle.read_fault.proofs.Numbers.{kind-told, place-told}
 use Rattle.read_message.specs.Messages.{Answers}
-use Rattle.read_refusal.specs.Told.{idTold, OrigTold, Blamed, RefusedAs}
+use Rattle.read_refusal.specs.Refusals.{idTold, OrigTold, Blamed, RefusedAs}
 
 -- The answer, by the owner told
 

@@ -24,8 +24,8 @@ use Rattle.tcap.specs.Productions.{origItem}
 use Rattle.tcap.specs.Reading.{foremost, idFirst, unknownTag, unknownBody, textOf}
 use Rattle.read_place.specs.Places.{front, Leads}
 use Rattle.read_place.proofs.Fronts.{byFront, ask-front}
-use Rattle.read_place.proofs.Onto.{blamed-same}
-use Rattle.read_refusal.specs.Told.{constructorTag}
+use Rattle.read_place.proofs.Asked.{blamed-same}
+use Rattle.read_refusal.specs.Refusals.{constructorTag}
 
 -- whatever is counted, and kept beside it, the ID is the same
 pub text-next : (x : Got (Originating Text)) (f : ℕ → ℕ) → textOf (next x (λ v k. got v (f k))) ≡ textOf x

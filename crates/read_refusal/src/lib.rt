@@ -8,7 +8,7 @@ ghost use Rattle.tcap.specs.Reading.{locatedUpTo, groundOf, byOwner, answerFor}
 ghost use Rattle.read_place.specs.Places.{Far};
 ghost use Rattle.read_place.specs.Blames.{ownerIn, idIn};
 ghost use Rattle.read_message.specs.Messages.{Answers};
-ghost use Rattle.read_refusal.specs.Told.{idSought, idTold, OrigTold, Blamed, RefusedAs};
+ghost use Rattle.read_refusal.specs.Refusals.{idSought, idTold, OrigTold, Blamed, RefusedAs};
 use element::FaultKind;
 use primitive::signed_octet;
 use read_fault::kind_from;
@@ -53,7 +53,7 @@ fn ground_of(kind: FaultKind) -> Ground
 }
 
 // The invoke ID told, if any.
-fn id_in(flag: u8, octet: u8) -> InvokeId
+fn told_id(flag: u8, octet: u8) -> InvokeId
     ensures { λ r. ⌜ r ≡ idField (idTold flag octet) ⌝ }
 {
     if flag == 0 {
@@ -73,7 +73,7 @@ fn answer_by(problem: u8, cause: u8, out: &[u8]) -> Answer
     if out[0] == OF_DIALOGUE {
         return Answer::AbortCause(3);
     }
-    let id = id_in(out[2], out[3]);
+    let id = told_id(out[2], out[3]);
     Answer::RejectProblem {
         problem: problem,
         component: out[1] as usize,

@@ -27,13 +27,13 @@ use Rattle.read_place.specs.Laying.{layId, layRejectId, layLinked, layCode, lay
 use Rattle.read_place.proofs.Answers.{Keeps, far}
 use Rattle.read_place.proofs.Fronts.{wrong-ask}
 use Rattle.read_place.proofs.Items.{front-octet, around-near, entry-far, entry-of}
-use Rattle.read_place.proofs.Onto.{ask-map}
+use Rattle.read_place.proofs.Asked.{ask-map}
 use Rattle.read_place.proofs.Bodies.{map-closed}
 use Rattle.read_place.proofs.Optional.{opt-far, opt-near, opt-none, reads-within, deep-enough, around-entry, around-read, entry-inside, entry-from, entry-to}
 use Rattle.read_place.proofs.Leaves.{far-left, leaves-far, left-next, around-left, opt-left-none, opt-left}
-use Rattle.read_part.specs.Parts.{Held, parameterBody, layHeld}
-use Rattle.read_part.proofs.Laid.{fault-all, quiet, linked-left}
-use Rattle.read_row.specs.Component.{codedBody, linkedBody, rejectedBody, bodyOf, layBoth, layCoded, ReadsComponent, LeavesComponent}
+use Rattle.read_part.specs.Parts.{HeldText, parameterBody, layHeld}
+use Rattle.read_part.proofs.FieldsLeft.{fault-all, quiet, linked-left}
+use Rattle.read_row.specs.Component.{codedBody, linkedBody, rejectedBody, componentBodyOf, layBoth, layCoded, ReadsComponent, LeavesComponent}
 use Rattle.read_row.proofs.Pairs.{Does, DoesAll, bind-fault, bind-rest, only-fault, only-end, last-fault, last-end, kind-asked, of-five, or-tag}
 
 -- A code and what stands behind it
@@ -51,7 +51,7 @@ module _ (m : List ℕ) (at stop : ℕ) (g : at ≤ until stop) (h : until stop 
   abbrev Linked : ℕ → Type 0
   Linked r = DoesAll untold (layBoth layLinked (layCoded false)) linkedBody m at stop r old new
 
-  abbrev coded : Body (Code Text × Held false)
+  abbrev coded : Body (Code Text × HeldText false)
   coded = codedBody false 13
 
   abbrev putLinked : ℤ → List ℕ → List ℕ
@@ -110,7 +110,7 @@ module _ (m : List ℕ) (at stop : ℕ) (g : at ≤ until stop) (h : until stop 
 
   module _ (top : length m ≤ 65535) (near : Near inner) (st : ℕ) (start : st ≡ at + 1 + lengthSize (getD m (at + 1) 0)) (r : ℕ) (e : DoesAll untold (layCoded true) (codedBody true 12) m st inner r old new) where
     both : Does untold (layBoth layCode layElement) (bothItem the93) m at stop r old new
-    unfolding constructorOf Held parameterBody layHeld
+    unfolding constructorOf HeldText parameterBody layHeld
     both = (around-near (codedBody true 12) m at stop 48 inner st r g h top (omega arith, omega arith, omega arith) refl entry near start (e .0), around-left untold (codedBody true 12) m at stop 48 inner st g h top (omega arith, omega arith, omega arith) refl entry near start (layBoth layCode layElement) old new (e .1))
 
     pub result-fault : Far r → DoesAll untold layReturned resultsBody m at stop r old new
@@ -145,30 +145,30 @@ module _ (m : List ℕ) (at stop r : ℕ) (old mid : List ℕ) (e : Does untold 
 
 module _ (tag : ℕ) (m : List ℕ) (at stop r : ℕ) (old new : List ℕ) where
   abbrev Contents : Type 0
-  Contents = DoesAll untold layComponent (bodyOf tag) m at stop r old new
+  Contents = DoesAll untold layComponent (componentBodyOf tag) m at stop r old new
 
-  by-name : {A : Type 0} (f : A → Component Text) (b : Body A) (lay : A → List ℕ → List ℕ) → bodyOf tag ≡ mapBody f b → ((a : A) → lay a (set old 0 tag) ≡ layComponent (f a) old) → DoesAll untold lay b m at stop r (set old 0 tag) new → Contents
+  by-name : {A : Type 0} (f : A → Component Text) (b : Body A) (lay : A → List ℕ → List ℕ) → componentBodyOf tag ≡ mapBody f b → ((a : A) → lay a (set old 0 tag) ≡ layComponent (f a) old) → DoesAll untold lay b m at stop r (set old 0 tag) new → Contents
   by-name f b lay is same e = rw is (map-closed f b m at stop r (e .0), rw (ask-map f b (finite stop) at (part m at stop)) (left-next untold lay layComponent f (λ n. n) _ old (set old 0 tag) new same (e .1)))
 
   pub of-invoke : tag ≡ 161 → DoesAll untold (layBoth layId (layBoth layLinked (layCoded false))) (bindBody (level 13) noted idItem (λ i. linkedBody)) m at stop r (set old 0 tag) new → Contents
-  unfolding bodyOf layComponent Held parameterBody layHeld
-  of-invoke t e = by-name (λ v. invoke (v .0) (v .1 .0) (v .1 .1 .0) (v .1 .1 .1)) _ _ (ap bodyOf t) (λ v. ap (λ (a : ℕ). layBoth layId (layBoth layLinked (layCoded false)) v (set old 0 a)) t) e
+  unfolding componentBodyOf layComponent HeldText parameterBody layHeld
+  of-invoke t e = by-name (λ v. invoke (v .0) (v .1 .0) (v .1 .1 .0) (v .1 .1 .1)) _ _ (ap componentBodyOf t) (λ v. ap (λ (a : ℕ). layBoth layId (layBoth layLinked (layCoded false)) v (set old 0 a)) t) e
 
   pub of-error : tag ≡ 163 → DoesAll untold (layBoth layId (layCoded false)) (bindBody (level 13) noted idItem (λ i. codedBody false 13)) m at stop r (set old 0 tag) new → Contents
-  unfolding bodyOf layComponent Held parameterBody layHeld
-  of-error t e = by-name (λ v. error (v .0) (v .1 .0) (v .1 .1)) _ _ (ap bodyOf t) (λ v. ap (λ (a : ℕ). layBoth layId (layCoded false) v (set old 0 a)) t) e
+  unfolding componentBodyOf layComponent HeldText parameterBody layHeld
+  of-error t e = by-name (λ v. error (v .0) (v .1 .0) (v .1 .1)) _ _ (ap componentBodyOf t) (λ v. ap (λ (a : ℕ). layBoth layId (layCoded false) v (set old 0 a)) t) e
 
   pub of-reject : tag ≡ 164 → DoesAll untold (layBoth layRejectId layProblem) rejectedBody m at stop r (set old 0 tag) new → Contents
-  unfolding bodyOf layComponent
-  of-reject t e = by-name (λ v. reject (v .0) (v .1)) _ _ (ap bodyOf t) (λ v. ap (λ (a : ℕ). layBoth layRejectId layProblem v (set old 0 a)) t) e
+  unfolding componentBodyOf layComponent
+  of-reject t e = by-name (λ v. reject (v .0) (v .1)) _ _ (ap componentBodyOf t) (λ v. ap (λ (a : ℕ). layBoth layRejectId layProblem v (set old 0 a)) t) e
 
   pub of-result : (tag ≡ 161 → ⊥) → (tag ≡ 163 → ⊥) → (tag ≡ 164 → ⊥) → componentItem the93 .mine tag ≡ true → DoesAll untold (layBoth layId layReturned) (bindBody (level 13) noted idItem (λ i. resultsBody)) m at stop r (set old 0 tag) new → Contents
-  unfolding bodyOf layComponent
+  unfolding componentBodyOf layComponent
   of-result a b c mine e = go (eqb tag 162) refl (rw (ne-eqb tag 161 a, ne-eqb tag 163 b, ne-eqb tag 164 c) at mine)
     where
       go : (d : Bool) → eqb tag 162 ≡ d → (d || eqb tag 167) ≡ true → Contents
-      go true i o = by-name (λ v. last (v .0) (v .1)) _ _ (ap bodyOf (eqb-true tag 162 i)) (λ v. ap (λ (a : ℕ). layBoth layId layReturned v (set old 0 a)) (eqb-true tag 162 i)) e
-      go false i o = by-name (λ v. notLast (v .0) (v .1)) _ _ (ap bodyOf (eqb-true tag 167 o)) (λ v. ap (λ (a : ℕ). layBoth layId layReturned v (set old 0 a)) (eqb-true tag 167 o)) e
+      go true i o = by-name (λ v. last (v .0) (v .1)) _ _ (ap componentBodyOf (eqb-true tag 162 i)) (λ v. ap (λ (a : ℕ). layBoth layId layReturned v (set old 0 a)) (eqb-true tag 162 i)) e
+      go false i o = by-name (λ v. notLast (v .0) (v .1)) _ _ (ap componentBodyOf (eqb-true tag 167 o)) (λ v. ap (λ (a : ℕ). layBoth layId layReturned v (set old 0 a)) (eqb-true tag 167 o)) e
 
 -- A component that must stand here
 
@@ -183,11 +183,11 @@ lead tag =
     (λ e. let t : tag ≡ 167 = eqb-true tag 167 e in rw t ((omega arith, omega arith, omega arith), refl)))))
 
 pub by-tag : (m : List ℕ) (at stop : ℕ) → until stop ≤ length m → componentItem the93 .mine (getD m at 0) ≡ true
-    → ask (front (level 1) FaultKind.UnknownComponent (componentItem the93)) (finite stop) at (part m at stop) ≡ ask (front (level 1) FaultKind.Another (aroundItem (getD m at 0) (bodyOf (getD m at 0)))) (finite stop) at (part m at stop)
-unfolding bodyOf
+    → ask (front (level 1) FaultKind.UnknownComponent (componentItem the93)) (finite stop) at (part m at stop) ≡ ask (front (level 1) FaultKind.Another (aroundItem (getD m at 0) (componentBodyOf (getD m at 0)))) (finite stop) at (part m at stop)
+unfolding componentBodyOf
 by-tag m at stop h mine =
     let tag = getD m at 0 in
-    kind-asked m at stop h FaultKind.UnknownComponent (componentItem the93) bodyOf mine (λ n z.
+    kind-asked m at stop h FaultKind.UnknownComponent (componentItem the93) componentBodyOf mine (λ n z.
     of-five (invokeBody the93) (resultBody the93 last) (errorBody the93) (rejectBody the93) (resultBody the93 notLast) (head tag n z) at (part m at stop) (eqb tag 161) (eqb tag 162) (eqb tag 163) (eqb tag 164))
 
 wrong-by : (at other : ℕ) (e : EndRead) (t : TagRead) → Far other → Far (askedPlace (λ a. false) (λ s. 0) other at e t)
@@ -218,7 +218,7 @@ module _ (m : List ℕ) (at stop : ℕ) (h : until stop ≤ length m) (here : at
     entry = is ∙ entry-of true m at stop tag (lengthOf (part m (at + 1) stop) true) here refl refl
 
     pub component-stops : Far inner → (old new : List ℕ) → Answered inner old new
-    component-stops f old new = let s = lead tag (sym asked ∙ told) in with-fault inner old new (rw (by-tag m at stop h (sym asked ∙ told)) (around-entry tag (s .0) (s .1) (bodyOf tag) m at stop inner (omega (arith, here)) h entry f)) f
+    component-stops f old new = let s = lead tag (sym asked ∙ told) in with-fault inner old new (rw (by-tag m at stop h (sym asked ∙ told)) (around-entry tag (s .0) (s .1) (componentBodyOf tag) m at stop inner (omega (arith, here)) h entry f)) f
 
     module _ (near : Near inner) where
       pub start-inside : at + 1 < length m
@@ -228,7 +228,7 @@ module _ (m : List ℕ) (at stop : ℕ) (h : until stop ≤ length m) (here : at
         pub start-stands : (st ≤ until inner) × (until inner ≤ length m)
         start-stands = (entry-from m at stop tag inner (omega (arith, here)) h entry near top st start, entry-to m at stop tag inner (omega (arith, here)) h entry near top st start)
 
-        pub component-done : (r : ℕ) (old new : List ℕ) → DoesAll untold layComponent (bodyOf tag) m st inner r old new → Answered r old new
+        pub component-done : (r : ℕ) (old new : List ℕ) → DoesAll untold layComponent (componentBodyOf tag) m st inner r old new → Answered r old new
         component-done r old new q =
             let s = lead tag (sym asked ∙ told) in
-            rw (by-tag m at stop h (sym asked ∙ told)) (around-read tag (s .0) (s .1) (bodyOf tag) m at stop inner (omega (arith, here)) h entry top near st start r (q .0), around-left untold (bodyOf tag) m at stop tag inner st (omega (arith, here)) h top (s .0) (s .1) entry near start layComponent old new (q .1))
+            rw (by-tag m at stop h (sym asked ∙ told)) (around-read tag (s .0) (s .1) (componentBodyOf tag) m at stop inner (omega (arith, here)) h entry top near st start r (q .0), around-left untold (componentBodyOf tag) m at stop tag inner st (omega (arith, here)) h top (s .0) (s .1) entry near start layComponent old new (q .1))

@@ -21,7 +21,7 @@ use Rattle.read_place.specs.Leaves.{Left, Leaves, LeavesAll, unlaid}
 use Rattle.read_place.proofs.Answers.{Keeps}
 use Rattle.read_place.proofs.Fronts.{byFront, ask-front, ended-is, not-ended}
 use Rattle.read_place.proofs.Items.{front-octet}
-use Rattle.read_place.proofs.Onto.{rest, ask-only, ask-last}
+use Rattle.read_place.proofs.Asked.{rest, ask-only, ask-last}
 use Rattle.read_place.proofs.Bodies.{placed-where, bind-far, bind-near, only-far, only-near, last-far, last-near, last-none, map-closed}
 use Rattle.read_place.proofs.Leaves.{Stays, left-where, left-next, left-near, bind-left-far, bind-left, only-left-far, last-left-far, last-left-none, map-left}
 use Rattle.read_row.specs.Component.{layBoth}

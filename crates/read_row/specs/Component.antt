@@ -8,22 +8,22 @@ use Rattle.tcap.specs.{declared.Problem.Problem, Meaning.Code, Meaning.Componen
 use Rattle.read_place.specs.Places.{until, finite, part, front, Placed}
 use Rattle.read_place.specs.Leaves.{Left, untold}
 use Rattle.read_place.specs.Laying.{layCode, layComponent}
-use Rattle.read_part.specs.Parts.{Held, parameterBody, layHeld}
+use Rattle.read_part.specs.Parts.{HeldText, parameterBody, layHeld}
 
 -- contents that are not yet under the component's name
 
-abbrev pub codedBody : (must : Bool) → ℕ → Body (Code Text × Held must)
+abbrev pub codedBody : (must : Bool) → ℕ → Body (Code Text × HeldText must)
 codedBody must left = thenBody (level left) codeItem (parameterBody must left)
 
-abbrev pub linkedBody : Body (Option ℤ × (Code Text × Held false))
+abbrev pub linkedBody : Body (Option ℤ × (Code Text × HeldText false))
 linkedBody = optBody (integerItem 0x80 1) (codedBody false 13)
 
 abbrev pub rejectedBody : Body (Option ℤ × Problem)
 rejectedBody = bindBody (levelAt the93 4) withInvokeId idOrNullItem (λ i. onlyBody (levelAt the93 4) problemItem)
 
 -- the contents of a component by its tag
-unfoldable pub bodyOf : ℕ → Body (Component Text)
-bodyOf a =
+unfoldable pub componentBodyOf : ℕ → Body (Component Text)
+componentBodyOf a =
     cond (eqb a 0xA1) (invokeBody the93)
     (cond (eqb a 0xA2) (resultBody the93 last)
     (cond (eqb a 0xA3) (errorBody the93)
@@ -33,7 +33,7 @@ bodyOf a =
 abbrev pub layBoth : {A B : Type 0} → (A → List ℕ → List ℕ) → (B → List ℕ → List ℕ) → A × B → List ℕ → List ℕ
 layBoth lay put v l = put (v .1) (lay (v .0) l)
 
-abbrev pub layCoded : (must : Bool) → Code Text × Held must → List ℕ → List ℕ
+abbrev pub layCoded : (must : Bool) → Code Text × HeldText must → List ℕ → List ℕ
 layCoded must = layBoth layCode (layHeld must)
 
 -- a component that must stand at a place, and what it leaves in its row

@@ -6,13 +6,13 @@ ghost use lib.ListN.{length};
 ghost use Rattle.read_place.specs.Places.{until, Finishes, Ready};
 ghost use Rattle.read_place.specs.Leaves.{LeavesAll, untold};
 ghost use Rattle.read_place.specs.Laying.{layRejectId, layLinked, layReturned, layProblem, layComponent};
-ghost use Rattle.read_row.specs.Component.{codedBody, linkedBody, rejectedBody, bodyOf, layBoth, layCoded, ReadsComponent, LeavesComponent};
+ghost use Rattle.read_row.specs.Component.{codedBody, linkedBody, rejectedBody, componentBodyOf, layBoth, layCoded, ReadsComponent, LeavesComponent};
 ghost use Rattle.tcap.specs.Productions.{componentItem, bothItem, levelAt};
 ghost use Rattle.element.specs.Parts.{lastBody};
 ghost use Rattle.tcap.specs.WellFormed.{the93};
-use read_field::octet_at;
+use read_field::one_octet_at;
 use read_part::code_at;
-use read_part::id_at;
+use read_part::invoke_id_at;
 use read_part::parameter_at;
 use read_part::problem_at;
 use read_part::reject_id_at;
@@ -50,7 +50,7 @@ fn linked_at(m: &[u8], at: usize, stop: usize, row: &mut [u8]) -> usize
     ensures { λ r. ⌜ LeavesAll (layBoth layLinked (layCoded false)) untold linkedBody (now (m .entry)) at stop (now (row .entry)) (now (row .exit)) ⌝ }
 {
     if stands(m, at, stop, 0x80) {
-        let r = octet_at(m, at, stop, 0x80);
+        let r = one_octet_at(m, at, stop, 0x80);
         if r >= FAULT {
             return r;
         }
@@ -99,21 +99,21 @@ fn reject_at(m: &[u8], at: usize, stop: usize, row: &mut [u8]) -> usize
 }
 
 // The contents of a component by its tag: an invoke ID, which a Reject may lack, and what follows it.
-fn contents_at(m: &[u8], at: usize, stop: usize, tag: u8, row: &mut [u8]) -> usize
+fn component_contents_at(m: &[u8], at: usize, stop: usize, tag: u8, row: &mut [u8]) -> usize
     requires { ⌜ Ready (now m) at stop × (componentItem the93 .mine tag ≡ true) × (length (now row) ≡ 24) ⌝ }
-    ensures { λ r. ⌜ Finishes (bodyOf tag) (now (m .entry)) at stop r ⌝ }
-    ensures { λ r. ⌜ LeavesAll layComponent untold (bodyOf tag) (now (m .entry)) at stop (now (row .entry)) (now (row .exit)) ⌝ }
+    ensures { λ r. ⌜ Finishes (componentBodyOf tag) (now (m .entry)) at stop r ⌝ }
+    ensures { λ r. ⌜ LeavesAll layComponent untold (componentBodyOf tag) (now (m .entry)) at stop (now (row .entry)) (now (row .exit)) ⌝ }
 {
     row[0] = tag;
     if tag == 0xA1 {
-        let r = id_at(m, at, stop, row);
+        let r = invoke_id_at(m, at, stop, row);
         if r >= FAULT {
             return r;
         }
         return linked_at(m, r, stop, row);
     }
     if tag == 0xA3 {
-        let r = id_at(m, at, stop, row);
+        let r = invoke_id_at(m, at, stop, row);
         if r >= FAULT {
             return r;
         }
@@ -122,7 +122,7 @@ fn contents_at(m: &[u8], at: usize, stop: usize, tag: u8, row: &mut [u8]) -> usi
     if tag == 0xA4 {
         return reject_at(m, at, stop, row);
     }
-    let r = id_at(m, at, stop, row);
+    let r = invoke_id_at(m, at, stop, row);
     if r >= FAULT {
         return r;
     }
@@ -160,7 +160,7 @@ pub fn component_at(m: &[u8], at: usize, stop: usize, row: &mut [u8]) -> usize
         if inner >= FAULT {
             return inner;
         }
-        return contents_at(m, start_of(m, at + 1), inner, tag, row);
+        return component_contents_at(m, start_of(m, at + 1), inner, tag, row);
     }
     wrong_at(m, at, stop, UNKNOWN_COMPONENT)
 }

@@ -17,7 +17,7 @@ use Rattle.layout.specs.Layout.{headSize, mostRows, octet, codeTag, codeSpan, s
 use Rattle.layout.specs.Fits.{KindFits, RowFits, RecordFits}
 use Rattle.layout.proofs.RoundTrip.{head-length}
 use Rattle.layout.proofs.Readings.{reading-fits}
-use Rattle.read.specs.Held.{Held}
+use Rattle.read.specs.Octets.{Held}
 use Rattle.read.proofs.Octets.{count-octet, held-front}
 use Rattle.read.proofs.Few.{reading-few}
 use Rattle.steering.specs.declared.{Rule.Rule, FirstCode.FirstCode, Key.Key, Choice.Choice, Steered.Steered}

@@ -16,7 +16,7 @@ use Rattle.open_transactions.proofs.Counting.{first-of}
 use Rattle.entry_octets.specs.Entries.{stateIn, fourOf, entryOctets}
 use Rattle.entry_octets.specs.inner.Words.{partnerPut}
 use Rattle.table_layout.specs.Octets.{entryOf, entriesIn, octetsDone}
-use Rattle.table_layout.specs.inner.Steps.{Known}
+use Rattle.table_layout.specs.inner.Steps.{HoldsOurs}
 use Rattle.table_layout.proofs.Entries.{length-entries, entry-at}
 use Rattle.entry_octets.proofs.Putting.{header}
 
@@ -90,7 +90,7 @@ beside l n o p s =
     (outside (header o p) l n (suc (suc (suc (suc (suc (suc (suc n))))))) (inr (omega arith)) ∙ rw d (s .four)) ∙
     rw e)
 
-pub learns-done : (l o p : List ℕ) (i : ℕ) (d : Deed) {m : List ℕ} → d ≡ Deed.Learns i → Known l o d → m ≡ partnerPut l (i * 12) o p → m ≡ octetsDone l o p d
+pub learns-done : (l o p : List ℕ) (i : ℕ) (d : Deed) {m : List ℕ} → d ≡ Deed.Learns i → HoldsOurs l o d → m ≡ partnerPut l (i * 12) o p → m ≡ octetsDone l o p d
 unfolding octetsDone
 learns-done l o p i d e k q =
     let h : holds o (entryOf (drop (i * 12) l)) ≡ true = rw e at k in
@@ -99,18 +99,18 @@ learns-done l o p i d e k q =
 -- A deed of that kind comes of an entry under our ID
 
 module _ (l : List ℕ) (e : Event) (o p : List ℕ) where
-  moving-known : (i : ℕ) (v : Move) → holds o (entryOf (drop (i * 12) l)) ≡ true → Known l o (moving i v)
+  moving-known : (i : ℕ) (v : Move) → holds o (entryOf (drop (i * 12) l)) ≡ true → HoldsOurs l o (moving i v)
   moving-known i Move.Barred h = tt
   moving-known i Move.Stay h = tt
   moving-known i Move.Activate h = tt
   moving-known i Move.Learn h = h
   moving-known i Move.Close h = tt
 
-  opening-known : (s : State) (r : Room) → Known l o (opening s r)
+  opening-known : (s : State) (r : Room) → HoldsOurs l o (opening s r)
   opening-known s Room.Nowhere = tt
   opening-known s (Room.At i) = tt
 
-  found-known : (b : Begins) (r : Room) → findFrom (holds o) 0 (entriesIn l) ≡ r → Known l o (foundDeed (entriesIn l) e b r)
+  found-known : (b : Begins) (r : Room) → findFrom (holds o) 0 (entriesIn l) ≡ r → HoldsOurs l o (foundDeed (entriesIn l) e b r)
   unfolding foundDeed beginDeed otherDeed
   found-known (Begins.In s) (Room.At i) q = tt
   found-known (Begins.In s) Room.Nowhere q = opening-known s (findFrom isFree 0 (entriesIn l))
@@ -120,10 +120,10 @@ module _ (l : List ℕ) (e : Event) (o p : List ℕ) where
       let z : i < 64 = omega (arith, f .within, length-entries l 64 0) in
       moving-known i (moveOf e (getD (entriesIn l) i blankEntry .state)) (rw (entry-at l i blankEntry z) at (f .passes))
 
-  pub deed-known : Known l o (deedOf (entriesIn l) e o p)
+  pub deed-known : HoldsOurs l o (deedOf (entriesIn l) e o p)
   unfolding deedOf
   deed-known = by-ids (idsOk e o p) refl
     where
-      by-ids : (b : Bool) → idsOk e o p ≡ b → Known l o (deedOf (entriesIn l) e o p)
+      by-ids : (b : Bool) → idsOk e o p ≡ b → HoldsOurs l o (deedOf (entriesIn l) e o p)
       by-ids true q = rw q (found-known (beginsOf e) (findFrom (holds o) 0 (entriesIn l)) refl)
       by-ids false q = rw q tt

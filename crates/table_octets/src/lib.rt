@@ -6,7 +6,7 @@ ghost use Rattle.transaction_states.specs.Events.{beginsOf, takenOf};
 ghost use Rattle.open_transactions.specs.Table.{holds, isFree, findFrom, beginDeed, otherDeed, foundDeed, deedOf};
 ghost use Rattle.open_transactions.specs.inner.Steps.{Inside, Doable};
 ghost use Rattle.table_layout.specs.Octets.{tableSize, eventIn, entriesIn, octetsDone, replying, leaving};
-ghost use Rattle.table_layout.specs.inner.Steps.{Known};
+ghost use Rattle.table_layout.specs.inner.Steps.{HoldsOurs};
 use base::after;
 use entry_octets::ENTRY_SIZE;
 use entry_octets::id_word;
@@ -150,7 +150,7 @@ fn choose_other(table: &[u8], event: Event, found: Room) -> Deed
 
 fn carry_out_in(table: &mut [u8], deed: Deed, ours: &[u8], partner: &[u8]) -> Taken
     requires { ⌜ (tableSize ≤ length (now table)) × Doable (now ours) (now partner) deed ⌝ }
-    requires { ⌜ Known (now table) (now ours) deed ⌝ }
+    requires { ⌜ HoldsOurs (now table) (now ours) deed ⌝ }
     ensures { λ r. ⌜ (r ≡ takenOf deed) × (now (table .exit) ≡ octetsDone (now (table .entry)) (now (ours .entry)) (now (partner .entry)) deed) ⌝ }
 {
     let taken = taken_of(deed);

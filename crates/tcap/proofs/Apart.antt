@@ -14,7 +14,7 @@ use Rattle.element.specs.Ask.{bad}
 use Rattle.tcap.specs.declared.{Refusal.Refusal, Outcome.Outcome}
 use Rattle.tcap.specs.WellFormed.{the93}
 use Rattle.tcap.specs.Reading.{locatedUpTo, refusalOf, answered, readingUpTo, reading}
-use Rattle.tcap.proofs.Pinned.{fault-exactly, refused-checked}
+use Rattle.tcap.proofs.FaultExactly.{fault-exactly, refused-checked}
 use Rattle.tcap.proofs.DueExactly.{MissingAt, StrangeAt, missing-exactly, another-exactly, too-many-exactly}
 
 -- Each number is one kind's

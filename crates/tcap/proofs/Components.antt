@@ -20,7 +20,7 @@ use Rattle.primitive.specs.Primitive.{identifierOk, mostIntegerOctets}
 use Rattle.element.specs.Fault.{Text, withInvokeId}
 use Rattle.element.specs.Ask.{Body}
 use Rattle.element.specs.Parts.{Item, leafItem, integerItem, aroundItem, mapItem, orItem, bindBody, thenBody, onlyBody, lastBody, optBody, silently}
-use Rattle.element.proofs.Insides.{ItemLaws, BodyLaws, leaf-laws, around-laws}
+use Rattle.element.proofs.ItemLaws.{ItemLaws, BodyLaws, leaf-laws, around-laws}
 use Rattle.element.proofs.Joins.{map-laws, or-laws, item-range, item-form, Image, image-out, image-laws, image-body-laws, pairs, thenForms, thenOks, bind-laws, only-laws, last-laws, optPairs, optForms, optOks, opt-laws, SeriesOk, series-laws}
 use Rattle.element.proofs.Walker.{element-laws}
 use Rattle.element.proofs.Integers.{integer-laws}

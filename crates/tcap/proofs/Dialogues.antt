@@ -17,7 +17,7 @@ use Rattle.element.specs.Fault.{Text}
 use Rattle.element.specs.Ask.{Body}
 use Rattle.element.specs.Parts.{Item, leafItem, aroundItem, mapItem, onlyBody, silently}
 use Rattle.element.specs.Walk.{walkTagItem}
-use Rattle.element.proofs.Insides.{ItemLaws, BodyLaws, leaf-laws, around-laws, kept-laws}
+use Rattle.element.proofs.ItemLaws.{ItemLaws, BodyLaws, leaf-laws, around-laws, kept-laws}
 use Rattle.element.proofs.Joins.{map-body-laws, or-laws, item-range, item-form, Image, image-out, image-laws, image-body-laws, pairs, thenForms, thenOks, bind-laws, only-laws, last-laws, optPairs, optForms, optOks, opt-laws}
 use Rattle.element.proofs.Walker.{element-laws, element-tag-laws, enough-laws}
 use Rattle.tcap.specs.declared.{Diagnostic.Diagnostic}

@@ -17,14 +17,14 @@ use Rattle.element.specs.declared.EndRead.the-variants.{Ended as ended, More as
 use Rattle.element.specs.Head.{endOf}
 use Rattle.element.specs.Ask.{bad}
 use Rattle.element.proofs.Asking.{more-at}
-use Rattle.element.proofs.Laid.{nothing-ends}
+use Rattle.element.proofs.StringPlaces.{nothing-ends}
 use Rattle.tcap.specs.Reading.{locatedUpTo}
 use Rattle.tcap.specs.Due.{Parts, end, must, may, name, many, components, Choice, tag, either, any, Holds, octets, message, find, due, mayEnd, someMay, position}
 use Rattle.tcap.specs.Refused.{Known, known, whose, Trail, Tagged, Unfit, another, tooMany, unfit, noPair, missing, seventeenth, element, Found, found, after, Refuses, overlong, noOctets, noMessage, within}
 use Rattle.tcap.proofs.OneFront.{tagged-tag}
 use Rattle.tcap.proofs.OneFault.{none-counts}
 use Rattle.tcap.proofs.Strange.{rank, unfit-rank, faulty-strange}
-use Rattle.tcap.proofs.Pinned.{fault-exactly}
+use Rattle.tcap.proofs.FaultExactly.{fault-exactly}
 use Rattle.tcap.specs.WellFormed.{Rules}
 
 -- a place that reading comes to, in a message of at most 255 octets with one of the five tags; all before it is right

@@ -16,13 +16,13 @@ use Rattle.element.specs.Fault.{Text, Owner, portion, dialogue, component, Faul
 use Rattle.element.specs.declared.FaultKind.{FaultKind}
 use Rattle.element.specs.Ask.{Body}
 use Rattle.element.specs.Parts.{integerItem, silently, bindBody, onlyBody, lastBody, optBody, seriesBody}
-use Rattle.element.proofs.Laid.{nothing-ends}
+use Rattle.element.proofs.StringPlaces.{nothing-ends}
 use Rattle.tcap.specs.Meaning.{Code, Component, invoke, last, notLast, error, reject}
 use Rattle.tcap.specs.Productions.{idItem, problemItem, idOrNullItem, noted, levelAt, codeBody, invokeBody, bothItem, resultBody, errorBody, rejectBody, componentItem, componentAt, componentsItem, inside6B, dialogueItem}
 use Rattle.tcap.specs.Due.{Parts, end, must, may, components, tag, either, any, Holds, octets, invokeId, parts, dialogue as dialogues, invoke as invokes, result as results, error as errors, reject as rejects, component as aComponent, code, problem, componentPortion, external, dialoguePortion}
 use Rattle.tcap.specs.Refused.{known, told, another, unknown}
 use Rattle.tcap.proofs.Found.{BodyFinds, ItemFinds, Said, Silent, leaf-finds, around-tells, map-finds, quietly, silence, or-finds}
-use Rattle.tcap.proofs.Onward.{At, Rest, quiet-rest, bind-tells, place-tells, only-finds, opt-finds, map-body-finds}
+use Rattle.tcap.proofs.FoundContents.{At, Rest, quiet-rest, bind-tells, place-tells, only-finds, opt-finds, map-body-finds}
 use Rattle.tcap.proofs.FoundDialogue.{Zone, linked-z, problem-z, code-body-z, both-z, last-z, external-z}
 use Rattle.tcap.specs.WellFormed.{Rules}
 

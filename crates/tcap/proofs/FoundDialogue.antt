@@ -23,7 +23,7 @@ use Rattle.tcap.specs.Productions.{single?, octetItem, nameItem, codeIte
 use Rattle.tcap.specs.Due.{Parts, end, must, may, many, Choice, tag, either, any, Holds, octets, parts, code, problem, information, version as versionOne, context, number, asked, answered, aborted as stopped, named, external, find, position}
 use Rattle.tcap.specs.Refused.{another}
 use Rattle.tcap.proofs.Found.{tag-mine, tag-held, quiet, BodyFinds, ItemFinds, Said, Silent, leaf-finds, around-tells, kept-finds, quietly, silence, or-finds}
-use Rattle.tcap.proofs.Onward.{At, quiet-rest, bind-tells, then-finds, only-finds, last-finds, opt-finds, map-body-finds, series-finds, walk-finds}
+use Rattle.tcap.proofs.FoundContents.{At, quiet-rest, bind-tells, then-finds, only-finds, last-finds, opt-finds, map-body-finds, series-finds, walk-finds}
 
 -- all faults belong to w, and carry these IDs
 pub record Zone (rules : Rules) (m : List ℕ) (w : Owner) (i : Option ℤ) (t : Option Text) (W : Fault → Fault) : Type 0 where

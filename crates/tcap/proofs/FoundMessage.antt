@@ -18,7 +18,7 @@ use Rattle.element.specs.Head.{endOf}
 use Rattle.element.specs.Ask.{got, blamed, check, Head, Body}
 use Rattle.element.specs.Parts.{aroundItem, firstOf, bindBody, thenBody}
 use Rattle.element.proofs.Asking.{HeadOf}
-use Rattle.element.proofs.Laid.{nothing-ends}
+use Rattle.element.proofs.StringPlaces.{nothing-ends}
 use Rattle.element.proofs.Ends.{Ends, held, failed, ends-next, ends-weaken, ends-check}
 use Rattle.tcap.specs.Meaning.{silent, Originating, orig, dest, cause, says, Message, unidirectional, begin, finish, continue, abort}
 use Rattle.tcap.specs.WellFormed.{Rules, mostOctets, idOk}
@@ -28,7 +28,7 @@ use Rattle.tcap.specs.Due.{Parts, end, must, may, tag, Holds, octets, or
 use Rattle.tcap.specs.Refused.{Right, Fits, nothing, also, Known, known, told, Trail, top, into, intoEndless, past, Tagged, Unfit, another, Found, OrigOf, without, with, after, Refuses, overlong, noOctets, noMessage, within, Allowed}
 use Rattle.tcap.proofs.Fronts.{ends-blame}
 use Rattle.tcap.proofs.Found.{tag-held, there-some, there-none, Like, BodyTells, Untold, BodyFinds, ItemFinds, Silent, ask-finds, leaf-finds, around-tells, map-finds, quietly, or-finds}
-use Rattle.tcap.proofs.Onward.{At, Rest, bind-tells, then-finds, only-finds, last-finds, opt-finds, map-body-tells, map-body-finds}
+use Rattle.tcap.proofs.FoundContents.{At, Rest, bind-tells, then-finds, only-finds, last-finds, opt-finds, map-body-tells, map-body-finds}
 use Rattle.tcap.proofs.FoundDialogue.{octet-z}
 use Rattle.tcap.proofs.UnknownType.{unknown-orig}
 use Rattle.tcap.proofs.FoundComponents.{components-find, dialogue-finds}

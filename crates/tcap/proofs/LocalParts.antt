@@ -14,7 +14,7 @@ use Rattle.element.specs.declared.{FaultKind.FaultKind}
 use Rattle.element.specs.Fault.{Text, fault, inDialogue, inComponent, withInvokeId, withOrigId}
 use Rattle.element.specs.Ask.{Body}
 use Rattle.element.specs.Parts.{integerItem}
-use Rattle.element.proofs.Looked.{other, unknown, kindOf, placeOf, Spares}
+use Rattle.element.proofs.LocalClauses.{other, unknown, kindOf, placeOf, Spares}
 use Rattle.element.proofs.Local.{ItemLocal, BodyLocal, leaf-local, around-local, kept-local, map-local, or-local, bind-local, then-local, only-local, last-local, opt-local, map-body-local, series-local, walk-local}
 use Rattle.tcap.specs.declared.{Problem.Problem, Diagnostic.Diagnostic}
 use Rattle.tcap.specs.Meaning.{Originating, orig, dest, Code, local, global, Component, invoke, last, notLast, error, reject, Dialogue, request, unidialogue, response, aborted, single, octets, silent, cause, says, Message, unidirectional, begin, finish, continue, abort, structured, unstructured, version}

@@ -19,8 +19,8 @@ use Rattle.element.specs.Ask.{Got, got, bad, next, check, blamed, definite, Hea
 use Rattle.element.specs.Parts.{Item, firstOf}
 use Rattle.element.proofs.Asking.{Then, the-fact, HeadOf, finite, unended, ask-head}
 use Rattle.element.proofs.Heads.{TagIs, tag-sound}
-use Rattle.element.proofs.Alike.{Alike, alike-less, alike-all, take-behind, alike-cons, pair}
-use Rattle.element.proofs.Looked.{Looked, tooLong, noTag, noId, noPair, behind, kindOf, placeOf, Local, sure, wrong, Level, Reaches, sizeOf, local-level, head-alike, head-some, level-reaches, ask-more-local}
+use Rattle.element.proofs.LocalHeads.{Alike, alike-less, alike-all, take-behind, alike-cons, pair}
+use Rattle.element.proofs.LocalClauses.{Looked, tooLong, noTag, noId, noPair, behind, kindOf, placeOf, Local, sure, wrong, Level, Reaches, sizeOf, local-level, head-alike, head-some, level-reaches, ask-more-local}
 use Rattle.tcap.specs.declared.{Refusal.Refusal, Outcome.Outcome}
 use Rattle.tcap.specs.Meaning.{Originating, orig, Message}
 use Rattle.tcap.specs.WellFormed.{Rules, mostOctets, the93}

@@ -14,7 +14,7 @@ use Rattle.element.specs.Element.{codeZero, extendedOf, constructorOf}
 use Rattle.element.specs.Fault.{Text}
 use Rattle.element.specs.Ask.{Body}
 use Rattle.element.specs.Parts.{aroundItem, mapItem, thenBody, bindBody, silently}
-use Rattle.element.proofs.Insides.{ItemLaws, BodyLaws, leaf-laws, around-laws}
+use Rattle.element.proofs.ItemLaws.{ItemLaws, BodyLaws, leaf-laws, around-laws}
 use Rattle.element.proofs.Joins.{map-body-laws, or-laws, item-range, item-form, Image, image-out, image-laws, image-body-laws, pairs, thenForms, thenOks, bind-laws, only-laws, last-laws, optPairs, optForms, optOks, opt-laws, SeriesOk}
 use Rattle.tcap.specs.Meaning.{Originating, orig, Destination, dest, Component, Dialogue, Ending, silent, cause, says, Message, unidirectional, begin, finish, continue, abort, Meaning, octet, componentForm, componentsForm, dialogueForm, endingForm, origForm, destForm, messageForm}
 use Rattle.tcap.specs.WellFormed.{Rules, leftAt, mostComponents, mostCause, idOk, ComponentOk, ComponentsOk, DialogueOk, EndingOk, OrigOk, DestOk, WellFormedUpTo}

@@ -15,7 +15,7 @@ use Rattle.element.specs.Head.{endOf}
 use Rattle.element.specs.Ask.{Got, got, bad, definite, indefinite, Head, head, Body, ask}
 use Rattle.element.specs.Parts.{firstOf}
 use Rattle.element.proofs.Asking.{HeadOf, ask-head, ask-missing, ask-unfinished, ask-full, ask-tag, ask-zero, ask-deep, ask-other, ask-length}
-use Rattle.element.proofs.Laid.{nothing-ends}
+use Rattle.element.proofs.StringPlaces.{nothing-ends}
 use Rattle.tcap.specs.Due.{Parts, end, must, may, name, many, components, Holds, due, mayEnd, someMay, position, passes, contentsOf, there}
 use Rattle.tcap.specs.Refused.{Right, primitive, definite as filled, indefinite as endlessly, Fits, nothing, also, Unfit, unknown, another, tooMany, Faulty, tagCut, tagBad, zeroCode, tooDeep, unfit, lengthWrong, badContents, Wrong, noPair, missing, seventeenth, element}
 use Rattle.tcap.proofs.Fronts.{endless-some, right-some, head-more}

@@ -13,7 +13,7 @@ use Rattle.element.specs.Fault.{Text, portion, Fault, fault}
 use Rattle.element.specs.declared.FaultKind.{FaultKind}
 use Rattle.element.specs.declared.EndRead.the-variants.{Ended as ended, Unfinished as unfinished, More as more}
 use Rattle.element.specs.Head.{endOf}
-use Rattle.element.proofs.Laid.{nothing-ends}
+use Rattle.element.proofs.StringPlaces.{nothing-ends}
 use Rattle.tcap.specs.Due.{Parts, end, must, Holds, message, find}
 use Rattle.tcap.specs.Refused.{Right, primitive, definite as filled, indefinite as endlessly, Fits, nothing, also, Known, OrigOf, without, with, Found, found, after, Refuses, overlong, noOctets, noMessage, within, Allowed}
 use Rattle.tcap.proofs.Fronts.{first-octet}

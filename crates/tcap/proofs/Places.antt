@@ -20,9 +20,9 @@ use Rattle.element.specs.Form.{Form}
 use Rattle.element.specs.Ask.{Got, got, bad, Body, ask}
 use Rattle.element.specs.Parts.{Item, level, integerItem, aroundItem, mapItem, orItem, onlyBody, seriesBody, bindBody, thenBody, lastBody, optBody, silently}
 use Rattle.element.proofs.Asking.{Then, the-fact, fact, void}
-use Rattle.element.proofs.Insides.{ItemLaws}
+use Rattle.element.proofs.ItemLaws.{ItemLaws}
 use Rattle.element.proofs.Ends.{outer, Ends, held, failed, the-held, the-failed, ends-next, ends-weaken, ends-check, ends-blamed, Plain, ends-ask}
-use Rattle.element.proofs.Laid.{Here, StandsAt, Laid, stop, stands-here, here-within, laid-wider, laid-append, laid-none, laid-each, nothing-ends, Claim, Keeps, Span, strung, ItemLaid, BodyLaid, leaf-laid, around-laid, kept-laid, item-weaken, map-laid, or-laid, bind-laid, only-laid, last-laid, opt-laid, map-body-laid, series-laid, series-unmarked, walk-laid}
+use Rattle.element.proofs.StringPlaces.{Here, StandsAt, Laid, stop, stands-here, here-within, laid-wider, laid-append, laid-none, laid-each, nothing-ends, Claim, Keeps, Span, strung, ItemLaid, BodyLaid, leaf-laid, around-laid, kept-laid, item-weaken, map-laid, or-laid, bind-laid, only-laid, last-laid, opt-laid, map-body-laid, series-laid, series-unmarked, walk-laid}
 use Rattle.tcap.specs.declared.{Problem.Problem, Diagnostic.Diagnostic}
 use Rattle.tcap.specs.Meaning.{silent, Originating, orig, dest, Code, local, global, Component, invoke, last, notLast, error, reject, Dialogue, request, unidialogue, response, aborted, single, octets, Ending, cause, says, Message, unidirectional, begin, finish, continue, abort, structured, unstructured, version}
 use Rattle.tcap.specs.WellFormed.{Rules, mostOctets, mostComponents, mostTransactionIdOctets, mostCause, leftAt, idOk, InvokeIdOk, OrigOk, WellFormedUpTo}

@@ -20,7 +20,7 @@ use Rattle.element.specs.Ask.{Got, got, bad, check, blamed, Head, ask}
 use Rattle.element.specs.Parts.{firstOf}
 use Rattle.element.proofs.Heads.{TagIs, tag-sound}
 use Rattle.element.proofs.Asking.{Then, fact, void, the-fact, then-next, then-check, then-blamed, next-of, blamed-of, HeadOf, finite, unended, ask-head, ask-sound}
-use Rattle.element.proofs.Insides.{Reads as ItemReads, ItemLaws}
+use Rattle.element.proofs.ItemLaws.{Reads as ItemReads, ItemLaws}
 use Rattle.element.proofs.Shortest.{cap, strictCap, Octets, document01-laws, ⊑-length, shortest-matches, shortest-least, never-longer}
 use Rattle.tcap.specs.declared.{Record.Record, Outcome.Outcome, Reading.Reading}
 use Rattle.tcap.specs.Meaning.{Message, unidirectional, begin, finish, continue, abort, Meaning, messageForm, written}

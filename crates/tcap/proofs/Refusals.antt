@@ -13,7 +13,7 @@ use Rattle.base.specs.Value.{Maybe}
 use Rattle.element.specs.declared.{FaultKind.FaultKind}
 use Rattle.element.specs.Fault.{numberOf, Text, Owner, portion, dialogue, component, Fault, fault}
 use Rattle.element.specs.Ask.{Got, got, bad}
-use Rattle.element.proofs.Laid.{StandsAt}
+use Rattle.element.proofs.StringPlaces.{StandsAt}
 use Rattle.tcap.specs.declared.{OptionalOrig.OptionalOrig, InvokeId.InvokeId, Answer.Answer, Ground.Ground, Refusal.Refusal, Outcome.Outcome}
 use Rattle.tcap.specs.Meaning.{Message, orig}
 use Rattle.tcap.specs.WellFormed.{mostOctets, the93, idOk, InvokeIdOk}

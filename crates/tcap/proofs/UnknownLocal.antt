@@ -16,9 +16,9 @@ use Rattle.element.specs.Head.{endOf}
 use Rattle.element.specs.Ask.{Got, got, bad, next, definite, indefinite, Head, head, ask}
 use Rattle.element.specs.Parts.{firstOf}
 use Rattle.element.proofs.Asking.{Then, fact, next-of, HeadOf, finite, unended, ask-head, ask-sound}
-use Rattle.element.proofs.Laid.{nothing-ends}
-use Rattle.element.proofs.Alike.{Alike, alike-less, take-behind, alike-drop, pair}
-use Rattle.element.proofs.Looked.{Looked, upToId, other, Local, sure, wrong, Level, Reaches, sizeOf, next-bad, local-level, head-alike, head-room, head-least, head-some, level-reaches, ask-local, ask-more-local}
+use Rattle.element.proofs.StringPlaces.{nothing-ends}
+use Rattle.element.proofs.LocalHeads.{Alike, alike-less, take-behind, alike-drop, pair}
+use Rattle.element.proofs.LocalClauses.{Looked, upToId, other, Local, sure, wrong, Level, Reaches, sizeOf, next-bad, local-level, head-alike, head-room, head-least, head-some, level-reaches, ask-local, ask-more-local}
 use Rattle.element.proofs.Local.{take-inner}
 use Rattle.tcap.specs.Meaning.{Originating}
 use Rattle.tcap.specs.WellFormed.{Rules, leftAt}

@@ -11,7 +11,7 @@ use lib.IntN.{ℤ}
 use Rattle.element.specs.declared.FaultKind.{FaultKind}
 use Rattle.element.specs.Fault.{numberOf, Text, Owner, Fault, fault}
 use Rattle.element.specs.Ask.{Got, got, bad}
-use Rattle.element.proofs.Laid.{nothing-ends}
+use Rattle.element.proofs.StringPlaces.{nothing-ends}
 use Rattle.tcap.specs.declared.{OptionalOrig.OptionalOrig, OrigTransactionId.OrigTransactionId, Refusal.Refusal, Outcome.Outcome}
 use Rattle.tcap.specs.Meaning.{Message, orig}
 use Rattle.tcap.specs.WellFormed.{Rules, the93}
@@ -21,7 +21,7 @@ use Rattle.tcap.specs.Due.{Parts}
 use Rattle.tcap.specs.Refused.{LengthWrong, gone, cut, reserved, endless, wasteful, passing, passingLong, Unfit, unknown, another, tooMany, Faulty, tagCut, tagBad, zeroCode, tooDeep, unfit, lengthWrong, badContents, element, found, Refuses, noMessage, within, UnknownOrig, begun, unbegun}
 use Rattle.tcap.proofs.UnknownType.{unknown-is, BeginsWithId, opens-begins, begins-opens}
 use Rattle.tcap.proofs.Found.{same-some}
-use Rattle.tcap.proofs.Pinned.{fault-pinned}
+use Rattle.tcap.proofs.FaultExactly.{fault-pinned}
 
 -- 8 is found nowhere inside a message
 

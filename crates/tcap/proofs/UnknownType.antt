@@ -19,8 +19,8 @@ use Rattle.element.specs.Head.{endOf, tagOf}
 use Rattle.element.specs.Ask.{Got, got, bad, next, check, definite, indefinite, Head, head, Body, askTag, atEnd, askEnd, ask}
 use Rattle.element.specs.Parts.{firstOf, leafContents}
 use Rattle.element.proofs.Asking.{Then, the-fact, fact, void, then-next, then-weaken, then-check, next-of, HeadOf, ask-head, ask-sound, not-true, Says, head-says}
-use Rattle.element.proofs.Insides.{no-extension}
-use Rattle.element.proofs.Laid.{nothing-ends, Behind}
+use Rattle.element.proofs.ItemLaws.{no-extension}
+use Rattle.element.proofs.StringPlaces.{nothing-ends, Behind}
 use Rattle.tcap.specs.Meaning.{Originating, orig}
 use Rattle.tcap.specs.WellFormed.{Rules, mostTransactionIdOctets, leftAt, idOk}
 use Rattle.tcap.specs.Productions.{origItem}

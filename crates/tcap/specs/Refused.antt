@@ -12,8 +12,8 @@ use Rattle.tcap.specs.WellFormed.{Rules}
 -- Octets that are right
 
 -- there is room here: this is not the position of a 17th component
-abbrev pub Room : Parts → Type 0
-Room r = position r ≡ some 16 → ⊥
+abbrev pub NoSeventeenth : Parts → Type 0
+NoSeventeenth r = position r ≡ some 16 → ⊥
 
 mutual
   -- n octets at the front of a part, which begins at place p, are an element at level l, with first octet a, that holds h, to its bottom; then the
@@ -31,7 +31,7 @@ mutual
     -- they end here, and may
     nothing : {l p : ℕ} {r : Parts} {d : Bool} {part : List ℕ} → endOf d part ≡ EndRead.Ended → mayEnd r ≡ true → Fits rules l r d p part 0
     -- an element that may stand here and is right, and then the rest
-    also : {l a p n k : ℕ} {r : Parts} {h : Holds} {d : Bool} {part : List ℕ} {x : Text} → Room r → due r a ≡ some h → Right rules l a h p part n x → Fits rules l (behind r a (x .1)) d (p + n) (drop n part) k → Fits rules l r d p part (n + k)
+    also : {l a p n k : ℕ} {r : Parts} {h : Holds} {d : Bool} {part : List ℕ} {x : Text} → NoSeventeenth r → due r a ≡ some h → Right rules l a h p part n x → Fits rules l (behind r a (x .1)) d (p + n) (drop n part) k → Fits rules l r d p part (n + k)
 
 -- Where a place is
 
@@ -67,12 +67,12 @@ pub data Trail (rules : Rules) (m : List ℕ) : ℕ → Bool → Parts → Known
   -- the message is level 1
   top : Trail rules m 1 true (must message end) (known portion portion none none) 0 m
   -- into the contents of an element that may stand here
-  into : {l a u n p : ℕ} {d : Bool} {r q : Parts} {h : Holds} {c o : Owner} {i : Option ℤ} {t : Option Text} {part : List ℕ} → Trail rules m l d r (known c o i t) p part → l ≤ rules .limit → Room r → due r a ≡ some h → contentsOf h ≡ some q → Definitely part a u n
+  into : {l a u n p : ℕ} {d : Bool} {r q : Parts} {h : Holds} {c o : Owner} {i : Option ℤ} {t : Option Text} {part : List ℕ} → Trail rules m l d r (known c o i t) p part → l ≤ rules .limit → NoSeventeenth r → due r a ≡ some h → contentsOf h ≡ some q → Definitely part a u n
       → Trail rules m (suc l) true q (known (whose (position r) o) (inside h (whose (position r) o)) i t) (p + u) (take n (drop u part))
-  intoEndless : {l a u p : ℕ} {d : Bool} {r q : Parts} {h : Holds} {c o : Owner} {i : Option ℤ} {t : Option Text} {part : List ℕ} → Trail rules m l d r (known c o i t) p part → l ≤ rules .limit → Room r → due r a ≡ some h → contentsOf h ≡ some q → Endlessly part a u
+  intoEndless : {l a u p : ℕ} {d : Bool} {r q : Parts} {h : Holds} {c o : Owner} {i : Option ℤ} {t : Option Text} {part : List ℕ} → Trail rules m l d r (known c o i t) p part → l ≤ rules .limit → NoSeventeenth r → due r a ≡ some h → contentsOf h ≡ some q → Endlessly part a u
       → Trail rules m (suc l) false q (known (whose (position r) o) (inside h (whose (position r) o)) i t) (p + u) (drop u part)
   -- past an element that may stand here and is right; past the message is no place
-  past : {l a p n : ℕ} {d : Bool} {r : Parts} {h : Holds} {s : Known} {part : List ℕ} {x : Text} → Trail rules m l d r s p part → 2 ≤ l → Room r → due r a ≡ some h → Right rules l a h p part n x
+  past : {l a p n : ℕ} {d : Bool} {r : Parts} {h : Holds} {s : Known} {part : List ℕ} {x : Text} → Trail rules m l d r s p part → 2 ≤ l → NoSeventeenth r → due r a ≡ some h → Right rules l a h p part n x
       → Trail rules m l d (behind r a (x .1)) (told h x s) (p + n) (drop n part)
 
 -- What is wrong with the octets at a place
@@ -140,7 +140,7 @@ pub data Wrong (rules : Rules) (l : ℕ) (d : Bool) (r : Parts) (part : List ℕ
   -- a 17th component (12)
   seventeenth : endOf d part ≡ EndRead.More → position r ≡ some 16 → Wrong rules l d r part c o FaultKind.Seventeenth c
   -- an element
-  element : {k : FaultKind} → endOf d part ≡ EndRead.More → Room r → Faulty rules l r part k → Wrong rules l d r part c o k o
+  element : {k : FaultKind} → endOf d part ≡ EndRead.More → NoSeventeenth r → Faulty rules l r part k → Wrong rules l d r part c o k o
 
 -- The message
 

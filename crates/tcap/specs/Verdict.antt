@@ -180,12 +180,12 @@ isSeries l c = tookAll (seriesWalk 0x28 l true 0 c) (length c)
 
 module _ (m : List ℕ) where
   -- the octets of a string
-  unfoldable pub octetsIn : Span → List ℕ
-  octetsIn s = take (s .len) (drop (s .place) m)
+  unfoldable pub stringOctets : Span → List ℕ
+  stringOctets s = take (s .len) (drop (s .place) m)
 
   -- how deep: a parameter stands at level 4, in a result at level 5, the element of an outside name at level 5, a 28 at level 7
   abbrev pub elementAt : ℕ → Span → Bool
-  elementAt level s = isElement (leftAt the93 level) (octetsIn s)
+  elementAt level s = isElement (leftAt the93 level) (stringOctets s)
 
   unfoldable pub parameterShaped : OptionalSpan → Bool
   parameterShaped OptionalSpan.Absent = true
@@ -193,13 +193,13 @@ module _ (m : List ℕ) where
 
   unfoldable pub infoShaped : OptionalSpan → Bool
   infoShaped OptionalSpan.Absent = true
-  infoShaped (OptionalSpan.Present s) = isSeries (leftAt the93 7) (octetsIn s)
+  infoShaped (OptionalSpan.Present s) = isSeries (leftAt the93 7) (stringOctets s)
 
   abbrev pub nameShaped : Span → Bool
-  nameShaped s = identifierOk (octetsIn s)
+  nameShaped s = identifierOk (stringOctets s)
 
   abbrev pub outsideShaped : Span → Bool
-  outsideShaped s = identifierOk (octetsIn s) && (not (same structured (octetsIn s)) && not (same unstructured (octetsIn s)))
+  outsideShaped s = identifierOk (stringOctets s) && (not (same structured (stringOctets s)) && not (same unstructured (stringOctets s)))
 
   unfoldable pub codeShaped : Code → Bool
   codeShaped (Code.Local z) = true

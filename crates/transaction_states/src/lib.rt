@@ -78,7 +78,7 @@ pub enum Taken {
 }
 
 // An ID's octets are followed by zeros.
-pub fn octet_at(id: &[u8], i: usize) -> u8
+pub fn octet_or_zero(id: &[u8], i: usize) -> u8
     ensures { λ r. ⌜ r ≡ getD (now (id .entry)) i 0 ⌝ }
 {
     if i < id.len() {

@@ -15,22 +15,22 @@ use Rattle.element.specs.Head.{within, lengthOf}
 use Rattle.element.specs.inner.Fronts.{fronted, frontOf, span, longRead}
 use Rattle.element.proofs.Reading.{count-early, count-within, count-past}
 use Rattle.element.proofs.Views.{tagBy, tag-view, lengthBy, length-view, lengthOctets, all-of-them, long-place, one-place, no-255}
-use Rattle.walk.specs.Walks.{tagEnd, contentsEnd}
+use Rattle.walk.specs.Walks.{tagEnd, endByLength}
 
 -- what `long_count` answers: the number of a length, octet by octet, of which i are read, and v is their number
 module _ (m : List ℕ) (from k room past v i : ℕ) (l : from + 1 + k + room ≤ length m) (n : numberFrom 0 (lengthOctets m from k) ≡ numberFrom v (drop i (lengthOctets m from k))) where
-  pub place-early : i < k → room / 256 < v → past ≡ contentsEnd from past (within (suc k) (numberFrom 0 (lengthOctets m from k)) room)
-  unfolding contentsEnd
-  place-early h g = ap (contentsEnd from past) (count-early (lengthOctets m from k) v i (suc k) room n (omega (arith, all-of-them m from k room v i l n, h)) g)
+  pub place-early : i < k → room / 256 < v → past ≡ endByLength from past (within (suc k) (numberFrom 0 (lengthOctets m from k)) room)
+  unfolding endByLength
+  place-early h g = ap (endByLength from past) (count-early (lengthOctets m from k) v i (suc k) room n (omega (arith, all-of-them m from k room v i l n, h)) g)
 
   module _ (h : k ≤ i) where
-    pub place-within : v ≤ room → from + (k + 1 + v) ≡ contentsEnd from past (within (suc k) (numberFrom 0 (lengthOctets m from k)) room)
-    unfolding contentsEnd
-    place-within g = let e : k + 1 ≡ suc k = omega arith in rw e (ap (contentsEnd from past) (count-within (lengthOctets m from k) v i (suc k) room n (omega (arith, all-of-them m from k room v i l n, h)) g))
+    pub place-within : v ≤ room → from + (k + 1 + v) ≡ endByLength from past (within (suc k) (numberFrom 0 (lengthOctets m from k)) room)
+    unfolding endByLength
+    place-within g = let e : k + 1 ≡ suc k = omega arith in rw e (ap (endByLength from past) (count-within (lengthOctets m from k) v i (suc k) room n (omega (arith, all-of-them m from k room v i l n, h)) g))
 
-    pub place-past : room < v → past ≡ contentsEnd from past (within (suc k) (numberFrom 0 (lengthOctets m from k)) room)
-    unfolding contentsEnd
-    place-past g = ap (contentsEnd from past) (count-past (lengthOctets m from k) v i (suc k) room n (omega (arith, all-of-them m from k room v i l n, h)) g)
+    pub place-past : room < v → past ≡ endByLength from past (within (suc k) (numberFrom 0 (lengthOctets m from k)) room)
+    unfolding endByLength
+    place-past g = ap (endByLength from past) (count-past (lengthOctets m from k) v i (suc k) room n (omega (arith, all-of-them m from k room v i l n, h)) g)
 
 -- a length of more than one octet whose octets are there
 module _ (m : List ℕ) (from end k : ℕ) (b : from < end) (h : end ≤ length m) (l : 1 ≤ k) (most : k ≤ 126) (g : k ≤ end - from - 1) where

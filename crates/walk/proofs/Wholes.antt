@@ -18,9 +18,9 @@ use Rattle.element.specs.Head.{endOf, tagOf, lengthOf}
 use Rattle.element.specs.Answers.{elementWalk, seriesWalk}
 use Rattle.element.specs.inner.Fronts.{fronted, frontOf, span, lengthSize}
 use Rattle.element.proofs.Reading.{FrontIs, front-says, tag-first, front-size, definite-size, indefinite-size}
-use Rattle.element.proofs.Whole.{Wanted, element-sound, element-size, series-all, series-before-pair}
+use Rattle.element.proofs.WalkedWhole.{Wanted, element-sound, element-size, series-all, series-before-pair}
 use Rattle.element.proofs.Walking.{thenWalk, grown, element-fault, element-length, element-primitive, element-definite, element-indefinite, series-ended, series-more}
-use Rattle.walk.specs.Walks.{tagEnd, contentsEnd, wholePlace, pairPlace}
+use Rattle.walk.specs.Walks.{tagEnd, endByLength, wholePlace, pairPlace}
 use Rattle.element.proofs.Views.{span-length, span-get, span-drop, span-inner, endBy, end-view, lengthBy, length-view, SizeIs, length-sized}
 use Rattle.walk.proofs.Views.{length-short, front-zero, front-one}
 
@@ -167,26 +167,26 @@ module _ (m : List ℕ) (at end left : ℕ) (g : at ≤ end) (h : end ≤ length
               go (Walk.Whole j) f = omega (arith, f)
 
         -- contents that end with their octets
-        module _ (b : getD m from 0 ≡ 128 → ⊥) (stop : ℕ) (until : stop ≡ contentsEnd from 0 (lengthOf (span m from end) false)) where
+        module _ (b : getD m from 0 ≡ 128 → ⊥) (stop : ℕ) (until : stop ≡ endByLength from 0 (lengthOf (span m from end) false)) where
           either-form : (c : Bool) → lengthOf (span m from end) false ≡ lengthOf (span m from end) c
           unfolding lengthBy
           either-form c = rw (length-view m from end false h, length-view m from end c h, ne-eqb (getD m from 0) 128 b)
 
           pub whole-stopped : stop ≡ 0 → 0 ≡ wholePlace at (elementWalk 0 left at (span m at end))
-          unfolding contentsEnd
+          unfolding endByLength
           whole-stopped z = go (lengthOf (span m from end) false) refl until
             where
-              go : (n : LengthRead) → n ≡ lengthOf (span m from end) false → stop ≡ contentsEnd from 0 n → 0 ≡ wholePlace at (elementWalk 0 left at (span m at end))
+              go : (n : LengthRead) → n ≡ lengthOf (span m from end) false → stop ≡ endByLength from 0 n → 0 ≡ wholePlace at (elementWalk 0 left at (span m at end))
               go (LengthRead.Fault k) e q = length-bad (constructorOf (getD m at 0)) refl k (e ∙ either-form (constructorOf (getD m at 0)))
               go (LengthRead.Definite k n) e q = absurd (omega (arith, z, q, definite-size (span m from end) false k n (LengthRead.Definite k n) e refl))
               go LengthRead.Indefinite e q = absurd (false≢true (indefinite-size (span m from end) false LengthRead.Indefinite e refl .1))
 
           module _ (ends : stop ≡ 0 → ⊥) where
             pub whole-leaf : getD m at 0 / 32 % 2 ≡ 0 → stop ≡ wholePlace at (elementWalk 0 left at (span m at end))
-            unfolding contentsEnd wholePlace
+            unfolding endByLength wholePlace
             whole-leaf kind = go (lengthOf (span m from end) false) refl until
               where
-                go : (n : LengthRead) → n ≡ lengthOf (span m from end) false → stop ≡ contentsEnd from 0 n → stop ≡ wholePlace at (elementWalk 0 left at (span m at end))
+                go : (n : LengthRead) → n ≡ lengthOf (span m from end) false → stop ≡ endByLength from 0 n → stop ≡ wholePlace at (elementWalk 0 left at (span m at end))
                 go (LengthRead.Fault k) e q = absurd (ends q)
                 go (LengthRead.Definite k n) e q =
                     let t = tagged in
@@ -195,10 +195,10 @@ module _ (m : List ℕ) (at end left : ℕ) (g : at ≤ end) (h : end ≤ length
 
             -- the length is definite
             lasts : (k : ℕ) × (n : ℕ) × (LengthRead.Definite k n ≡ lengthOf (span m from end) false) × (k ≡ lengthSize (getD m from 0)) × (stop ≡ from + (k + n)) × (1 ≤ k) × (stop ≤ end)
-            unfolding contentsEnd SizeIs
+            unfolding endByLength SizeIs
             lasts = go (lengthOf (span m from end) false) refl until
               where
-                go : (n : LengthRead) → n ≡ lengthOf (span m from end) false → stop ≡ contentsEnd from 0 n → (k : ℕ) × (n : ℕ) × (LengthRead.Definite k n ≡ lengthOf (span m from end) false) × (k ≡ lengthSize (getD m from 0)) × (stop ≡ from + (k + n)) × (1 ≤ k) × (stop ≤ end)
+                go : (n : LengthRead) → n ≡ lengthOf (span m from end) false → stop ≡ endByLength from 0 n → (k : ℕ) × (n : ℕ) × (LengthRead.Definite k n ≡ lengthOf (span m from end) false) × (k ≡ lengthSize (getD m from 0)) × (stop ≡ from + (k + n)) × (1 ≤ k) × (stop ≤ end)
                 go (LengthRead.Fault k) e q = absurd (ends q)
                 go (LengthRead.Definite k n) e q =
                     let w = definite-size (span m from end) false k n (LengthRead.Definite k n) e refl in
@@ -229,11 +229,11 @@ module _ (m : List ℕ) (at end left : ℕ) (g : at ≤ end) (h : end ≤ length
 
 pub short-walk : (m : List ℕ) (at end left : ℕ) → at ≤ end → end ≤ length m → 0 < left → 2 ≤ end - at → (getD m at 0 % 32 ≡ 31 → ⊥) → (getD m at 0 ≡ 0 → ⊥) → getD m at 0 / 32 % 2 ≡ 0 → getD m (at + 1) 0 < 128 → getD m (at + 1) 0 ≤ end - at - 2
     → at + 2 + getD m (at + 1) 0 ≡ wholePlace at (elementWalk 0 left at (span m at end))
-unfolding contentsEnd
+unfolding endByLength
 short-walk m at end left g h deep two plain some leaf low room =
     let y : getD m at 0 ≡ 32 → ⊥ = λ e. omega (arith, leaf, e) in
     let tag = front-one m at end h (omega (arith, two)) some y plain in
-    let len : at + 2 + getD m (at + 1) 0 ≡ contentsEnd (at + 1) 0 (lengthOf (span m (at + 1) end) false) = rw (length-short m (at + 1) end false h (omega (arith, two)) low (omega (arith, room, two))) (omega arith) in
+    let len : at + 2 + getD m (at + 1) 0 ≡ endByLength (at + 1) 0 (lengthOf (span m (at + 1) end) false) = rw (length-short m (at + 1) end false h (omega (arith, two)) low (omega (arith, room, two))) (omega arith) in
     whole-leaf m at end left g h (at + 1) (λ e. omega (arith, e, deep)) tag (λ e. omega (arith, e)) (λ e. omega (arith, e, two)) (λ e. omega (arith, e, low)) (at + 2 + getD m (at + 1) 0) len (λ e. omega (arith, e)) leaf
 
 -- A series, of which the elements from `from` to `at` are walked

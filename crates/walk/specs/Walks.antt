@@ -28,7 +28,7 @@ tagEnd at (TagRead.Tag a s) = at + s
 tagEnd at (TagRead.Fault k) = 0
 
 -- `past` where there is no such end
-unfoldable pub contentsEnd : ℕ → ℕ → LengthRead → ℕ
-contentsEnd from past (LengthRead.Definite k n) = from + (k + n)
-contentsEnd from past LengthRead.Indefinite = past
-contentsEnd from past (LengthRead.Fault k) = past
+unfoldable pub endByLength : ℕ → ℕ → LengthRead → ℕ
+endByLength from past (LengthRead.Definite k n) = from + (k + n)
+endByLength from past LengthRead.Indefinite = past
+endByLength from past (LengthRead.Fault k) = past

@@ -7,7 +7,7 @@ ghost use Rattle.base.specs.Number.{numberFrom};
 ghost use Rattle.element.specs.Head.{within, lengthOf};
 ghost use Rattle.element.specs.Answers.{elementWalk, seriesWalk};
 ghost use Rattle.element.specs.inner.Fronts.{frontOf, span, longRead, lengthSize};
-ghost use Rattle.walk.specs.Walks.{Within, Extended, tagEnd, contentsEnd, wholePlace, pairPlace};
+ghost use Rattle.walk.specs.Walks.{Within, Extended, tagEnd, endByLength, wholePlace, pairPlace};
 use base::wide;
 
 // The place behind the tag of more than one octet that begins here.
@@ -69,7 +69,7 @@ fn tag_end(m: &[u8], at: usize, end: usize) -> usize
 // Where contents end of whose length the `k` octets behind `from` are the number, and behind these `room` octets stand; `past` if they pass these.
 pub fn long_count(m: &[u8], from: usize, k: usize, room: usize, past: usize) -> usize
     requires { ⌜ from + 1 + k + room ≤ length (now m) ⌝ }
-    ensures { λ r. ⌜ r ≡ contentsEnd from past (within (suc k) (numberFrom 0 (take k (drop (from + 1) (now (m .entry))))) room) ⌝ }
+    ensures { λ r. ⌜ r ≡ endByLength from past (within (suc k) (numberFrom 0 (take k (drop (from + 1) (now (m .entry))))) room) ⌝ }
 {
     let mut value: usize = 0;
     let mut i = 0;
@@ -89,7 +89,7 @@ pub fn long_count(m: &[u8], from: usize, k: usize, room: usize, past: usize) -> 
 // Where contents end whose length takes `k` octets behind `from`. Most take one.
 fn long_end(m: &[u8], from: usize, end: usize, k: usize) -> usize
     requires { ⌜ Within (now m) from end × (from < end) × (1 ≤ k) ⌝ }
-    ensures { λ r. ⌜ r ≡ contentsEnd from 0 (longRead (span (now (m .entry)) from end) k) ⌝ }
+    ensures { λ r. ⌜ r ≡ endByLength from 0 (longRead (span (now (m .entry)) from end) k) ⌝ }
 {
     if k > 126 {
         return 0;
@@ -117,7 +117,7 @@ fn long_end(m: &[u8], from: usize, end: usize, k: usize) -> usize
 // Where contents end whose length, which is not 80, stands at `from`.
 fn contents_end(m: &[u8], from: usize, end: usize) -> usize
     requires { ⌜ Within (now m) from end × (from < end) × (getD (now m) from 0 ≡ 128 → ⊥) ⌝ }
-    ensures { λ r. ⌜ r ≡ contentsEnd from 0 (lengthOf (span (now (m .entry)) from end) false) ⌝ }
+    ensures { λ r. ⌜ r ≡ endByLength from 0 (lengthOf (span (now (m .entry)) from end) false) ⌝ }
 {
     let b = m[from] as usize;
     if b < 128 {

@@ -18,7 +18,7 @@ use Rattle.write_check_row.specs.Judged.{rankOf, judged, wrapped, sizeOf, rowsR
 use Rattle.write_check_row.proofs.Joining.{join, wrap, then-size, around-size}
 use Rattle.write_check_row.proofs.Rows.{rows-none}
 use Rattle.write_check_row.proofs.Listed.{over-right}
-use Rattle.write_check.specs.Whole.{idsOf, idsThere, restFits, portionOf, portionJudged, messageJudged}
+use Rattle.write_check.specs.Judgements.{idsOf, idsThere, restFits, portionOf, portionJudged, messageJudged}
 
 pub parts-by : (k : MessageKind) (o e c : Bool) (n : ℕ) → partsFit k o e c n ≡ eqb (idsThere o e) (idsOf k) && restFits k c n
 unfolding partsFit idsOf idsThere restFits

@@ -1,7 +1,7 @@
 // Whether a dialogue portion may be written, and how many octets it has, told in one pass.
 ghost use mathlib.Core.Path.{_≡_};
 ghost use Rattle.tcap.specs.declared.Dialogue.{Dialogue};
-ghost use Rattle.write_check.specs.Whole.{externalJudged, pduJudged, numberJudged, sourceJudged, infoJudged, contextJudged, outsideJudged, answerJudged, dialogueJudged};
+ghost use Rattle.write_check.specs.Judgements.{externalJudged, pduJudged, numberJudged, sourceJudged, infoJudged, contextJudged, outsideJudged, answerJudged, dialogueJudged};
 use tcap::Diagnostic;
 use tcap::Dialogue;
 use tcap::LEFT_AT_5;

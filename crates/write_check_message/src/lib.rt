@@ -1,7 +1,7 @@
 // Whether a record may be written, and how many octets the message has, told in one pass: the transaction IDs, and the message around its components.
 ghost use mathlib.Core.Path.{_≡_};
 ghost use Rattle.tcap.specs.Verdict.{origThere, destThere, causeThere};
-ghost use Rattle.write_check.specs.Whole.{idsOf, idsThere, restFits, partsJudged, origJudged, destJudged, portionOf, behindJudged, messageJudged};
+ghost use Rattle.write_check.specs.Judgements.{idsOf, idsThere, restFits, partsJudged, origJudged, destJudged, portionOf, behindJudged, messageJudged};
 use tcap::Dialogue;
 use tcap::MOST_COMPONENTS;
 use tcap::MOST_TRANSACTION_ID_OCTETS;

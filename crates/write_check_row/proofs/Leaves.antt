@@ -15,13 +15,13 @@ use Rattle.primitive.specs.Primitive.{integerOctets}
 use Rattle.primitive.proofs.Integers.{integer-some, integer-fits}
 use Rattle.tcap.specs.declared.Span.{Span}
 use Rattle.tcap.specs.Meaning.{octet, integer}
-use Rattle.tcap.specs.Verdict.{lies, octetsIn}
+use Rattle.tcap.specs.Verdict.{lies, stringOctets}
 use Rattle.write_check_row.specs.Judged.{sizeOf}
 use Rattle.write_check_row.proofs.Joining.{size-short, leaf-size}
 
 -- a string that lies in the material has as many octets as it says
-pub octets-length : (m : List ℕ) (s : Span) → lies (length m) s ≡ true → length (octetsIn m s) ≡ s .len
-unfolding lies octetsIn
+pub octets-length : (m : List ℕ) (s : Span) → lies (length m) s ≡ true → length (stringOctets m s) ≡ s .len
+unfolding lies stringOctets
 octets-length m s h = length-take-le (s .len) (drop (s .place) m) (omega (arith, length-drop (s .place) m, leb-true (s .place + s .len) (length m) h))
 
 pub octet-size : (t x : ℕ) → sizeOf (octet t x) ≡ 3

@@ -16,7 +16,7 @@ use Rattle.element.specs.Form.{Matches, Definite, Unending}
 use Rattle.element.specs.Element.{codeZero, IsElement}
 use Rattle.element.specs.Head.{endOf}
 use Rattle.element.specs.Answers.{elementWalk}
-use Rattle.element.proofs.Whole.{Wanted, wantedTag, element-sound, element-complete, element-size}
+use Rattle.element.proofs.WalkedWhole.{Wanted, wantedTag, element-sound, element-complete, element-size}
 use Rattle.element.proofs.Walking.{Left, loop-ended, loop-fault, loop-next}
 use Rattle.walk.specs.Walks.{wholePlace}
 use Rattle.tcap.specs.Verdict.{tookAll, isElement, isSeries}

@@ -4,7 +4,7 @@ use Prim.Native.Nat.{ℕ}
 use mathlib.Core.{List.List, List.[], List._∷_}
 use Rattle.element.specs.{Form.Form, Form.exactly, Form.then, Form.leaf, Form.around, Form.seriesForm, Form.shortest, Form.document01}
 use Rattle.tcap.specs.{declared.Span.Span, declared.OptionalSpan.OptionalSpan, declared.OptionalOrig.OptionalOrig, declared.OptionalDest.OptionalDest, declared.InvokeId.InvokeId, declared.LinkedId.LinkedId, declared.Code.Code, declared.Returned.Returned, declared.ComponentKind.ComponentKind, declared.Row.Row, declared.Dialogue.Dialogue, declared.MessageKind.MessageKind, declared.Record.Record, Record.messageTag, Meaning.octet, Meaning.integer, Meaning.problemForm, Meaning.structured, Meaning.unstructured, Meaning.versionForm, Meaning.contextForm, Meaning.sourceForm, Meaning.external}
-use Rattle.tcap.specs.Verdict.{octetsIn, counted}
+use Rattle.tcap.specs.Verdict.{stringOctets, counted}
 use Rattle.tcap.specs.Record.{rowTag}
 
 unfoldable pub idForm : InvokeId → Form
@@ -18,16 +18,16 @@ linkedForm (LinkedId.Linked i) = integer 0x80 i
 module _ (m : List ℕ) where
   unfoldable pub codeForm : Code → Form
   codeForm (Code.Local z) = integer 0x02 z
-  codeForm (Code.Global s) = leaf 0x06 (octetsIn m s)
+  codeForm (Code.Global s) = leaf 0x06 (stringOctets m s)
 
   -- a whole element
   unfoldable pub parameterForm : OptionalSpan → Form
   parameterForm OptionalSpan.Absent = exactly []
-  parameterForm (OptionalSpan.Present s) = exactly (octetsIn m s)
+  parameterForm (OptionalSpan.Present s) = exactly (stringOctets m s)
 
   unfoldable pub returnedForm : Returned → Form
   returnedForm Returned.Bare = exactly []
-  returnedForm (Returned.Both c p) = around 0x30 (then (codeForm c) (exactly (octetsIn m p)))
+  returnedForm (Returned.Both c p) = around 0x30 (then (codeForm c) (exactly (stringOctets m p)))
 
   -- behind the invoke ID
   unfoldable pub restForm : ComponentKind → Form
@@ -54,11 +54,11 @@ module _ (m : List ℕ) where
 
   unfoldable pub infoForm : OptionalSpan → Form
   infoForm OptionalSpan.Absent = exactly []
-  infoForm (OptionalSpan.Present s) = around 0xBE (exactly (octetsIn m s))
+  infoForm (OptionalSpan.Present s) = around 0xBE (exactly (stringOctets m s))
 
   -- A0 and 60 around the fields of a request or a unidialogue
   abbrev pub askedForm : Span → OptionalSpan → Form
-  askedForm n u = around 0xA0 (around 0x60 (then versionForm (then (contextForm (octetsIn m n)) (infoForm u))))
+  askedForm n u = around 0xA0 (around 0x60 (then versionForm (then (contextForm (stringOctets m n)) (infoForm u))))
 
   unfoldable pub dialogueForm : Dialogue → Form
   dialogueForm Dialogue.NoDialogue = exactly []
@@ -68,18 +68,18 @@ module _ (m : List ℕ) where
   dialogueForm (Dialogue.Response n r s u) =
       external structured
       (around 0xA0
-      (around 0x61 (then versionForm (then (contextForm (octetsIn m n)) (then (around 0xA2 (octet 0x02 r)) (then (around 0xA3 (sourceForm s)) (infoForm u)))))))
+      (around 0x61 (then versionForm (then (contextForm (stringOctets m n)) (then (around 0xA2 (octet 0x02 r)) (then (around 0xA3 (sourceForm s)) (infoForm u)))))))
   dialogueForm (Dialogue.DialogueAbort r u) = external structured (around 0xA0 (around 0x64 (then (octet 0x80 r) (infoForm u))))
-  dialogueForm (Dialogue.OutsideElement n e) = external (octetsIn m n) (around 0xA0 (exactly (octetsIn m e)))
-  dialogueForm (Dialogue.OutsideOctets n c) = external (octetsIn m n) (leaf 0x81 (octetsIn m c))
+  dialogueForm (Dialogue.OutsideElement n e) = external (stringOctets m n) (around 0xA0 (exactly (stringOctets m e)))
+  dialogueForm (Dialogue.OutsideOctets n c) = external (stringOctets m n) (leaf 0x81 (stringOctets m c))
 
   unfoldable pub origForm : OptionalOrig → Form
   origForm OptionalOrig.NoOrig = exactly []
-  origForm (OptionalOrig.Orig o) = leaf 0x48 (octetsIn m (o .0 .octets))
+  origForm (OptionalOrig.Orig o) = leaf 0x48 (stringOctets m (o .0 .octets))
 
   unfoldable pub destForm : OptionalDest → Form
   destForm OptionalDest.NoDest = exactly []
-  destForm (OptionalDest.Dest e) = leaf 0x49 (octetsIn m (e .0 .octets))
+  destForm (OptionalDest.Dest e) = leaf 0x49 (stringOctets m (e .0 .octets))
 
   -- a message by its parts, and what it holds
   unfoldable pub insideForm : OptionalOrig → OptionalDest → Dialogue → List Row → Form

@@ -6,7 +6,7 @@ use lib.{ListN.length, Dec.leb, Dec.eqb}
 use Rattle.element.specs.{Form.Form, Form.then, Form.seriesForm, Form.lengthOctets, Form.shortest, Form.document01}
 use Rattle.tcap.specs.{declared.Span.Span, declared.OptionalSpan.OptionalSpan, declared.Code.Code, declared.Problem.Problem, declared.Returned.Returned, declared.ComponentKind.ComponentKind, declared.Row.Row, Meaning.problemForm, WellFormed.mostOctets}
 use Rattle.write_check_row.specs.{declared.Judged.Judged, Forms.codeForm, Forms.parameterForm, Forms.returnedForm, Forms.restForm, Forms.rowForm}
-use Rattle.tcap.specs.Verdict.{every, rowPartsFit, ranges, nameRanges, codeRanges, problemRanges, returnedRanges, rowRanges, lies, optionLies, codeLies, returnedLies, rowLies, isElement, isSeries, octetsIn, nameShaped, parameterShaped, codeShaped, returnedShaped, rowShaped}
+use Rattle.tcap.specs.Verdict.{every, rowPartsFit, ranges, nameRanges, codeRanges, problemRanges, returnedRanges, rowRanges, lies, optionLies, codeLies, returnedLies, rowLies, isElement, isSeries, stringOctets, nameShaped, parameterShaped, codeShaped, returnedShaped, rowShaped}
 
 -- the worst of a part by the four tests, in the order of document 01: 4 for 24, 3 for 23, 2 for 21, 1 for 22, and 0 for none
 unfoldable pub rankOf : Bool → Bool → Bool → Bool → ℕ
@@ -51,19 +51,19 @@ problemJudged q = judged (rankOf true (problemRanges q) true true) (sizeOf (prob
 module _ (m : List ℕ) where
   -- octets of any kind; of 1 to `most`; an object identifier; one element; a series of 28
   abbrev pub octetsJudged : Span → Judged
-  octetsJudged s = judged (rankOf true true (lies (length m) s) true) (length (octetsIn m s))
+  octetsJudged s = judged (rankOf true true (lies (length m) s) true) (length (stringOctets m s))
 
   abbrev pub sizedJudged : ℕ → Span → Judged
-  sizedJudged most s = judged (rankOf true (ranges 1 most (s .len)) (lies (length m) s) true) (length (octetsIn m s))
+  sizedJudged most s = judged (rankOf true (ranges 1 most (s .len)) (lies (length m) s) true) (length (stringOctets m s))
 
   abbrev pub nameJudged : Span → Judged
-  nameJudged s = judged (rankOf true (nameRanges s) (lies (length m) s) (nameShaped m s)) (length (octetsIn m s))
+  nameJudged s = judged (rankOf true (nameRanges s) (lies (length m) s) (nameShaped m s)) (length (stringOctets m s))
 
   abbrev pub elementJudged : ℕ → Span → Judged
-  elementJudged left s = judged (rankOf true true (lies (length m) s) (isElement left (octetsIn m s))) (length (octetsIn m s))
+  elementJudged left s = judged (rankOf true true (lies (length m) s) (isElement left (stringOctets m s))) (length (stringOctets m s))
 
   abbrev pub seriesJudged : ℕ → Span → Judged
-  seriesJudged left s = judged (rankOf true true (lies (length m) s) (isSeries left (octetsIn m s))) (length (octetsIn m s))
+  seriesJudged left s = judged (rankOf true true (lies (length m) s) (isSeries left (stringOctets m s))) (length (stringOctets m s))
 
   abbrev pub codeJudged : Code → Judged
   codeJudged c = judged (rankOf true (codeRanges c) (codeLies (length m) c) (codeShaped m c)) (sizeOf (codeForm m c))

@@ -3,7 +3,7 @@ ghost use mathlib.Core.Path.{_≡_};
 ghost use mathlib.Core.Bool.{true};
 ghost use Prim.Native.Nat.{_+_, min, max};
 ghost use lib.ListN.{length};
-ghost use Rattle.tcap.specs.Verdict.{lies, isElement, isSeries, octetsIn};
+ghost use Rattle.tcap.specs.Verdict.{lies, isElement, isSeries, stringOctets};
 ghost use Rattle.write_check_row.specs.Judged.{sizeCap, joined, wrapped, octetJudged, octetsJudged, sizedJudged, nameJudged, elementJudged, seriesJudged};
 use base::piece;
 use primitive::MOST_IDENTIFIER_OCTETS;
@@ -92,7 +92,7 @@ fn lies_in(span: Span, material: &[u8]) -> bool
 // The octets of a string that lies in the material.
 pub fn octets_of(span: Span, material: &[u8]) -> &[u8]
     requires { ⌜ lies (length (now material)) span ≡ true ⌝ }
-    ensures { λ r. ⌜ now r ≡ octetsIn (now (material .entry)) span ⌝ }
+    ensures { λ r. ⌜ now r ≡ stringOctets (now (material .entry)) span ⌝ }
 {
     let place = span.place as usize;
     let len = span.len as usize;

@@ -9,7 +9,7 @@ ghost use Prim.Native.Nat.{_<_};
 ghost use lib.ListN.{length};
 ghost use Rattle.base.specs.inner.Back.{Room, PutBack};
 ghost use Rattle.element.specs.Form.{leaf, lengthOctets};
-ghost use Rattle.tcap.specs.Verdict.{lies, octetsIn};
+ghost use Rattle.tcap.specs.Verdict.{lies, stringOctets};
 ghost use Rattle.write_check_row.specs.Forms.{octetsOf};
 use base::back_part;
 use base::back_three;
@@ -44,8 +44,8 @@ pub fn back_leaf(out: &mut [u8], at: usize, tag: u8, contents: &[u8]) -> usize
 
 pub fn back_span(out: &mut [u8], at: usize, material: &[u8], string: Span) -> usize
     requires { ⌜ lies (length (now material)) string ≡ true ⌝ }
-    requires { ⌜ Room (now out) at (octetsIn (now material) string) ⌝ }
-    ensures { λ r. ⌜ PutBack (now (out .entry)) at (octetsIn (now (material .entry)) string) r (now (out .exit)) ⌝ }
+    requires { ⌜ Room (now out) at (stringOctets (now material) string) ⌝ }
+    ensures { λ r. ⌜ PutBack (now (out .entry)) at (stringOctets (now (material .entry)) string) r (now (out .exit)) ⌝ }
 {
     let octets = octets_of(string, material);
     back_part(out, at, octets)
@@ -54,8 +54,8 @@ pub fn back_span(out: &mut [u8], at: usize, material: &[u8], string: Span) -> us
 // An element whose contents are a string.
 pub fn back_string(out: &mut [u8], at: usize, material: &[u8], tag: u8, string: Span) -> usize
     requires { ⌜ lies (length (now material)) string ≡ true ⌝ }
-    requires { ⌜ Room (now out) at (octetsOf (leaf tag (octetsIn (now material) string))) ⌝ }
-    ensures { λ r. ⌜ PutBack (now (out .entry)) at (octetsOf (leaf tag (octetsIn (now (material .entry)) string))) r (now (out .exit)) ⌝ }
+    requires { ⌜ Room (now out) at (octetsOf (leaf tag (stringOctets (now material) string))) ⌝ }
+    ensures { λ r. ⌜ PutBack (now (out .entry)) at (octetsOf (leaf tag (stringOctets (now (material .entry)) string))) r (now (out .exit)) ⌝ }
 {
     let octets = octets_of(string, material);
     back_leaf(out, at, tag, octets)

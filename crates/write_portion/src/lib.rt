@@ -7,7 +7,7 @@ ghost use lib.ListN.{length};
 ghost use Rattle.base.specs.inner.Back.{Room, PutBack};
 ghost use Rattle.element.specs.Form.{leaf, around, then};
 ghost use Rattle.tcap.specs.Meaning.{octet, contextForm, sourceForm, external};
-ghost use Rattle.tcap.specs.Verdict.{lies, optionLies, dialogueLies, octetsIn};
+ghost use Rattle.tcap.specs.Verdict.{lies, optionLies, dialogueLies, stringOctets};
 ghost use Rattle.write_check_row.specs.Forms.{infoForm, askedForm, dialogueForm, octetsOf};
 ghost use Rattle.write_portion.specs.Enclosed.{named, opened, Encloses, Enclosed};
 use base::back_three;
@@ -36,8 +36,8 @@ fn back_info(out: &mut [u8], at: usize, material: &[u8], info: OptionalSpan) -> 
 // The application context name, A1 holding 06.
 fn back_context(out: &mut [u8], at: usize, material: &[u8], name: Span) -> usize
     requires { ⌜ lies (length (now material)) name ≡ true ⌝ }
-    requires { ⌜ Room (now out) at (octetsOf (contextForm (octetsIn (now material) name))) ⌝ }
-    ensures { λ r. ⌜ PutBack (now (out .entry)) at (octetsOf (contextForm (octetsIn (now (material .entry)) name))) r (now (out .exit)) ⌝ }
+    requires { ⌜ Room (now out) at (octetsOf (contextForm (stringOctets (now material) name))) ⌝ }
+    ensures { λ r. ⌜ PutBack (now (out .entry)) at (octetsOf (contextForm (stringOctets (now (material .entry)) name))) r (now (out .exit)) ⌝ }
 {
     let next = back_string(out, at, material, 0x06, name);
     back_head(out, next, 0xA1, at - next)
@@ -160,8 +160,8 @@ fn back_outside(
 ) -> usize
     requires { ⌜ lies (length (now material)) name ≡ true ⌝ }
     requires { ⌜ lies (length (now material)) string ≡ true ⌝ }
-    requires { ⌜ Room (now out) at (octetsOf (external (octetsIn (now material) name) (leaf tag (octetsIn (now material) string)))) ⌝ }
-    ensures { λ r. ⌜ PutBack (now (out .entry)) at (octetsOf (external (octetsIn (now (material .entry)) name) (leaf tag (octetsIn (now (material .entry)) string)))) r (now (out .exit)) ⌝ }
+    requires { ⌜ Room (now out) at (octetsOf (external (stringOctets (now material) name) (leaf tag (stringOctets (now material) string)))) ⌝ }
+    ensures { λ r. ⌜ PutBack (now (out .entry)) at (octetsOf (external (stringOctets (now (material .entry)) name) (leaf tag (stringOctets (now (material .entry)) string)))) r (now (out .exit)) ⌝ }
 {
     let next = back_string(out, at, material, tag, string);
     let octets = octets_of(name, material);

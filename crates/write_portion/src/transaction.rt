@@ -4,7 +4,7 @@ ghost use mathlib.Core.Bool.{true};
 ghost use lib.ListN.{length};
 ghost use Rattle.base.specs.inner.Back.{Room, PutBack};
 ghost use Rattle.element.specs.Form.{leaf};
-ghost use Rattle.tcap.specs.Verdict.{lies, octetsIn, origLies, destLies};
+ghost use Rattle.tcap.specs.Verdict.{lies, stringOctets, origLies, destLies};
 ghost use Rattle.write_check_row.specs.Forms.{origForm, destForm, octetsOf};
 use tcap::OptionalDest;
 use tcap::OptionalOrig;
@@ -13,8 +13,8 @@ use write_head::back_string;
 
 fn back_transaction(out: &mut [u8], at: usize, material: &[u8], tag: u8, id: TransactionId) -> usize
     requires { ⌜ lies (length (now material)) (id .octets) ≡ true ⌝ }
-    requires { ⌜ Room (now out) at (octetsOf (leaf tag (octetsIn (now material) (id .octets)))) ⌝ }
-    ensures { λ r. ⌜ PutBack (now (out .entry)) at (octetsOf (leaf tag (octetsIn (now (material .entry)) (id .octets)))) r (now (out .exit)) ⌝ }
+    requires { ⌜ Room (now out) at (octetsOf (leaf tag (stringOctets (now material) (id .octets)))) ⌝ }
+    ensures { λ r. ⌜ PutBack (now (out .entry)) at (octetsOf (leaf tag (stringOctets (now (material .entry)) (id .octets)))) r (now (out .exit)) ⌝ }
 {
     let octets = id.octets;
     back_string(out, at, material, tag, octets)

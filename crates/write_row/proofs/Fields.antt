@@ -13,7 +13,7 @@ use Rattle.base.proofs.Backs.{room-last}
 use Rattle.element.specs.Form.{then, shortest}
 use Rattle.tcap.specs.declared.{Span.Span, OptionalSpan.OptionalSpan, InvokeId.InvokeId, LinkedId.LinkedId, Code.Code, Returned.Returned, ComponentKind.ComponentKind, Row.Row}
 use Rattle.tcap.specs.Meaning.{integer, problemForm}
-use Rattle.tcap.specs.Verdict.{lies, optionLies, codeLies, returnedLies, octetsIn}
+use Rattle.tcap.specs.Verdict.{lies, optionLies, codeLies, returnedLies, stringOctets}
 use Rattle.write_check_row.specs.Forms.{idForm, linkedForm, codeForm, parameterForm, returnedForm, contentsForm, rowForm, octetsOf}
 use Rattle.layout.specs.Layout.{isProblemTag, problemIn}
 use Rattle.write_head.proofs.Heads.{room-inside}
@@ -62,9 +62,9 @@ module _ (m : List ℕ) where
   coded-room l c p r = room-last (octetsOf (linkedForm l)) r
 
   -- and of what is in a 30, and in a component
-  pub both-inside : (c : Code) (p : Span) {d : List ℕ} {at : ℕ} → Room d at (octetsOf (returnedForm m (Returned.Both c p))) → Room d at (octetsOf (codeForm m c) ++ octetsIn m p)
+  pub both-inside : (c : Code) (p : Span) {d : List ℕ} {at : ℕ} → Room d at (octetsOf (returnedForm m (Returned.Both c p))) → Room d at (octetsOf (codeForm m c) ++ stringOctets m p)
   unfolding returnedForm shortest
-  both-inside c p r = room-inside 0x30 (octetsOf (codeForm m c) ++ octetsIn m p) r
+  both-inside c p r = room-inside 0x30 (octetsOf (codeForm m c) ++ stringOctets m p) r
 
   pub row-inside : (w : Row) {d : List ℕ} {at : ℕ} → Room d at (octetsOf (rowForm m w)) → Room d at (octetsOf (idForm (w .id)) ++ octetsOf (restForm m (w .kind)))
   unfolding rowForm shortest

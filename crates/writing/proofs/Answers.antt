@@ -18,7 +18,7 @@ use Rattle.write_check_row.specs.Judged.{sizeCap}
 use Rattle.writing.specs.declared.{WriteFault.WriteFault, Written.Written}
 use Rattle.writing.specs.Writing.{messageOf, RecordOk, unless, writing, Writes, RecordTyped}
 use Rattle.writing.specs.inner.Ranks.{faultAt}
-use Rattle.writing.proofs.Meant.{checked-means}
+use Rattle.writing.proofs.WellFormed.{checked-means}
 use Rattle.writing.proofs.Formed.{forms-same}
 use Rattle.writing.proofs.Promises.{message-is, ok-answer, leaves-message, leaves-alone}
 

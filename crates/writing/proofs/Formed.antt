@@ -14,7 +14,7 @@ use Rattle.write_check_row.specs.Forms.{octetsOf}
 use Rattle.writing.proofs.Parts.{optionIn, codeIn, bothIn, idIn, rowIn, rowsIn, endingIn, origIn, destIn}
 use Rattle.writing.proofs.Making.{made-octets}
 use Rattle.writing.proofs.Testing.{both-true}
-use Rattle.writing.proofs.Meant.{found}
+use Rattle.writing.proofs.WellFormed.{found}
 use Rattle.tcap.specs.Record.{rowTag}
 
 module _ (m : List ℕ) where

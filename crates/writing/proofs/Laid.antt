@@ -15,7 +15,7 @@ use Rattle.tcap.specs.Record.{blankRow, meaningOf}
 use Rattle.layout.specs.Layout.{mostRows, recordSize, recordOctets}
 use Rattle.layout.specs.Fits.{RecordFits}
 use Rattle.layout.proofs.RoundTrip.{blanked, record-length, record-is, record-back}
-use Rattle.pack.specs.Laid.{laidOut}
+use Rattle.pack.specs.LaidOut.{laidOut}
 use Rattle.tcap.specs.Verdict.{counted, partsFit, allParts, allRanges, allLie, allShaped}
 use Rattle.writing.specs.declared.{Written.Written}
 use Rattle.writing.specs.Writing.{messageOf, writing, leaves, Writes}

@@ -1,7 +1,7 @@
 pub mod Parts
 pub mod Making
 pub mod Testing
-pub mod Meant
+pub mod WellFormed
 pub mod Formed
 pub mod Promises
 pub mod Reasons
@@ -10,6 +10,6 @@ pub mod Shortest
 pub mod Fitting
 pub mod Answers
 pub mod Specimens
-pub mod Told
+pub mod Judgements
 pub mod Standing
 pub mod Laid

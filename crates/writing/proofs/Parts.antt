@@ -9,7 +9,7 @@ use lib.IntN.{ℤ, pos}
 use Rattle.tcap.specs.declared.{Span.Span, OptionalSpan.OptionalSpan, OptionalOrig.OptionalOrig, OptionalDest.OptionalDest, InvokeId.InvokeId, Code.Code as CodeField, Returned.Returned, ComponentKind.ComponentKind, Row.Row, Dialogue.Dialogue as DialogueField}
 use Rattle.tcap.specs.Meaning.{Originating, orig, Destination, dest, Code, local, global, Component, invoke, last, notLast, error, reject, Dialogue, request, unidialogue, response, aborted, single, octets, Ending, silent, cause, says}
 use Rattle.tcap.specs.Record.{octetsAt, spanMeans, codeMeans, bothMeans, idMeans, linkedMeans, rowMeans, rowsMean, named, endingMeans, origMeans, destMeans}
-use Rattle.tcap.specs.Verdict.{every, idThere, rowPartsFit, lies, optionLies, origLies, destLies, codeLies, returnedLies, rowLies, dialogueLies, octetsIn}
+use Rattle.tcap.specs.Verdict.{every, idThere, rowPartsFit, lies, optionLies, origLies, destLies, codeLies, returnedLies, rowLies, dialogueLies, stringOctets}
 
 -- a value that is there if the test holds
 abbrev pub given : {A : Type 0} → Bool → A → Option A
@@ -44,15 +44,15 @@ given-four false p q v w a b c d f = refl
 module _ (m : List ℕ) where
   abbrev pub optionIn : OptionalSpan → Option (List ℕ)
   optionIn OptionalSpan.Absent = none
-  optionIn (OptionalSpan.Present s) = some (octetsIn m s)
+  optionIn (OptionalSpan.Present s) = some (stringOctets m s)
 
   abbrev pub codeIn : CodeField → Code (List ℕ)
   codeIn (CodeField.Local z) = local z
-  codeIn (CodeField.Global s) = global (octetsIn m s)
+  codeIn (CodeField.Global s) = global (stringOctets m s)
 
   abbrev pub bothIn : Returned → Option (Code (List ℕ) × List ℕ)
   bothIn Returned.Bare = none
-  bothIn (Returned.Both c p) = some (codeIn c, octetsIn m p)
+  bothIn (Returned.Both c p) = some (codeIn c, stringOctets m p)
 
   -- where a null may not stand its value does not matter
   abbrev pub idIn : InvokeId → ℤ
@@ -72,41 +72,41 @@ module _ (m : List ℕ) where
   abbrev pub endingIn : DialogueField → Ending (List ℕ)
   endingIn DialogueField.NoDialogue = silent
   endingIn (DialogueField.Cause n) = cause n
-  endingIn (DialogueField.Request n u) = says (request (octetsIn m n) (optionIn u))
-  endingIn (DialogueField.Response n r s u) = says (response (octetsIn m n) r s (optionIn u))
+  endingIn (DialogueField.Request n u) = says (request (stringOctets m n) (optionIn u))
+  endingIn (DialogueField.Response n r s u) = says (response (stringOctets m n) r s (optionIn u))
   endingIn (DialogueField.DialogueAbort r u) = says (aborted r (optionIn u))
-  endingIn (DialogueField.Unidialogue n u) = says (unidialogue (octetsIn m n) (optionIn u))
-  endingIn (DialogueField.OutsideElement n e) = says (single (octetsIn m n) (octetsIn m e))
-  endingIn (DialogueField.OutsideOctets n c) = says (octets (octetsIn m n) (octetsIn m c))
+  endingIn (DialogueField.Unidialogue n u) = says (unidialogue (stringOctets m n) (optionIn u))
+  endingIn (DialogueField.OutsideElement n e) = says (single (stringOctets m n) (stringOctets m e))
+  endingIn (DialogueField.OutsideOctets n c) = says (octets (stringOctets m n) (stringOctets m c))
 
   abbrev pub origIn : OptionalOrig → Option (Originating (List ℕ))
   origIn OptionalOrig.NoOrig = none
-  origIn (OptionalOrig.Orig o) = some (orig (octetsIn m (o .0 .octets)))
+  origIn (OptionalOrig.Orig o) = some (orig (stringOctets m (o .0 .octets)))
 
   abbrev pub destIn : OptionalDest → Option (Destination (List ℕ))
   destIn OptionalDest.NoDest = none
-  destIn (OptionalDest.Dest e) = some (dest (octetsIn m (e .0 .octets)))
+  destIn (OptionalDest.Dest e) = some (dest (stringOctets m (e .0 .octets)))
 
   -- The laws: a part means its value exactly if its strings lie within the material, and otherwise nothing
 
-  span-means : (s : Span) → octetsAt m s ≡ given (lies (length m) s) (octetsIn m s)
-  unfolding lies octetsIn
+  span-means : (s : Span) → octetsAt m s ≡ given (lies (length m) s) (stringOctets m s)
+  unfolding lies stringOctets
   span-means s = refl
 
   option-means : (u : OptionalSpan) → spanMeans m u ≡ given (optionLies (length m) u) (optionIn u)
   unfolding optionLies
   option-means OptionalSpan.Absent = refl
-  option-means (OptionalSpan.Present s) = rw (span-means s) (given-one (lies (length m) s) (octetsIn m s) some)
+  option-means (OptionalSpan.Present s) = rw (span-means s) (given-one (lies (length m) s) (stringOctets m s) some)
 
   code-means : (c : CodeField) → codeMeans m c ≡ given (codeLies (length m) c) (codeIn c)
   unfolding codeLies
   code-means (CodeField.Local z) = refl
-  code-means (CodeField.Global s) = rw (span-means s) (given-one (lies (length m) s) (octetsIn m s) global)
+  code-means (CodeField.Global s) = rw (span-means s) (given-one (lies (length m) s) (stringOctets m s) global)
 
   both-means : (r : Returned) → bothMeans m r ≡ given (returnedLies (length m) r) (bothIn r)
   unfolding returnedLies
   both-means Returned.Bare = refl
-  both-means (Returned.Both c p) = rw (code-means c, span-means p) (given-two (codeLies (length m) c) (lies (length m) p) (codeIn c) (octetsIn m p) (λ c p. some (c, p)))
+  both-means (Returned.Both c p) = rw (code-means c, span-means p) (given-two (codeLies (length m) c) (lies (length m) p) (codeIn c) (stringOctets m p) (λ c p. some (c, p)))
 
   id-means : (i : InvokeId) → idMeans m i ≡ given (idThere i) (idIn i)
   unfolding idThere
@@ -131,11 +131,11 @@ module _ (m : List ℕ) where
   rows-mean [] = refl
   rows-mean (w ∷ rs) = rw (row-means (w .id) (w .kind), rows-mean rs) (given-two (rowThere w) (every rowThere rs) (rowIn (w .id) (w .kind)) (rowsIn rs) _∷_)
 
-  named-means : (n : Span) (u : OptionalSpan) (f : List ℕ → Option (List ℕ) → Dialogue (List ℕ)) → named m n u f ≡ given (lies (length m) n && optionLies (length m) u) (says (f (octetsIn m n) (optionIn u)))
-  named-means n u f = rw (span-means n, option-means u) (given-two (lies (length m) n) (optionLies (length m) u) (octetsIn m n) (optionIn u) (λ n u. says (f n u)))
+  named-means : (n : Span) (u : OptionalSpan) (f : List ℕ → Option (List ℕ) → Dialogue (List ℕ)) → named m n u f ≡ given (lies (length m) n && optionLies (length m) u) (says (f (stringOctets m n) (optionIn u)))
+  named-means n u f = rw (span-means n, option-means u) (given-two (lies (length m) n) (optionLies (length m) u) (stringOctets m n) (optionIn u) (λ n u. says (f n u)))
 
-  outside-means : (n s : Span) (f : List ℕ → List ℕ → Dialogue (List ℕ)) → bind (octetsAt m n) (λ n. bind (octetsAt m s) (λ c. some (says (f n c)))) ≡ given (lies (length m) n && lies (length m) s) (says (f (octetsIn m n) (octetsIn m s)))
-  outside-means n s f = rw (span-means n, span-means s) (given-two (lies (length m) n) (lies (length m) s) (octetsIn m n) (octetsIn m s) (λ n c. says (f n c)))
+  outside-means : (n s : Span) (f : List ℕ → List ℕ → Dialogue (List ℕ)) → bind (octetsAt m n) (λ n. bind (octetsAt m s) (λ c. some (says (f n c)))) ≡ given (lies (length m) n && lies (length m) s) (says (f (stringOctets m n) (stringOctets m s)))
+  outside-means n s f = rw (span-means n, span-means s) (given-two (lies (length m) n) (lies (length m) s) (stringOctets m n) (stringOctets m s) (λ n c. says (f n c)))
 
   pub ending-means : (d : DialogueField) → endingMeans m d ≡ given (dialogueLies (length m) d) (endingIn d)
   unfolding dialogueLies
@@ -151,9 +151,9 @@ module _ (m : List ℕ) where
   pub orig-means : (o : OptionalOrig) → origMeans m o ≡ given (origLies (length m) o) (origIn o)
   unfolding origLies
   orig-means OptionalOrig.NoOrig = refl
-  orig-means (OptionalOrig.Orig o) = rw (span-means (o .0 .octets)) (given-one (lies (length m) (o .0 .octets)) (octetsIn m (o .0 .octets)) (λ c. some (orig c)))
+  orig-means (OptionalOrig.Orig o) = rw (span-means (o .0 .octets)) (given-one (lies (length m) (o .0 .octets)) (stringOctets m (o .0 .octets)) (λ c. some (orig c)))
 
   pub dest-means : (e : OptionalDest) → destMeans m e ≡ given (destLies (length m) e) (destIn e)
   unfolding destLies
   dest-means OptionalDest.NoDest = refl
-  dest-means (OptionalDest.Dest e) = rw (span-means (e .0 .octets)) (given-one (lies (length m) (e .0 .octets)) (octetsIn m (e .0 .octets)) (λ c. some (dest c)))
+  dest-means (OptionalDest.Dest e) = rw (span-means (e .0 .octets)) (given-one (lies (length m) (e .0 .octets)) (stringOctets m (e .0 .octets)) (λ c. some (dest c)))

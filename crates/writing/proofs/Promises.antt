@@ -23,7 +23,7 @@ use Rattle.tcap.specs.Reading.{locatedUpTo, answered, readingUpTo, reading}
 use Rattle.tcap.proofs.Promises.{reads-accepted, accepted-reads, written-reads, written-least}
 use Rattle.writing.specs.declared.{WriteFault.WriteFault, Written.Written}
 use Rattle.writing.specs.Writing.{writeNumber, messageOf, RecordOk, unless, writing, RefusedWith, behind, leaves, Writes, ReadsAs, RecordTyped}
-use Rattle.writing.proofs.Meant.{found, checked-means, means-checked}
+use Rattle.writing.proofs.WellFormed.{found, checked-means, means-checked}
 
 -- what is not refused has passed the test
 passed : {n : ℕ} (b : Bool) (f : WriteFault) (w : Written) → unless b f w ≡ Written.Length n → (b ≡ true) × (w ≡ Written.Length n)

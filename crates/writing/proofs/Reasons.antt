@@ -15,11 +15,11 @@ use Rattle.tcap.specs.Meaning.{structured, unstructured}
 use Rattle.tcap.specs.declared.{OptionalSpan.OptionalSpan, OptionalOrig.OptionalOrig, OptionalDest.OptionalDest, InvokeId.InvokeId, LinkedId.LinkedId, Code.Code, Problem.Problem, Diagnostic.Diagnostic, Returned.Returned, ComponentKind.ComponentKind, Row.Row, Dialogue.Dialogue, MessageKind.MessageKind, Record.Record}
 use Rattle.tcap.specs.WellFormed.{mostComponents, mostTransactionIdOctets, the93, leftAt}
 use Rattle.layout.specs.Fits.{IdFits, LinkedFits}
-use Rattle.tcap.specs.Verdict.{every, counted, origThere, destThere, causeThere, partsFit, idThere, rowPartsFit, allParts, ranges, origRanges, destRanges, codeRanges, problemRanges, returnedRanges, rowRanges, sourceRanges, dialogueRanges, allRanges, lies, optionLies, origLies, destLies, codeLies, returnedLies, rowLies, dialogueLies, allLie, isElement, isSeries, octetsIn, parameterShaped, infoShaped, codeShaped, returnedShaped, rowShaped, dialogueShaped, allShaped}
+use Rattle.tcap.specs.Verdict.{every, counted, origThere, destThere, causeThere, partsFit, idThere, rowPartsFit, allParts, ranges, origRanges, destRanges, codeRanges, problemRanges, returnedRanges, rowRanges, sourceRanges, dialogueRanges, allRanges, lies, optionLies, origLies, destLies, codeLies, returnedLies, rowLies, dialogueLies, allLie, isElement, isSeries, stringOctets, parameterShaped, infoShaped, codeShaped, returnedShaped, rowShaped, dialogueShaped, allShaped}
 use Rattle.writing.specs.Writing.{CodeTyped, ReturnedTyped, KindTyped, RowTyped, RecordTyped}
 use Rattle.writing.specs.Reasons.{Need, must, may, never, Wanted, transaction, identifier, outside, series, anything, element, Part, there, number, signed, string, needsOf, origParts, destParts, optionParts, sourcePart, dialogueParts, idParts, linkedParts, codePart, returnedParts, problemPart, rowParts, rowsParts, partsOf, Misfit, LengthOff, RangeOff, Shaped, EndOff, ShapeOff, Any, SomePart}
 use Rattle.writing.proofs.Testing.{element-is, series-is}
-use Rattle.writing.proofs.Meant.{every-take}
+use Rattle.writing.proofs.WellFormed.{every-take}
 
 -- A test that fails just if something is wrong
 
@@ -99,7 +99,7 @@ module _ (m : List ℕ) where
   shaped (there n b) = true
   shaped (number n most) = true
   shaped (signed k z) = true
-  shaped (string w s) = shapedAs w (octetsIn m s)
+  shaped (string w s) = shapedAs w (stringOctets m s)
 
 -- Each tells what it is to tell
 
@@ -162,11 +162,11 @@ module _ (m : List ℕ) where
   end-tells (string w s) = most-tells (s .place + s .len) (length m)
 
   shaped-tells : (p : Part) → Tells (shaped m p) (ShapeOff m p)
-  unfolding shaped ShapeOff octetsIn
+  unfolding shaped ShapeOff stringOctets
   shaped-tells (there n b) = never-wrong
   shaped-tells (number n most) = never-wrong
   shaped-tells (signed k z) = never-wrong
-  shaped-tells (string w s) = shape-tells w (octetsIn m s)
+  shaped-tells (string w s) = shape-tells w (stringOctets m s)
 
 -- 24: the tests of a record are those of its parts
 

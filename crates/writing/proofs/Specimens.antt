@@ -21,14 +21,14 @@ use Rattle.tcap.specs.Meaning.{componentForm, componentsForm, dialogueForm, end
 use Rattle.tcap.specs.Record.{rowsMean, meaningOf}
 use Rattle.tcap.proofs.Computing.{outcomeOf}
 use Rattle.tcap.proofs.Specimens.{spanAt, origAt, destAt, accepts}
-use Rattle.tcap.specs.Verdict.{every, origThere, destThere, causeThere, partsFit, idThere, rowPartsFit, allParts, ranges, origRanges, destRanges, codeRanges, problemRanges, returnedRanges, rowRanges, sourceRanges, dialogueRanges, allRanges, lies, optionLies, origLies, destLies, codeLies, returnedLies, rowLies, dialogueLies, allLie, tookAll, isElement, isSeries, octetsIn, parameterShaped, infoShaped, codeShaped, returnedShaped, rowShaped, dialogueShaped, allShaped}
+use Rattle.tcap.specs.Verdict.{every, origThere, destThere, causeThere, partsFit, idThere, rowPartsFit, allParts, ranges, origRanges, destRanges, codeRanges, problemRanges, returnedRanges, rowRanges, sourceRanges, dialogueRanges, allRanges, lies, optionLies, origLies, destLies, codeLies, returnedLies, rowLies, dialogueLies, allLie, tookAll, isElement, isSeries, stringOctets, parameterShaped, infoShaped, codeShaped, returnedShaped, rowShaped, dialogueShaped, allShaped}
 use Rattle.writing.specs.declared.{Written.Written}
 use Rattle.writing.specs.Writing.{writeNumber, messageOf, writing, behind, leaves}
 use Rattle.writing.proofs.Order.{numberIn}
 
 -- with every definition open
 unfoldable pub called : Record → List ℕ → List ℕ → Written × List ℕ
-unfolding numberFrom octetsOf topOf signedAt bitsAt holds same seriesForm shortest fewestOf digits lengthOctets constructorOf extendedOf codeZero widthFrom integerOctets numbers identifierOk endOf third second first tagOf within longOf lengthOf next check blamed askLength askTag atEnd askEnd ask leafContents inside onward seriesBody walkPick walkContents wantedItem walkOf elementWalk seriesWalk componentForm componentsForm dialogueForm endingForm messageForm written rowsMean meaningOf bind every origThere destThere causeThere partsFit idThere rowPartsFit allParts ranges origRanges destRanges codeRanges problemRanges returnedRanges rowRanges sourceRanges dialogueRanges allRanges lies optionLies origLies destLies codeLies returnedLies rowLies dialogueLies allLie tookAll isElement isSeries octetsIn parameterShaped infoShaped codeShaped returnedShaped rowShaped dialogueShaped allShaped messageOf writing behind leaves
+unfolding numberFrom octetsOf topOf signedAt bitsAt holds same seriesForm shortest fewestOf digits lengthOctets constructorOf extendedOf codeZero widthFrom integerOctets numbers identifierOk endOf third second first tagOf within longOf lengthOf next check blamed askLength askTag atEnd askEnd ask leafContents inside onward seriesBody walkPick walkContents wantedItem walkOf elementWalk seriesWalk componentForm componentsForm dialogueForm endingForm messageForm written rowsMean meaningOf bind every origThere destThere causeThere partsFit idThere rowPartsFit allParts ranges origRanges destRanges codeRanges problemRanges returnedRanges rowRanges sourceRanges dialogueRanges allRanges lies optionLies origLies destLies codeLies returnedLies rowLies dialogueLies allLie tookAll isElement isSeries stringOctets parameterShaped infoShaped codeShaped returnedShaped rowShaped dialogueShaped allShaped messageOf writing behind leaves
 called r m out = (writing r m (length out), leaves r m out)
 
 -- the record and the octets beside it, the buffer before; the number (0: written), the length, the buffer after

@@ -21,7 +21,7 @@ use Rattle.tcap.specs.Verdict.{every, counted, rowLies, allParts, allRanges, al
 use Rattle.write_check_row.specs.Forms.{rowForm, recordForm}
 use Rattle.write_check_row.specs.Judged.{rankOf, sizeCap, judged, listed, joined, wholeSize, wrapped, sizeOf, rowsRank, rowsJudged}
 use Rattle.write_check_row.proofs.Rows.{rows-none}
-use Rattle.write_check.specs.Whole.{portionOf, messageJudged}
+use Rattle.write_check.specs.Judgements.{portionOf, messageJudged}
 use Rattle.write_check.proofs.Messages.{portion-law, record-law, message-bad}
 use Rattle.layout.specs.Layout.{headSize, rowSize, mostRows, recordSize, octet, numberAt, spanAt, idIn, linkedIn, codeIn, returnedIn, kindIn, rowIn, rowsIn, rowsHeld, rowsLooked, areRows, isHead, isRecord, recordIn}
 use Rattle.unpack.proofs.Rows.{rows-length}
@@ -31,7 +31,7 @@ use Rattle.writing.specs.Writing.{Writes, CodeTyped, ReturnedTyped, Kind
 use Rattle.writing.specs.inner.Ranks.{faultAt}
 use Rattle.writing.specs.Octets.{writingOctets, leavesOctets}
 use Rattle.writing.proofs.Answers.{bad-writes}
-use Rattle.writing.proofs.Told.{fine-tells, bad-tells}
+use Rattle.writing.proofs.Judgements.{fine-tells, bad-tells}
 
 -- Of enough octets, a head and rows are a record
 module _ (l : List ℕ) (long : recordSize ≤ length l) where

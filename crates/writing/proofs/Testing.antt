@@ -13,12 +13,12 @@ use Rattle.base.specs.Value.{Every, Maybe, same}
 use Rattle.element.specs.declared.{Walk.Walk}
 use Rattle.primitive.specs.Primitive.{between, mostIdentifierOctets, numbers, identifierOk}
 use Rattle.element.specs.Element.{Element, SeriesOf}
-use Rattle.element.proofs.Whole.{element-walk-is, series-walk-is}
+use Rattle.element.proofs.WalkedWhole.{element-walk-is, series-walk-is}
 use Rattle.tcap.specs.declared.{Span.Span, OptionalSpan.OptionalSpan, OptionalOrig.OptionalOrig, OptionalDest.OptionalDest, InvokeId.InvokeId, LinkedId.LinkedId, Code.Code, Problem.Problem, Diagnostic.Diagnostic, Returned.Returned, ComponentKind.ComponentKind, Row.Row, Dialogue.Dialogue}
 use Rattle.tcap.specs.Meaning.{structured, unstructured}
 use Rattle.tcap.specs.WellFormed.{the93, leftAt, idOk, InvokeIdOk, CodeOk, ProblemOk, BothOk, ComponentOk, SourceOk, Outside, DialogueOk, EndingOk, OrigOk, DestOk}
 use Rattle.tcap.specs.Record.{idMeans, linkedMeans}
-use Rattle.tcap.specs.Verdict.{every, ranges, idRanges, nameRanges, origRanges, destRanges, codeRanges, problemRanges, returnedRanges, rowRanges, sourceRanges, dialogueRanges, lies, optionLies, origLies, destLies, codeLies, returnedLies, rowLies, dialogueLies, tookAll, isElement, isSeries, octetsIn, parameterShaped, infoShaped, nameShaped, outsideShaped, codeShaped, returnedShaped, rowShaped, dialogueShaped}
+use Rattle.tcap.specs.Verdict.{every, ranges, idRanges, nameRanges, origRanges, destRanges, codeRanges, problemRanges, returnedRanges, rowRanges, sourceRanges, dialogueRanges, lies, optionLies, origLies, destLies, codeLies, returnedLies, rowLies, dialogueLies, tookAll, isElement, isSeries, stringOctets, parameterShaped, infoShaped, nameShaped, outsideShaped, codeShaped, returnedShaped, rowShaped, dialogueShaped}
 use Rattle.layout.specs.Fits.{IdFits, LinkedFits}
 use Rattle.writing.specs.Writing.{CodeTyped, ReturnedTyped, KindTyped, RowTyped}
 use Rattle.writing.proofs.Parts.{optionIn, codeIn, bothIn, idIn, rowIn, rowsIn, endingIn, origIn, destIn}
@@ -94,22 +94,22 @@ source-is (Diagnostic.ByProvider n) = Iff·rfl
 module _ (m : List ℕ) where
   -- Strings
 
-  pub length-in : (s : Span) → lies (length m) s ≡ true → length (octetsIn m s) ≡ s .len
-  unfolding lies octetsIn
+  pub length-in : (s : Span) → lies (length m) s ≡ true → length (stringOctets m s) ≡ s .len
+  unfolding lies stringOctets
   length-in s h = let k : s .place + s .len ≤ length m = leb-true _ _ h in simp (length-take, length-drop) (omega arith)
 
-  id-range : (s : Span) → lies (length m) s ≡ true → idOk (octetsIn m s) ≡ idRanges s
+  id-range : (s : Span) → lies (length m) s ≡ true → idOk (stringOctets m s) ≡ idRanges s
   unfolding idOk ranges
   id-range s h = rw (length-in s h)
 
-  name-is : (s : Span) → lies (length m) s ≡ true → Tested (identifierOk (octetsIn m s) ≡ true) (Unit {0}) (nameRanges s) (nameShaped m s)
+  name-is : (s : Span) → lies (length m) s ≡ true → Tested (identifierOk (stringOctets m s) ≡ true) (Unit {0}) (nameRanges s) (nameShaped m s)
   unfolding ranges identifierOk
-  name-is s h = record { fine = λ f r k. k; told = λ o. (tt, rw (length-in s h) at (both-true (between 1 mostIdentifierOctets (octetsIn m s)) (numbers (octetsIn m s) true) o .0), o) }
+  name-is s h = record { fine = λ f r k. k; told = λ o. (tt, rw (length-in s h) at (both-true (between 1 mostIdentifierOctets (stringOctets m s)) (numbers (stringOctets m s) true) o .0), o) }
 
-  outside-is : (s : Span) → lies (length m) s ≡ true → Tested (Outside (octetsIn m s)) (Unit {0}) (nameRanges s) (outsideShaped m s)
+  outside-is : (s : Span) → lies (length m) s ≡ true → Tested (Outside (stringOctets m s)) (Unit {0}) (nameRanges s) (outsideShaped m s)
   outside-is s h =
-      let a : Bool = same structured (octetsIn m s) in
-      let b : Bool = same unstructured (octetsIn m s) in
+      let a : Bool = same structured (stringOctets m s) in
+      let b : Bool = same unstructured (stringOctets m s) in
       record {
         fine = λ f r k. let z = both-true _ _ k in let y = both-true _ _ (z .1) in (z .0, not-true a (y .0), not-true b (y .1));
         told = λ o. (tt, name-is s h .told (o .0) .1, all-true _ _ (o .0) (all-true _ _ (ap not (o .1)) (ap not (o .2))));
@@ -135,17 +135,17 @@ module _ (m : List ℕ) where
   parameter-is : (u : OptionalSpan) → Maybe (Element (leftAt the93 4)) (optionIn m u) ↔ (parameterShaped m u ≡ true)
   unfolding parameterShaped
   parameter-is OptionalSpan.Absent = (λ x. refl, λ x. tt)
-  parameter-is (OptionalSpan.Present s) = element-is _ (octetsIn m s)
+  parameter-is (OptionalSpan.Present s) = element-is _ (stringOctets m s)
 
   info-is : (u : OptionalSpan) → Maybe (SeriesOf 0x28 (leftAt the93 7)) (optionIn m u) ↔ (infoShaped m u ≡ true)
   unfolding infoShaped
   info-is OptionalSpan.Absent = (λ x. refl, λ x. tt)
-  info-is (OptionalSpan.Present s) = series-is _ (octetsIn m s)
+  info-is (OptionalSpan.Present s) = series-is _ (stringOctets m s)
 
   both-is : (r : Returned) → returnedLies (length m) r ≡ true → Tested (Maybe (BothOk the93) (bothIn m r)) (ReturnedTyped r) (returnedRanges r) (returnedShaped m r)
   unfolding returnedLies returnedRanges returnedShaped
   both-is Returned.Bare h = record { fine = λ f r k. tt; told = λ o. (tt, refl, refl) }
-  both-is (Returned.Both c p) h = tested-shape (code-is c (both-true _ _ h .0)) (element-is _ (octetsIn m p))
+  both-is (Returned.Both c p) h = tested-shape (code-is c (both-true _ _ h .0)) (element-is _ (stringOctets m p))
 
   coded-is : (c : Code) (u : OptionalSpan) → (codeLies (length m) c && optionLies (length m) u) ≡ true
       → Tested (CodeOk (codeIn m c) × Maybe (Element (leftAt the93 4)) (optionIn m u)) (CodeTyped c) (codeRanges c) (codeShaped m c && parameterShaped m u)
@@ -179,7 +179,7 @@ module _ (m : List ℕ) where
       }
 
   named-is : (n : Span) (u : OptionalSpan) → (lies (length m) n && optionLies (length m) u) ≡ true
-      → Tested ((identifierOk (octetsIn m n) ≡ true) × Maybe (SeriesOf 0x28 (leftAt the93 7)) (optionIn m u)) (Unit {0}) (nameRanges n) (nameShaped m n && infoShaped m u)
+      → Tested ((identifierOk (stringOctets m n) ≡ true) × Maybe (SeriesOf 0x28 (leftAt the93 7)) (optionIn m u)) (Unit {0}) (nameRanges n) (nameShaped m n && infoShaped m u)
   named-is n u h = tested-shape (name-is n (both-true _ _ h .0)) (info-is u)
 
   pub ending-is : (d : Dialogue) → dialogueLies (length m) d ≡ true → Tested (EndingOk the93 (endingIn m d)) (Unit {0}) (dialogueRanges d) (dialogueShaped m d)
@@ -195,7 +195,7 @@ module _ (m : List ℕ) where
         told = λ o. let q = j .told (o .0, o .3) in (tt, all-true _ _ (q .1) (all-true _ _ (o .1) (source-is s .0 (o .2))), q .2);
       }
   ending-is (Dialogue.DialogueAbort r u) h = record { fine = λ f g k. (g, info-is u .1 k); told = λ o. (tt, o .0, info-is u .0 (o .1)) }
-  ending-is (Dialogue.OutsideElement n e) h = tested-shape (outside-is n (both-true _ _ h .0)) (element-is _ (octetsIn m e))
+  ending-is (Dialogue.OutsideElement n e) h = tested-shape (outside-is n (both-true _ _ h .0)) (element-is _ (stringOctets m e))
   ending-is (Dialogue.OutsideOctets n c) h = outside-is n (both-true _ _ h .0)
 
   pub rows-are : (rs : List Row) → every (λ w. rowLies (length m) (w .kind)) rs ≡ true

@@ -11,7 +11,7 @@ use Rattle.tcap.specs.Reading.{reading}
 use Rattle.read.proofs.Octets.{held-few, held-record}
 use Rattle.c_answer.specs.Answer.{outcomeBits}
 use Rattle.c_read.specs.Read.{readAnswer, recordRoom, readRoom}
-use Rattle.c_read.proofs.Kept.{laid-most}
+use Rattle.c_read.proofs.RoomAfter.{laid-most}
 use Rattle.c_read.proofs.read_answer.Statement.{statement}
 use Rattle.c_read.proofs.read_answer.Tie as tie
 

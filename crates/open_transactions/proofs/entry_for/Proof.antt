@@ -6,7 +6,7 @@ use Rattle.open_transactions.proofs.entry_for.Tie as tie
 
 returns : tie.Need-returns
 unfolding entryFor
-returns c = rw (c .partner-of .ensures, c .before .before .before .before .before .before .before .before .octet-at .ensures, c .before .before .before .before .before .before .before .octet-at2 .ensures, c .before .before .before .before .before .before .octet-at3 .ensures, c .before .before .before .before .before .octet-at4 .ensures, c .before .before .before .before .octet-at5 .ensures, c .before .before .before .octet-at6 .ensures, c .before .before .octet-at7 .ensures, c .before .octet-at8 .ensures)
+returns c = rw (c .partner-of .ensures, c .before .before .before .before .before .before .before .before .octet-or-zero .ensures, c .before .before .before .before .before .before .before .octet-or-zero2 .ensures, c .before .before .before .before .before .before .octet-or-zero3 .ensures, c .before .before .before .before .before .octet-or-zero4 .ensures, c .before .before .before .before .octet-or-zero5 .ensures, c .before .before .before .octet-or-zero6 .ensures, c .before .before .octet-or-zero7 .ensures, c .before .octet-or-zero8 .ensures)
 
 pub entry-for-spec : {M : Type 1} → statement M
 entry-for-spec =

@@ -11,7 +11,7 @@ use Rattle.layout.specs.Fits.{RecordFits}
 use Rattle.layout.specs.Layout.{rowsOctets, recordOctets}
 use Rattle.layout.proofs.RoundTrip.{head-length}
 use Rattle.layout.proofs.Typed.{record-typed}
-use Rattle.pack.specs.Laid.{laidOut}
+use Rattle.pack.specs.LaidOut.{laidOut}
 use Rattle.pack.proofs.Rows.{rows-step, row-room, looked-all}
 use Rattle.pack.proofs.put_record.Statement.{statement}
 use Rattle.pack.proofs.put_record.Tie as tie

@@ -4,7 +4,7 @@ use lib.ListN.{length, length-drop}
 use native.Mathlib.Omega.{arith}
 use borrow.Author.Needs.{needs}
 use Rattle.layout.specs.Layout.{rowsHeld}
-use Rattle.read.proofs.Whole.{looked-few, read-accepted, read-refused}
+use Rattle.read.proofs.Records.{looked-few, read-accepted, read-refused}
 use Rattle.read.proofs.read.Statement.{statement}
 use Rattle.read.proofs.read.Tie as tie
 

@@ -3,7 +3,7 @@ use borrow.Author.Needs.{needs}
 use native.Mathlib.Omega.{arith}
 use denote.Ref.{now}
 use lib.ListN.{length-set}
-use Rattle.read_component.proofs.Filled.{blame-owner, blame-id}
+use Rattle.read_component.proofs.RowsLeft.{blame-owner, blame-id}
 use Rattle.read_component.proofs.blame_component.Statement.{statement}
 use Rattle.read_component.proofs.blame_component.Tie as tie
 

@@ -11,13 +11,13 @@ use Rattle.read_component.proofs.known_id.Tie as tie
 add-result : tie.Need-add-result
 add-result c =
     let start = c .before .before .before .before .before .before .before .before .before in
-    let inside = octet-inside (start .args .m .now) (start .args .at) (start .args .stop) (start .pre .0 .0 .1) (start .pre .1) _ (c .before .before .before .before .before .before .is-component .ensures) (c .before .before .before .before .before .if1 .taken) _ (c .before .before .before .before .entry-asked .ensures) (start .pre .0 .0 .2) (c .before .before .before .if2 .left) _ (c .before .before .start-of .ensures) _ (c .before .octet-at .ensures) (c .if3 .left) in
+    let inside = octet-inside (start .args .m .now) (start .args .at) (start .args .stop) (start .pre .0 .0 .1) (start .pre .1) _ (c .before .before .before .before .before .before .is-component .ensures) (c .before .before .before .before .before .if1 .taken) _ (c .before .before .before .before .entry-asked .ensures) (start .pre .0 .0 .2) (c .before .before .before .if2 .left) _ (c .before .before .start-of .ensures) _ (c .before .one-octet-at .ensures) (c .if3 .left) in
     omega (arith, inside, start .pre .0 .0 .2)
 
 shared-slice-read-result : tie.Need-shared-slice-read-result
 shared-slice-read-result c =
     let start = c .before .before .before .before .before .before .before .before .before .before in
-    octet-inside (start .args .m .now) (start .args .at) (start .args .stop) (start .pre .0 .0 .1) (start .pre .1) _ (c .before .before .before .before .before .before .before .is-component .ensures) (c .before .before .before .before .before .before .if1 .taken) _ (c .before .before .before .before .before .entry-asked .ensures) (start .pre .0 .0 .2) (c .before .before .before .before .if2 .left) _ (c .before .before .before .start-of .ensures) _ (c .before .before .octet-at .ensures) (c .before .if3 .left)
+    octet-inside (start .args .m .now) (start .args .at) (start .args .stop) (start .pre .0 .0 .1) (start .pre .1) _ (c .before .before .before .before .before .before .before .is-component .ensures) (c .before .before .before .before .before .before .if1 .taken) _ (c .before .before .before .before .before .entry-asked .ensures) (start .pre .0 .0 .2) (c .before .before .before .before .if2 .left) _ (c .before .before .before .start-of .ensures) _ (c .before .before .one-octet-at .ensures) (c .before .if3 .left)
 
 returns-3 : tie.Need-returns-3
 returns-3 c =

@@ -5,9 +5,9 @@ use borrow.Author.Needs.{needs}
 use native.Mathlib.Omega.{arith}
 use lib.ListN.{length}
 use Rattle.read_place.specs.Places.{until}
-use Rattle.read_part.proofs.Laid.{stored}
+use Rattle.read_part.proofs.FieldsLeft.{stored}
 use Rattle.read_component.proofs.Rows.{rows-to, some-here}
-use Rattle.read_component.proofs.Filled.{Filling, filling-start, none-filled, ended-filled, cut-filled, full-filled, far-filled, filling-on, row-long}
+use Rattle.read_component.proofs.RowsLeft.{Filling, filling-start, none-filled, ended-filled, cut-filled, full-filled, far-filled, filling-on, row-long}
 use Rattle.read_component.proofs.rows_at.Statement.{statement}
 use Rattle.read_component.proofs.rows_at.Tie as tie
 

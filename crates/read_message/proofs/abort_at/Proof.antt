@@ -14,7 +14,7 @@ abort-at-spec =
     (tie.spec
     (λ c κs. search needs)
     (λ c. search needs)
-    (λ c. dest-fault endingBody layLast _ _ _ _ _ _ (c .before .before .before .id-at .ensures) (c .if1 .taken))
-    (λ c κs. omega (arith, reads-within _ (now (c .before .before .before .before .before .before .before .before .args .m)) _ _ _ (c .before .before .before .before .id-at .ensures .0) (c .before .if1 .left)))
+    (λ c. dest-fault endingBody layLast _ _ _ _ _ _ (c .before .before .before .transaction-id-into .ensures) (c .if1 .taken))
+    (λ c κs. omega (arith, reads-within _ (now (c .before .before .before .before .before .before .before .before .args .m)) _ _ _ (c .before .before .before .before .transaction-id-into .ensures .0) (c .before .if1 .left)))
     (λ c. search needs)
-    (λ c. dest-rest endingBody layLast _ _ _ _ _ _ (c .before .before .before .before .before .before .before .id-at .ensures) (c .before .before .before .before .if1 .left) _ _ (c .before .before .ending-at .ensures)))
+    (λ c. dest-rest endingBody layLast _ _ _ _ _ _ (c .before .before .before .before .before .before .before .transaction-id-into .ensures) (c .before .before .before .before .if1 .left) _ _ (c .before .before .ending-at .ensures)))

@@ -1,7 +1,7 @@
 -- `end_at` meets its contract. Assumes nothing.
 use denote.Ref.{now}
 use borrow.Author.Needs.{needs}
-use Rattle.read_message.proofs.Told.{end-there, end-fault}
+use Rattle.read_message.proofs.PortionFaults.{end-there, end-fault}
 use Rattle.read_message.proofs.end_at.Statement.{statement}
 use Rattle.read_message.proofs.end_at.Tie as tie
 

@@ -8,7 +8,7 @@ use borrow.Author.Needs.{needs}
 use Rattle.read_place.specs.Blames.{Blames}
 use Rattle.read_place.specs.Laying.{layEnding}
 use Rattle.read_place.proofs.Optional.{reads-within}
-use Rattle.read_part.proofs.Laid.{stored}
+use Rattle.read_part.proofs.FieldsLeft.{stored}
 use Rattle.read_row.proofs.Pairs.{last-out, last-fault, last-end}
 use Rattle.read_message.specs.Messages.{endingItem, layLast}
 use Rattle.read_message.proofs.Fields.{cause-room, cause-fault, cause-laid, says-laid}

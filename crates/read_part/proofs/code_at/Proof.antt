@@ -7,7 +7,7 @@ use mir.Syntax.{w32}
 use mir.Facts.{toZ-ofZ}
 use lib.ListN.{length-set}
 use Rattle.read_field.proofs.Fields.{local-none, local-good, local-bad, count-room, count-more}
-use Rattle.read_part.proofs.Laid.{name-sizes, global-far, global-near, local-far, local-near, local-left, bad-far, stored}
+use Rattle.read_part.proofs.FieldsLeft.{name-sizes, global-far, global-near, local-far, local-near, local-left, bad-far, stored}
 use Rattle.read_part.proofs.code_at.Statement.{statement}
 use Rattle.read_part.proofs.code_at.Tie as tie
 
@@ -16,7 +16,7 @@ returns-5 c =
     let value = rw (toZ-ofZ {w = w32} {z = c .before .before .before .before .before .before .value .given .0 .0} (record { sfits = c .before .before .before .before .before .known-told .given .0 .1 })) at (c .before .before .before .bits .ensures) in
     local-near _ _ _ (search needs) _ (c .before .before .before .before .before .before .before .before .before .before .before .before .before .stands .ensures) _ _ _ (c .before .before .before .before .before .before .before .before .before .before .before .before .if1 .left) (search local-good)
     (local-left _ _ _ _ (search needs) (search needs) (c .before .before .before .before .before .before .before .before .before .before .before .count-at .ensures) (c .before .before .before .before .before .before .before .before .before .before .if3 .left) _ _ (c .before .before .before .before .before .before .before .before .before .piece .ensures)
-    (c .before .before .before .before .before .before .before .before .integer-at .ensures) _ (c .before .before .before .before .before .before .value .given .1) _ _ _ value (c .before .before .put-number .ensures))
+    (c .before .before .before .before .before .before .before .before .integer-at .ensures) _ (c .before .before .before .before .before .before .value .given .1) _ _ _ value (c .before .before .lay-number .ensures))
 
 pub code-at-spec : {M : Type 1} → statement M
 code-at-spec =

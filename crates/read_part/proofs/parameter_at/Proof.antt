@@ -5,7 +5,7 @@ use Prim.Native.Nat.{_+_}
 use mathlib.Core.Path.{_∙_}
 use lib.ListN.{length-set}
 use Rattle.read_place.proofs.Walks.{walked-near}
-use Rattle.read_part.proofs.Laid.{fault-all, walk-from, parameter-missing, no-parameter, no-parameter-left, parameter-cut, parameter-far, parameter-near, parameter-left, stored}
+use Rattle.read_part.proofs.FieldsLeft.{fault-all, walk-from, parameter-missing, no-parameter, no-parameter-left, parameter-cut, parameter-far, parameter-near, parameter-left, stored}
 use Rattle.read_part.proofs.parameter_at.Statement.{statement}
 use Rattle.read_part.proofs.parameter_at.Tie as tie
 

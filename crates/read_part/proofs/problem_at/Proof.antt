@@ -1,6 +1,6 @@
 -- `problem_at` meets its contract. Assumes nothing.
 use borrow.Author.Needs.{needs}
-use Rattle.read_part.proofs.Laid.{invoke-both, result-both, error-both, general-both}
+use Rattle.read_part.proofs.FieldsLeft.{invoke-both, result-both, error-both, general-both}
 use Rattle.read_part.proofs.problem_at.Statement.{statement}
 use Rattle.read_part.proofs.problem_at.Tie as tie
 

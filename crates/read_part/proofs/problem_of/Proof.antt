@@ -1,6 +1,6 @@
 -- `problem_of` meets its contract. Assumes nothing.
 use borrow.Author.Needs.{needs}
-use Rattle.read_part.proofs.Laid.{fault-one, small-inside, small-left}
+use Rattle.read_part.proofs.FieldsLeft.{fault-one, small-inside, small-left}
 use Rattle.read_part.proofs.problem_of.Statement.{statement}
 use Rattle.read_part.proofs.problem_of.Tie as tie
 

@@ -1,6 +1,6 @@
 -- `reject_id_at` meets its contract. Assumes nothing.
 use borrow.Author.Needs.{needs}
-use Rattle.read_part.proofs.Laid.{null-both, number-both}
+use Rattle.read_part.proofs.FieldsLeft.{null-both, number-both}
 use Rattle.read_part.proofs.reject_id_at.Statement.{statement}
 use Rattle.read_part.proofs.reject_id_at.Tie as tie
 
@@ -13,4 +13,4 @@ reject-id-at-spec =
     (λ c. null-both _ _ _ _ (search needs) _ (c .before .before .stands .ensures) _ (c .before .if1 .taken) (c .null-at .ensures))
     (λ c κs. search needs)
     (λ c. search needs)
-    (λ c. number-both _ _ _ _ (search needs) _ (c .before .before .before .before .before .stands .ensures) _ (c .before .before .before .before .if1 .left) _ (c .before .before .id-at .ensures)))
+    (λ c. number-both _ _ _ _ (search needs) _ (c .before .before .before .before .before .stands .ensures) _ (c .before .before .before .before .if1 .left) _ (c .before .before .invoke-id-at .ensures)))

@@ -22,7 +22,7 @@ response-at-spec =
     (λ c κs. (((search reads-within, search entry-to, search needs), search needs), search needs, search needs, search needs))
     (λ c. search needs)
     (λ c. search (opens, past-version, field, result-far, entry-from, entry-to) depth 8)
-    (λ c κs. (((number-within _ _ _ _ _ _ _ _ _ (c .before .before .before .before .number-at .ensures) (c .before .if4 .left), search entry-to, search needs), search needs), search needs))
+    (λ c κs. (((number-within _ _ _ _ _ _ _ _ _ (c .before .before .before .before .enclosed-number-at .ensures) (c .before .if4 .left), search entry-to, search needs), search needs), search needs))
     (λ c. search needs)
     (λ c. search (opens, past-version, field, result, field-far, entry-from, entry-to) depth 8)
     (λ c κs. (((reads-within _ _ _ _ _ (c .before .before .before .before .source-at .ensures .reads) (c .before .if5 .left), search entry-to, search needs), search needs), search needs))

@@ -2,7 +2,7 @@
 use borrow.Author.Needs.{needs}
 use native.Mathlib.Omega.{arith}
 use lib.ListN.{length-set}
-use Rattle.read_place.proofs.Laid.{text-laid}
+use Rattle.read_place.proofs.Laying.{text-laid}
 use Rattle.read_place.proofs.put_text.Statement.{statement}
 use Rattle.read_place.proofs.put_text.Tie as tie
 

@@ -1,6 +1,6 @@
 -- `id_sought` meets its contract. Assumes nothing.
 use Rattle.base.proofs.Tests.{tests}
-use Rattle.read_refusal.specs.Told.{constructorTag, idSought}
+use Rattle.read_refusal.specs.Refusals.{constructorTag, idSought}
 use Rattle.read_refusal.proofs.id_sought.Statement.{statement}
 use Rattle.read_refusal.proofs.id_sought.Tie as tie
 

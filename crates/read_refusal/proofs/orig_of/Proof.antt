@@ -4,7 +4,7 @@ use native.Mathlib.Omega.{arith}
 use mathlib.Core.Path.{refl, sym, _∙_}
 use lib.ListN.{length, getD}
 use borrow.Author.Needs.{needs}
-use Rattle.read_message.proofs.Whole.{alone-inside, alone-from, alone-to}
+use Rattle.read_message.proofs.Messages.{alone-inside, alone-from, alone-to}
 use Rattle.read_refusal.proofs.Origs.{orig-long, orig-empty, orig-other, orig-entry, orig-unread, orig-within, orig-read}
 use Rattle.read_refusal.proofs.orig_of.Statement.{statement}
 use Rattle.read_refusal.proofs.orig_of.Tie as tie

@@ -10,14 +10,14 @@ use Rattle.read_row.proofs.component_at.Tie as tie
 start-of-requires : tie.Need-start-of-requires
 start-of-requires c κs = start-inside _ _ _ (search needs) (search needs) _ (c .before .before .before .is-component .ensures) (c .before .before .if1 .taken) _ (c .before .length-at .ensures) (c .if2 .left)
 
-contents-at-requires : tie.Need-contents-at-requires
-contents-at-requires c κs =
+component-contents-at-requires : tie.Need-component-contents-at-requires
+component-contents-at-requires c κs =
     let s = start-stands (now (c .before .before .before .before .before .before .before .before .before .args .m)) _ _ (omega arith) (omega arith) _ (c .before .before .before .before .before .is-component .ensures) (c .before .before .before .before .if1 .taken) _ (c .before .before .before .length-at .ensures) (c .before .before .if2 .left) (omega arith) _ (c .before .start-of .ensures) in
     (((s .0, s .1, search needs), search needs), sym (c .before .before .before .before .before .is-component .ensures) ∙ c .before .before .before .before .if1 .taken, search needs)
 
 returns-2 : tie.Need-returns-2
 returns-2 c =
-    component-done _ _ _ (omega arith) (omega arith) _ (c .before .before .before .before .before .before .before .before .is-component .ensures) (c .before .before .before .before .before .before .before .if1 .taken) _ (c .before .before .before .before .before .before .length-at .ensures) (c .before .before .before .before .before .if2 .left) (omega arith) _ (c .before .before .before .before .start-of .ensures) _ _ _ (c .before .before .contents-at .ensures)
+    component-done _ _ _ (omega arith) (omega arith) _ (c .before .before .before .before .before .before .before .before .is-component .ensures) (c .before .before .before .before .before .before .before .if1 .taken) _ (c .before .before .before .before .before .before .length-at .ensures) (c .before .before .before .before .before .if2 .left) (omega arith) _ (c .before .before .before .before .start-of .ensures) _ _ _ (c .before .before .component-contents-at .ensures)
 
 pub component-at-spec : {M : Type 1} → statement M
 component-at-spec =
@@ -30,7 +30,7 @@ component-at-spec =
     (λ c. component-stops _ _ _ (omega arith) (omega arith) _ (c .before .before .before .is-component .ensures) (c .before .before .if1 .taken) _ (c .before .length-at .ensures) (c .if2 .taken) _ _)
     (λ c. search needs)
     start-of-requires
-    contents-at-requires
+    component-contents-at-requires
     (λ c. search needs)
     returns-2
     (λ c κs. search needs)

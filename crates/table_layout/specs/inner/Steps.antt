@@ -8,10 +8,10 @@ use Rattle.transaction_states.specs.declared.{Deed.Deed}
 use Rattle.table_layout.specs.Octets.{entryOf}
 
 -- a partner's ID is stored in an entry under ours
-abbrev pub Known : List ℕ → List ℕ → Deed → Type 0
-Known l o (Deed.Refused k) = Unit {0}
-Known l o (Deed.Opens i s) = Unit {0}
-Known l o (Deed.Keeps i) = Unit {0}
-Known l o (Deed.Activates i) = Unit {0}
-Known l o (Deed.Learns i) = holds o (entryOf (drop (i * 12) l)) ≡ true
-Known l o (Deed.Closes i) = Unit {0}
+abbrev pub HoldsOurs : List ℕ → List ℕ → Deed → Type 0
+HoldsOurs l o (Deed.Refused k) = Unit {0}
+HoldsOurs l o (Deed.Opens i s) = Unit {0}
+HoldsOurs l o (Deed.Keeps i) = Unit {0}
+HoldsOurs l o (Deed.Activates i) = Unit {0}
+HoldsOurs l o (Deed.Learns i) = holds o (entryOf (drop (i * 12) l)) ≡ true
+HoldsOurs l o (Deed.Closes i) = Unit {0}

@@ -3,7 +3,7 @@ use Rattle.element.specs.Form.{fewestOf}
 use Rattle.element.specs.inner.Fronts.{longRead}
 use Rattle.element.proofs.Views.{longBy, long-view, low-place}
 use Rattle.walk.proofs.Views.{long-one, long-past, long-more}
-use Rattle.walk.specs.Walks.{contentsEnd}
+use Rattle.walk.specs.Walks.{endByLength}
 use Prim.Native.Nat.{_+_}
 use native.Mathlib.Omega.{arith}
 use Rattle.base.proofs.Tests.{tests}
@@ -12,7 +12,7 @@ use Rattle.walk.proofs.long_end.Statement.{statement}
 use Rattle.walk.proofs.long_end.Tie as tie
 
 pub long-end-spec : {M : Type 1} → statement M
-unfolding contentsEnd
+unfolding endByLength
 long-end-spec =
     tie.close
     (tie.spec

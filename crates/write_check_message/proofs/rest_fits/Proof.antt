@@ -1,6 +1,6 @@
 -- `rest_fits` meets its contract. Assumes nothing.
 use borrow.Author.Needs.{needs}
-use Rattle.write_check.specs.Whole.{restFits}
+use Rattle.write_check.specs.Judgements.{restFits}
 use Rattle.write_check_message.proofs.rest_fits.Statement.{statement}
 use Rattle.write_check_message.proofs.rest_fits.Tie as tie
 

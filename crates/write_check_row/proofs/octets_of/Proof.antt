@@ -1,7 +1,7 @@
 -- `octets_of` meets its contract. Assumes nothing.
 use borrow.Author.Needs.{needs}
 use borrow.Author.Tests.{leb-true}
-use Rattle.tcap.specs.Verdict.{lies, octetsIn}
+use Rattle.tcap.specs.Verdict.{lies, stringOctets}
 use Rattle.write_check_row.proofs.octets_of.Statement.{statement}
 use Rattle.write_check_row.proofs.octets_of.Tie as tie
 
@@ -10,7 +10,7 @@ unfolding lies
 piece-requires c κs = leb-true _ _ (c .before .before .before .pre)
 
 returns : tie.Need-returns
-unfolding octetsIn
+unfolding stringOctets
 returns c = c .piece .ensures
 
 pub octets-of-spec : {M : Type 1} → statement M

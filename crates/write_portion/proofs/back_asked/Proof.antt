@@ -4,7 +4,7 @@ use mathlib.Core.List.{_++_}
 use Rattle.base.proofs.Backs.{room-last, room-next, back-then}
 use Rattle.element.specs.Form.{shortest}
 use Rattle.tcap.specs.Meaning.{contextForm}
-use Rattle.tcap.specs.Verdict.{octetsIn}
+use Rattle.tcap.specs.Verdict.{stringOctets}
 use Rattle.write_check_row.specs.Forms.{infoForm, octetsOf}
 use Rattle.write_portion.proofs.Around.{room-fields}
 use Rattle.write_portion.proofs.back_asked.Statement.{statement}
@@ -12,11 +12,11 @@ use Rattle.write_portion.proofs.back_asked.Tie as tie
 
 back-info-requires : tie.Need-back-info-requires
 unfolding shortest
-back-info-requires c κs = (c .before .before .before .before .pre .1 .0, room-last (octetsOf (contextForm (octetsIn (c .before .before .before .before .args .material .now) (c .before .before .before .before .args .name)))) (room-fields (c .before .before .before .before .args .known .now) 0x60 (octetsOf (contextForm (octetsIn (c .before .before .before .before .args .material .now) (c .before .before .before .before .args .name))) ++ octetsOf (infoForm (c .before .before .before .before .args .material .now) (c .before .before .before .before .args .info))) (c .before .before .before .before .pre .1 .1)))
+back-info-requires c κs = (c .before .before .before .before .pre .1 .0, room-last (octetsOf (contextForm (stringOctets (c .before .before .before .before .args .material .now) (c .before .before .before .before .args .name)))) (room-fields (c .before .before .before .before .args .known .now) 0x60 (octetsOf (contextForm (stringOctets (c .before .before .before .before .args .material .now) (c .before .before .before .before .args .name))) ++ octetsOf (infoForm (c .before .before .before .before .args .material .now) (c .before .before .before .before .args .info))) (c .before .before .before .before .pre .1 .1)))
 
 back-context-requires : tie.Need-back-context-requires
 unfolding shortest
-back-context-requires c κs = (c .before .before .before .before .before .before .before .before .pre .0, room-next (c .before .before .before .back-info .ensures) _ (room-fields (c .before .before .before .before .before .before .before .before .args .known .now) 0x60 (octetsOf (contextForm (octetsIn (c .before .before .before .before .before .before .before .before .args .material .now) (c .before .before .before .before .before .before .before .before .args .name))) ++ octetsOf (infoForm (c .before .before .before .before .before .before .before .before .args .material .now) (c .before .before .before .before .before .before .before .before .args .info))) (c .before .before .before .before .before .before .before .before .pre .1 .1)))
+back-context-requires c κs = (c .before .before .before .before .before .before .before .before .pre .0, room-next (c .before .before .before .back-info .ensures) _ (room-fields (c .before .before .before .before .before .before .before .before .args .known .now) 0x60 (octetsOf (contextForm (stringOctets (c .before .before .before .before .before .before .before .before .args .material .now) (c .before .before .before .before .before .before .before .before .args .name))) ++ octetsOf (infoForm (c .before .before .before .before .before .before .before .before .args .material .now) (c .before .before .before .before .before .before .before .before .args .info))) (c .before .before .before .before .before .before .before .before .pre .1 .1)))
 
 back-opening-requires : tie.Need-back-opening-requires
 unfolding shortest

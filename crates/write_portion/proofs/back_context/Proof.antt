@@ -1,7 +1,7 @@
 -- The head has the length of what it stands before. Assumes nothing.
 use borrow.Author.Needs.{needs}
 use Rattle.element.specs.Form.{leaf, shortest}
-use Rattle.tcap.specs.Verdict.{octetsIn}
+use Rattle.tcap.specs.Verdict.{stringOctets}
 use Rattle.write_check_row.specs.Forms.{octetsOf}
 use Rattle.write_head.proofs.Heads.{room-inside, room-head, back-around}
 use Rattle.write_portion.proofs.back_context.Statement.{statement}
@@ -9,7 +9,7 @@ use Rattle.write_portion.proofs.back_context.Tie as tie
 
 back-string-requires : tie.Need-back-string-requires
 unfolding shortest
-back-string-requires c κs = (c .before .before .before .pre .0, room-inside 0xA1 (octetsOf (leaf 0x06 (octetsIn (c .before .before .before .args .material .now) (c .before .before .before .args .name)))) (c .before .before .before .pre .1))
+back-string-requires c κs = (c .before .before .before .pre .0, room-inside 0xA1 (octetsOf (leaf 0x06 (stringOctets (c .before .before .before .args .material .now) (c .before .before .before .args .name)))) (c .before .before .before .pre .1))
 
 back-head-requires : tie.Need-back-head-requires
 unfolding shortest

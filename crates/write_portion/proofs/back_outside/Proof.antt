@@ -2,7 +2,7 @@
 use borrow.Author.Needs.{needs}
 use Rattle.base.proofs.Backs.{room-last}
 use Rattle.element.specs.Form.{leaf, shortest}
-use Rattle.tcap.specs.Verdict.{octetsIn}
+use Rattle.tcap.specs.Verdict.{stringOctets}
 use Rattle.write_check_row.specs.Forms.{octetsOf}
 use Rattle.write_portion.proofs.Around.{room-named}
 use Rattle.write_portion.proofs.back_outside.Statement.{statement}
@@ -10,7 +10,7 @@ use Rattle.write_portion.proofs.back_outside.Tie as tie
 
 back-string-requires : tie.Need-back-string-requires
 unfolding shortest
-back-string-requires c κs = (c .before .before .before .pre .1 .0, room-last (octetsOf (leaf 0x06 (octetsIn (c .before .before .before .args .material .now) (c .before .before .before .args .name)))) (room-named (octetsIn (c .before .before .before .args .material .now) (c .before .before .before .args .name)) (octetsOf (leaf (c .before .before .before .args .tag) (octetsIn (c .before .before .before .args .material .now) (c .before .before .before .args .string)))) (c .before .before .before .pre .1 .1)))
+back-string-requires c κs = (c .before .before .before .pre .1 .0, room-last (octetsOf (leaf 0x06 (stringOctets (c .before .before .before .args .material .now) (c .before .before .before .args .name)))) (room-named (stringOctets (c .before .before .before .args .material .now) (c .before .before .before .args .name)) (octetsOf (leaf (c .before .before .before .args .tag) (stringOctets (c .before .before .before .args .material .now) (c .before .before .before .args .string)))) (c .before .before .before .pre .1 .1)))
 
 back-naming-requires : tie.Need-back-naming-requires
 unfolding shortest

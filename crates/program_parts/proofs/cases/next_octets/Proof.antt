@@ -1,0 +1,26 @@
+-- All that were asked for stand at the front. Assumes nothing.
+use borrow.Author.Needs.{needs}
+use mathlib.Core.Path.{sym}
+use lib.Seq.{length-take-le}
+use Rattle.program_parts.proofs.Telling.{came}
+use Rattle.program_parts.proofs.cases.next_octets.Statement.{statement}
+use Rattle.program_parts.proofs.cases.next_octets.Tie as tie
+
+slice-aggregate-read-full : tie.Need-slice-aggregate-read-full
+slice-aggregate-read-full c = sym (length-take-le _ _ (c .before .if1 .left))
+
+returns-3 : tie.Need-returns-3
+returns-3 c = came _ _ _ _ (c .before .before .before .read-full .ensures) (c .if2 .left)
+
+pub next-octets-spec : {M : Type 1} → statement M
+next-octets-spec =
+    tie.close
+    (tie.spec
+    (λ c. search needs)
+    (λ c. search needs)
+    slice-aggregate-read-full
+    (λ c κs. search needs)
+    (λ c. search needs)
+    (λ c. search needs)
+    (λ c. search needs)
+    returns-3)
