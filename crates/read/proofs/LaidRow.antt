@@ -9,10 +9,12 @@ use lib.Seq.{take-at, drop-at}
 use lib.IntN.{ℤ}
 use Rattle.base.specs.Number.{octetsIn, topOf, bitsAt}
 use Rattle.base.specs.Value.{Every}
+use Rattle.base.proofs.Values.{every-parts}
 use Rattle.element.specs.Fault.{Text}
 use Rattle.tcap.specs.declared.{Span.Span, Problem.Problem, Row.Row}
 use Rattle.tcap.specs.Meaning.{Code, local, global, Component, invoke, last, notLast, error, reject}
 use Rattle.tcap.specs.Record.{spanOf, spanField, idField, linkedField, codeField, bothField, rowOf}
+use Rattle.tcap.proofs.Strings.{Strings, optionStrings, whole, seriesStrings, codeStrings, bothStrings, componentStrings}
 use Rattle.layout.specs.Layout.{spanOctets, noSpan, optionalFlag, optionalSpan, idFlag, idOctet, linkedFlag, linkedOctet, codeTag, codeSpan, problemTag, problemNumber, idsOctets, partsOctets, codedOctets, returnedOctets, problemOctets, kindOctets, rowOctets, rowsOctets}
 use Rattle.layout.proofs.RoundTrip.{rows-length}
 use Rattle.read_place.specs.Laying.{layText, layId, layRejectId, layLinked, layCode, layElement, layParameter, layReturned, layProblem, layComponent, layRow, layRows}
@@ -21,9 +23,12 @@ use Rattle.read_place.specs.Laying.{layText, layId, layRejectId, layLinked, lay
 abbrev pub Small : Text → Type 0
 Small t = (t .0 ≤ 65535) × (length (t .1) ≤ 65535)
 
-abbrev pub MaybeSmall : Option Text → Type 0
-MaybeSmall none = Unit {0}
-MaybeSmall (some t) = Small t
+-- every string of some
+abbrev pub AllSmall : Strings → Type 0
+AllSmall l = Every (λ s. Small (s .1)) l
+
+pub both-small : (a b : Strings) → AllSmall (a ++ b) → AllSmall a × AllSmall b
+both-small = every-parts (λ s. Small (s .1))
 
 -- the upper two octets of each are 0
 abbrev Uppers : ℕ → Type 0
@@ -34,21 +39,6 @@ uppers n h = (omega arith, omega arith)
 
 pub text-uppers : (t : Text) → Small t → Uppers (t .0) × Uppers (length (t .1))
 text-uppers t s = (uppers (t .0) (s .0), uppers (length (t .1)) (s .1))
-
-abbrev pub CodeSmall : Code Text → Type 0
-CodeSmall (local z) = Unit {0}
-CodeSmall (global t) = Small t
-
-abbrev pub BothSmall : Option (Code Text × Text) → Type 0
-BothSmall none = Unit {0}
-BothSmall (some (c, t)) = CodeSmall c × Small t
-
-abbrev pub RowSmall : Component Text → Type 0
-RowSmall (invoke i l c p) = CodeSmall c × MaybeSmall p
-RowSmall (last i r) = BothSmall r
-RowSmall (notLast i r) = BothSmall r
-RowSmall (error i c p) = CodeSmall c × MaybeSmall p
-RowSmall (reject i q) = Unit {0}
 
 -- Each field, where it stands in a row
 
@@ -63,24 +53,24 @@ module _ (a b c d e : ℕ) where
   linked-laid none r = refl
   linked-laid (some i) r = refl
 
-  code-laid : (v : Code Text) → CodeSmall v → (r : List ℕ) → layCode v (a ∷ b ∷ c ∷ d ∷ e ∷ 0 ∷ 0 ∷ 0 ∷ spanOctets noSpan ++ r) ≡ a ∷ b ∷ c ∷ d ∷ e ∷ codeTag (codeField v) ∷ 0 ∷ 0 ∷ spanOctets (codeSpan (codeField v)) ++ r
-  unfolding layCode layText spanOctets octetsIn codeTag codeSpan
+  code-laid : (v : Code Text) → AllSmall (codeStrings v) → (r : List ℕ) → layCode v (a ∷ b ∷ c ∷ d ∷ e ∷ 0 ∷ 0 ∷ 0 ∷ spanOctets noSpan ++ r) ≡ a ∷ b ∷ c ∷ d ∷ e ∷ codeTag (codeField v) ∷ 0 ∷ 0 ∷ spanOctets (codeSpan (codeField v)) ++ r
+  unfolding layCode layText spanOctets octetsIn codeTag codeSpan Every
   code-laid (local z) s r = refl
-  code-laid (global t) s r = let ((w, x), (y, z)) = text-uppers t s in rw (w, x, y, z)
+  code-laid (global t) s r = let ((w, x), (y, z)) = text-uppers t (s .0) in rw (w, x, y, z)
 
   element-laid : (g : ℕ) (k : Span) (t : Text) → Small t → layElement t (a ∷ b ∷ c ∷ d ∷ e ∷ g ∷ 0 ∷ 0 ∷ spanOctets k ++ spanOctets noSpan) ≡ a ∷ b ∷ c ∷ d ∷ e ∷ g ∷ 1 ∷ 0 ∷ spanOctets k ++ spanOctets (spanOf t)
   unfolding layElement layText spanOctets octetsIn
   element-laid g k t s = let ((w, x), (y, z)) = text-uppers t s in rw (w, x, y, z)
 
-  coded-laid : (v : Code Text) (p : Option Text) → CodeSmall v → MaybeSmall p → layParameter p (layCode v (a ∷ b ∷ c ∷ d ∷ e ∷ partsOctets 0 0 0 noSpan noSpan)) ≡ a ∷ b ∷ c ∷ d ∷ e ∷ codedOctets (codeField v) (spanField p)
-  unfolding layParameter codedOctets partsOctets optionalFlag optionalSpan
-  coded-laid v none s k = code-laid v s (spanOctets noSpan)
-  coded-laid v (some t) s k = rw (code-laid v s (spanOctets noSpan)) (element-laid (codeTag (codeField v)) (codeSpan (codeField v)) t k)
+  coded-laid : (v : Code Text) (p : Option Text) → AllSmall (codeStrings v ++ optionStrings whole p) → layParameter p (layCode v (a ∷ b ∷ c ∷ d ∷ e ∷ partsOctets 0 0 0 noSpan noSpan)) ≡ a ∷ b ∷ c ∷ d ∷ e ∷ codedOctets (codeField v) (spanField p)
+  unfolding layParameter codedOctets partsOctets optionalFlag optionalSpan Every
+  coded-laid v none s = let (k, e) = both-small (codeStrings v) [] s in code-laid v k (spanOctets noSpan)
+  coded-laid v (some t) s = let (k, e) = both-small (codeStrings v) (whole t) s in rw (code-laid v k (spanOctets noSpan)) (element-laid (codeTag (codeField v)) (codeSpan (codeField v)) t (e .0))
 
-  returned-laid : (r : Option (Code Text × Text)) → BothSmall r → layReturned r (a ∷ b ∷ c ∷ d ∷ e ∷ partsOctets 0 0 0 noSpan noSpan) ≡ a ∷ b ∷ c ∷ d ∷ e ∷ returnedOctets (bothField r)
+  returned-laid : (r : Option (Code Text × Text)) → AllSmall (optionStrings bothStrings r) → layReturned r (a ∷ b ∷ c ∷ d ∷ e ∷ partsOctets 0 0 0 noSpan noSpan) ≡ a ∷ b ∷ c ∷ d ∷ e ∷ returnedOctets (bothField r)
   unfolding layReturned returnedOctets layParameter
   returned-laid none s = refl
-  returned-laid (some (v, t)) s = coded-laid v (some t) (s .0) (s .1)
+  returned-laid (some (v, t)) s = coded-laid v (some t) s
 
   problem-laid : (q : Problem) → layProblem q (a ∷ b ∷ c ∷ d ∷ e ∷ partsOctets 0 0 0 noSpan noSpan) ≡ a ∷ b ∷ c ∷ d ∷ e ∷ problemOctets q
   unfolding layProblem problemOctets partsOctets problemTag problemNumber
@@ -92,13 +82,13 @@ module _ (a b c d e : ℕ) where
 abbrev bits : ℤ → ℕ
 bits i = bitsAt (topOf 1) i
 
-pub component-laid : (c : Component Text) → RowSmall c → layComponent c (replicate 24 0) ≡ rowOctets (rowOf c)
+pub component-laid : (c : Component Text) → AllSmall (componentStrings c) → layComponent c (replicate 24 0) ≡ rowOctets (rowOf c)
 unfolding layComponent rowOctets kindOctets idsOctets layId idFlag idOctet linkedFlag linkedOctet partsOctets spanOctets octetsIn
 component-laid (invoke i k v p) s =
-    rw (linked-laid 0xA1 1 (bits i) 0 0 k (partsOctets 0 0 0 noSpan noSpan)) (coded-laid 0xA1 1 (bits i) (linkedFlag (linkedField k)) (linkedOctet (linkedField k)) v p (s .0) (s .1))
+    rw (linked-laid 0xA1 1 (bits i) 0 0 k (partsOctets 0 0 0 noSpan noSpan)) (coded-laid 0xA1 1 (bits i) (linkedFlag (linkedField k)) (linkedOctet (linkedField k)) v p s)
 component-laid (last i r) s = returned-laid 0xA2 1 (bits i) 0 0 r s
 component-laid (notLast i r) s = returned-laid 0xA7 1 (bits i) 0 0 r s
-component-laid (error i v p) s = coded-laid 0xA3 1 (bits i) 0 0 v p (s .0) (s .1)
+component-laid (error i v p) s = coded-laid 0xA3 1 (bits i) 0 0 v p s
 component-laid (reject i q) s = rw (id-laid 0xA4 i (0 ∷ 0 ∷ partsOctets 0 0 0 noSpan noSpan)) (problem-laid 0xA4 (idFlag (idField i)) (idOctet (idField i)) 0 0 q)
 
 -- Rows one behind the other
@@ -111,18 +101,19 @@ row-long : (r : Row) → length (rowOctets r) ≡ 24
 unfolding rowsOctets
 row-long r = omega (arith, length-append (rowOctets r) [], rows-length (r ∷ []))
 
-row-laid : (k : ℕ) (c : Component Text) (n : ℕ) (front : List ℕ) → length front ≡ 44 + 24 * k → RowSmall c → layRow k c (front ++ blanks (suc n)) ≡ (front ++ rowOctets (rowOf c)) ++ blanks n
+row-laid : (k : ℕ) (c : Component Text) (n : ℕ) (front : List ℕ) → length front ≡ 44 + 24 * k → AllSmall (componentStrings c) → layRow k c (front ++ blanks (suc n)) ≡ (front ++ rowOctets (rowOf c)) ++ blanks n
 unfolding layRow blanks
 row-laid k c n front e s =
     let z : length (front ++ replicate 24 0) ≡ 68 + 24 * k = omega (arith, length-append front (replicate 24 0)) in
     let d : drop (68 + 24 * k) (front ++ (replicate 24 0 ++ blanks n)) ≡ blanks n = ap (drop (68 + 24 * k)) (sym (append-assoc front (replicate 24 0) (blanks n))) ∙ drop-at (front ++ replicate 24 0) (blanks n) (68 + 24 * k) z in
     rw (take-at front (replicate 24 0 ++ blanks n) (44 + 24 * k) e, drop-at front (replicate 24 0 ++ blanks n) (44 + 24 * k) e, d, component-laid c s)
 
-pub rows-laid : (cs : List (Component Text)) (k n : ℕ) (front : List ℕ) → length front ≡ 44 + 24 * k → length cs ≤ n → Every RowSmall cs → layRows k cs (front ++ blanks n) ≡ front ++ rowsOctets (map rowOf cs) ++ blanks (n - length cs)
-unfolding layRows rowsOctets Every
+pub rows-laid : (cs : List (Component Text)) (k n : ℕ) (front : List ℕ) → length front ≡ 44 + 24 * k → length cs ≤ n → AllSmall (seriesStrings componentStrings cs) → layRows k cs (front ++ blanks n) ≡ front ++ rowsOctets (map rowOf cs) ++ blanks (n - length cs)
+unfolding layRows rowsOctets seriesStrings
 rows-laid [] k n front e l s = let z : n - 0 ≡ n = omega arith in rw (z, append-nil)
 rows-laid (c ∷ cs) k zero front e l s = absurd (omega (arith, l))
 rows-laid (c ∷ cs) k (suc n) front e l s =
     let f : length (front ++ rowOctets (rowOf c)) ≡ 44 + 24 * suc k = omega (arith, length-append front (rowOctets (rowOf c)), row-long (rowOf c)) in
     let z : suc n - suc (length cs) ≡ n - length cs = omega arith in
-    rw (row-laid k c n front e (s .0), rows-laid cs (suc k) n (front ++ rowOctets (rowOf c)) f (omega (arith, l)) (s .1), z, append-assoc front (rowOctets (rowOf c)) (rowsOctets (map rowOf cs)))
+    let (here, rest) = both-small (componentStrings c) (seriesStrings componentStrings cs) s in
+    rw (row-laid k c n front e here, rows-laid cs (suc k) n (front ++ rowOctets (rowOf c)) f (omega (arith, l)) rest, z, append-assoc front (rowOctets (rowOf c)) (rowsOctets (map rowOf cs)))

@@ -41,36 +41,18 @@ module _ (m : List ℕ) (r : ℕ) (number : Answers m (locatedUpTo the93 m) r) w
   unfolding Placed
   bad-far f e = let i : Answers m (bad f) r = rw e at number in omega (arith, i, far-fault f)
 
-  module _ (far : Far r) where
-    pub refused-outcome : (q : Refusal) → RefusedAs q (locatedUpTo the93 m) → Outcome.Refused q ≡ reading m .outcome
-    unfolding RefusedAs reading readingUpTo answered
-    refused-outcome q e = go (locatedUpTo the93 m) refl e
-      where
-        go : (x : Got (Message Text)) → locatedUpTo the93 m ≡ x → RefusedAs q x → Outcome.Refused q ≡ answered x .outcome
-        go (got v n) i e = absurd (omega (arith, got-near v n i, far))
-        go (bad g) i e = ap Outcome.Refused e
+  pub refused : Far r → (q : Refusal) → RefusedAs q (locatedUpTo the93 m) → (new : List ℕ) → (Outcome.Refused q ≡ reading m .outcome) × Held (reading m .outcome) (reading m .message) new
+  unfolding RefusedAs Held reading readingUpTo answered
+  refused far q e new = go (locatedUpTo the93 m) refl e
+    where
+      go : (x : Got (Message Text)) → locatedUpTo the93 m ≡ x → RefusedAs q x → (Outcome.Refused q ≡ answered x .outcome) × Held (answered x .outcome) (answered x .message) new
+      go (got v n) i e = absurd (omega (arith, got-near v n i, far))
+      go (bad g) i e = (ap Outcome.Refused e, tt)
 
-    pub refused-held : (new : List ℕ) → Held (reading m .outcome) (reading m .message) new
-    unfolding Held reading readingUpTo answered
-    refused-held new = go (locatedUpTo the93 m) refl
-      where
-        go : (x : Got (Message Text)) → locatedUpTo the93 m ≡ x → Held (answered x .outcome) (answered x .message) new
-        go (got v n) i = absurd (omega (arith, got-near v n i, far))
-        go (bad g) i = tt
-
-  module _ (near : Near r) where
-    pub accepted-outcome : Outcome.Accepted ≡ reading m .outcome
-    unfolding reading readingUpTo answered
-    accepted-outcome = go (locatedUpTo the93 m) refl
-      where
-        go : (x : Got (Message Text)) → locatedUpTo the93 m ≡ x → Outcome.Accepted ≡ answered x .outcome
-        go (got v n) i = refl
-        go (bad g) i = absurd (omega (arith, bad-far g i, near))
-
-    pub accepted-holds : (old new : List ℕ) → old ≡ replicate 428 0 → Left layAccepted Blames (locatedUpTo the93 m) old new → Held (reading m .outcome) (reading m .message) new
-    unfolding Left Held reading readingUpTo answered
-    accepted-holds old new blank e = go (locatedUpTo the93 m) refl e
-      where
-        go : (x : Got (Message Text)) → locatedUpTo the93 m ≡ x → Left layAccepted Blames x old new → Held (answered x .outcome) (answered x .message) new
-        go (got v n) i e = rw (e, blank) (accepted-held m v n i)
-        go (bad g) i e = absurd (omega (arith, bad-far g i, near))
+  pub accepted : Near r → (old new : List ℕ) → old ≡ replicate 428 0 → Left layAccepted Blames (locatedUpTo the93 m) old new → (Outcome.Accepted ≡ reading m .outcome) × Held (reading m .outcome) (reading m .message) new
+  unfolding Left Held reading readingUpTo answered
+  accepted near old new blank e = go (locatedUpTo the93 m) refl e
+    where
+      go : (x : Got (Message Text)) → locatedUpTo the93 m ≡ x → Left layAccepted Blames x old new → (Outcome.Accepted ≡ answered x .outcome) × Held (answered x .outcome) (answered x .message) new
+      go (got v n) i e = (refl, rw (e, blank) (accepted-held m v n i))
+      go (bad g) i e = absurd (omega (arith, bad-far g i, near))

@@ -32,13 +32,12 @@ use Rattle.read_place.proofs.Answers.{placed-near}
 use Rattle.read_place.proofs.Values.{placed-got}
 use Rattle.read_place.proofs.Fronts.{byFront, ask-front}
 use Rattle.read_place.proofs.Asked.{ask-bind, ask-map}
-use Rattle.read_place.proofs.Items.{stands-here, stands-only, stands-other, or-left, or-right, placed-item, front-octet, Entered, ask-entered}
+use Rattle.read_place.proofs.Items.{front-map, stands-here, stands-only, stands-other, or-left, or-right, placed-item, front-octet, Entered, ask-entered}
 use Rattle.read_place.proofs.Bodies.{placed-where}
 use Rattle.read_place.proofs.Optional.{entry-from, entry-to}
 use Rattle.read_row.specs.Component.{componentBodyOf}
 use Rattle.read_component.specs.Components.{Carries, idInNumber, KnowsId}
 use Rattle.read_place.proofs.Around.{around-ask}
-use Rattle.read_part.proofs.FieldsLeft.{item-map}
 use Rattle.read_row.proofs.Contents.{lead, by-tag}
 use Rattle.read_component.proofs.Values.{value-id, id-is, head-first}
 use Rattle.read_component.proofs.FaultIds.{carries-map, plain-id, carries-none, carries-id, near-carries, far-carries, null-carries}
@@ -81,12 +80,12 @@ module _ {B : Type 0} (y : Option ℤ → Body B) (m : List ℕ) (at stop : ℕ)
         ) (e _)
 
     reject-none : Far r → Rejected none
-    reject-none f = by-id none (λ k. far-carries its-id _ at (until stop) r id-here (omega arith) f (rw (item-map (level 13) FaultKind.Another some idItem (finite stop) at (part m at stop)) (carries-map some (λ n. n) none _ (plain-id (λ v. signedOf (v .1)) 2 (integerOk 1) 13 (finite stop) at (part m at stop) refl))))
+    reject-none f = by-id none (λ k. far-carries its-id _ at (until stop) r id-here (omega arith) f (rw (front-map (level 13) FaultKind.Another some idItem (finite stop) at (part m at stop)) (carries-map some (λ n. n) none _ (plain-id (λ v. signedOf (v .1)) 2 (integerOk 1) 13 (finite stop) at (part m at stop) refl))))
 
     reject-known : Near r → Rejected (some (signedOf (getD m (at + 2) 0 ∷ [])))
     reject-known f =
         by-id _ (λ k. near-carries (λ a. a) its-id k at (until stop) r id-here f (λ a n. (i : ℤ) × (a ≡ some i) × ((n ≡ 3) × (i ≡ signedOf (take 1 (drop 2 (part m at stop))))))
-        (rw (item-map (level 13) FaultKind.Another some idItem (finite stop) at (part m at stop)) (then-next (value-id (level 13) (finite stop) at (part m at stop)) (λ i n q. fact (i, refl, q)))) _ (λ a q. q .1 ∙ ap (λ (i : ℤ). some i) (id-is m at stop r h id f (q .0) (q .2))))
+        (rw (front-map (level 13) FaultKind.Another some idItem (finite stop) at (part m at stop)) (then-next (value-id (level 13) (finite stop) at (part m at stop)) (λ i n q. fact (i, refl, q)))) _ (λ a q. q .1 ∙ ap (λ (i : ℤ). some i) (id-is m at stop r h id f (q .0) (q .2))))
 
 -- An ID that was read takes three octets, of which the first is its tag
 

@@ -21,12 +21,11 @@ use Rattle.read_place.specs.Leaves.{Left, Leaves}
 use Rattle.read_place.specs.Laying.{layText, layDialogue, layEnding}
 use Rattle.read_place.specs.Blames.{Blames}
 use Rattle.read_place.proofs.Answers.{placed-near}
-use Rattle.read_place.proofs.Items.{stands-only, stands-other, or-left, or-right}
+use Rattle.read_place.proofs.Items.{front-map, stands-only, stands-other, or-left, or-right}
 use Rattle.read_place.proofs.Leaves.{left-next}
 use Rattle.read_place.proofs.Values.{value-leaf, placed-got}
 use Rattle.read_field.proofs.Fields.{single-sized}
 use Rattle.read_field.proofs.Choices.{reads-map, transaction-sized}
-use Rattle.read_part.proofs.FieldsLeft.{item-map}
 use Rattle.read_row.proofs.Pairs.{Does}
 use Rattle.read_dialogue.proofs.Told.{Belongs, says-portion, told-far}
 use Rattle.read_message.specs.Messages.{transactionIdItem, layIdAt, endingItem}
@@ -34,7 +33,7 @@ use Rattle.read_message.proofs.PortionFaults.{plain-leaf, plain-map}
 
 -- Under another name
 pub leaves-map : {A B : Type 0} (f : A → B) (x : Item A) (lay : A → List ℕ → List ℕ) (out : B → List ℕ → List ℕ) (m : List ℕ) (at stop : ℕ) (old new : List ℕ) → ((a : A) → lay a old ≡ out (f a) old) → Leaves lay Blames x m at stop old new → Leaves out Blames (mapItem f x) m at stop old new
-leaves-map f x lay out m at stop old new same e = rw (item-map (level 1) FaultKind.Another f x (finite stop) at (part m at stop)) (left-next Blames lay out f (λ n. n) _ old old new same e)
+leaves-map f x lay out m at stop old new same e = rw (front-map (level 1) FaultKind.Another f x (finite stop) at (part m at stop)) (left-next Blames lay out f (λ n. n) _ old old new same e)
 
 -- A primitive of few octets: what was got, `f` of its octets
 
@@ -97,11 +96,11 @@ octetIn v = getD (v .1) 0 0
 module _ (m : List ℕ) (at stop r : ℕ) (e : Reads (octetItem 74 mostCause) m at stop r) where
   cause-known : Then (Its (octetItem 74 mostCause) octetIn 1 m at stop r) (leaf (octetItem 74 mostCause) octetIn 1 m at stop r)
   cause-known =
-      rw (item-map octetIn (leafItem 74 (single? mostCause)) (finite stop) at (part m at stop))
+      rw (front-map (level 1) FaultKind.Another octetIn (leafItem 74 (single? mostCause)) (finite stop) at (part m at stop))
       (then-next (value-leaf 74 1 (single? mostCause) (omega arith, omega arith, omega arith) (omega arith) (single-sized mostCause) at (part m at stop) (level 1) (finite stop)) (λ v n q. fact (q .0, ap octetIn (q .1), q .2)))
 
   cause-plain : Belongs portion (leaf (octetItem 74 mostCause) octetIn 1 m at stop r)
-  cause-plain = rw (item-map octetIn (leafItem 74 (single? mostCause)) (finite stop) at (part m at stop)) (plain-map octetIn _ (plain-leaf 74 (single? mostCause) (finite stop) at (part m at stop)))
+  cause-plain = rw (front-map (level 1) FaultKind.Another octetIn (leafItem 74 (single? mostCause)) (finite stop) at (part m at stop)) (plain-map octetIn _ (plain-leaf 74 (single? mostCause) (finite stop) at (part m at stop)))
 
   pub cause-room : Near r → until stop ≤ length m → at + 2 < length m
   cause-room near h = let i = placed-near _ at (until stop) r e near in omega (arith, h, i, leaf-room (octetItem 74 mostCause) octetIn 1 m at stop r e cause-known near)

@@ -1,6 +1,6 @@
 -- What the readers of a component's fields lay out, and how its contents are put together. Assumes nothing.
 use Prim.Native.Nat.{ℕ, suc, _+_, _-_, _*_, _/_, _%_, _≤_, _<_}
-use mathlib.Core.Path.{_≡_, refl, sym, ap, _∙_, fun-ext}
+use mathlib.Core.Path.{_≡_, refl, sym, ap, _∙_}
 use mathlib.Core.Bool.{Bool, true, false, cond}
 use mathlib.Core.List.{List, [], _∷_}
 use mathlib.Core.Option.{none, some}
@@ -17,12 +17,12 @@ use Rattle.primitive.specs.Primitive.{mostIntegerOctets, mostIdentifierOctets, 
 use Rattle.primitive.specs.inner.Answers.{integerOf}
 use Rattle.primitive.specs.declared.IntegerRead.{IntegerRead}
 use Rattle.element.specs.declared.FaultKind.{FaultKind}
-use Rattle.element.specs.Fault.{Fault, Text}
+use Rattle.element.specs.Fault.{Text}
 use Rattle.element.specs.Head.{endOf}
 use Rattle.element.specs.Answers.{elementWalk}
 use Rattle.element.specs.Walk.{walkItem}
-use Rattle.element.specs.Ask.{Got, got, bad, next, blamed, Head, Body, ask}
-use Rattle.element.specs.Parts.{Item, Where, level, place, leafItem, mapItem, integerItem}
+use Rattle.element.specs.Ask.{Got, got, bad, Body, ask}
+use Rattle.element.specs.Parts.{Item, level, leafItem, mapItem, integerItem}
 use Rattle.element.proofs.Asking.{Then, fact, the-fact, then-next, then-blamed, ask-sound}
 use Rattle.element.proofs.Views.{span-take, span-length}
 use Rattle.tcap.specs.declared.Problem.{Problem}
@@ -34,8 +34,7 @@ use Rattle.read_place.specs.Leaves.{Left, Leaves, LeavesAll, untold}
 use Rattle.read_place.specs.Laying.{layText, layId, layRejectId, layCode, layElement, layParameter, layProblem}
 use Rattle.read_place.proofs.Answers.{placed-near}
 use Rattle.read_place.proofs.Fronts.{ended-is, not-ended}
-use Rattle.read_place.proofs.Items.{counted}
-use Rattle.read_place.proofs.Asked.{ask-onto, missing-both}
+use Rattle.read_place.proofs.Items.{front-map, counted}
 use Rattle.read_place.proofs.Values.{placed-got, leaf-stood, value-walk}
 use Rattle.read_place.proofs.Optional.{deep-enough, here-placed, last-ended, last-walk-far, last-walk, cut-here, sole-missing, sole-walk-far, sole-walk}
 use Rattle.read_place.proofs.Leaves.{leaves-far, leaves-all-far, left-next, only-left, last-left, last-left-none}
@@ -156,20 +155,8 @@ module _ (m : List ℕ) (at stop r : ℕ) (h : until stop ≤ length m) (tag mos
 
 -- An item under another name, and one of two
 
-blamed-next : {A B : Type 0} (w : Fault → Fault) (f : A → B) (x : Got A) → blamed w (next x (λ a n. got (f a) n)) ≡ next (blamed w x) (λ a n. got (f a) n)
-unfolding blamed next
-blamed-next w f (got a n) = refl
-blamed-next w f (bad g) = refl
-
-module _ {A B : Type 0} (w : Where) (o : FaultKind) (f : A → B) (x : Item A) (d : Bool) (p : ℕ) (part : List ℕ) where
-  renamed : front w o (mapItem f x) ≡ place w none (x .mine) o (λ d h p part. next (blamed (w .owner) (x .contents h p part)) (λ a n. got (f a) n))
-  renamed = ap (λ (g : Bool → Head → ℕ → List ℕ → Got B). place w none (x .mine) o g) (fun-ext λ d. fun-ext λ h. fun-ext λ p. fun-ext λ part. blamed-next (w .owner) f (x .contents h p part))
-
-  pub item-map : ask (front w o (mapItem f x)) d p part ≡ next (ask (front w o x) d p part) (λ a n. got (f a) n)
-  item-map = ap (λ (b : Body B). ask b d p part) renamed ∙ ask-onto (front w o x) none (λ d p part a n. got (f a) n) d p part (λ e. missing-both (front w o x) _ d p part _)
-
 leaves-map : {A B : Type 0} (f : A → B) (x : Item A) (lay : A → List ℕ → List ℕ) (out : B → List ℕ → List ℕ) (m : List ℕ) (at stop : ℕ) (old new : List ℕ) → ((a : A) → lay a old ≡ out (f a) old) → Leaves lay untold x m at stop old new → Leaves out untold (mapItem f x) m at stop old new
-leaves-map f x lay out m at stop old new same e = rw (item-map (level 1) FaultKind.Another f x (finite stop) at (part m at stop)) (left-next untold lay out f (λ n. n) _ old old new same e)
+leaves-map f x lay out m at stop old new same e = rw (front-map (level 1) FaultKind.Another f x (finite stop) at (part m at stop)) (left-next untold lay out f (λ n. n) _ old old new same e)
 
 -- an item that is asked as another is, under another name
 named : {A B : Type 0} (f : A → B) (x : Item A) (y : Item B) (lay : A → List ℕ → List ℕ) (out : B → List ℕ → List ℕ) (m : List ℕ) (at stop r : ℕ) (old new : List ℕ)

@@ -1,19 +1,20 @@
 -- From what the parts of an element take to what the whole does: constructors, the one element in them, a field and then the rest. Assumes nothing.
 use Prim.Native.Nat.{ℕ, _+_, _-_, _/_, _%_, _≤_, _<_}
-use mathlib.Core.Path.{_≡_, refl, sym, ap, _∙_, fun-ext}
-use mathlib.Core.{Bool.Bool, Bool.true, Bool.false, Bool._&&_, Bool.and-eq-true-iff, List.List, Option.none}
+use mathlib.Core.Path.{_≡_, refl, sym, ap, _∙_}
+use mathlib.Core.{Bool.Bool, Bool.true, Bool.false, Bool._&&_, Bool.and-eq-true-iff, List.List}
 use native.Mathlib.Omega.{arith}
 use lib.{ListN.length, ListN.getD, ListN.drop, ListN.take, ListN.set, ListN.length-drop, Seq.length-take-le, Seq.getD-take, Seq.getD-drop, Dec.ltb, Dec.leb, Dec.eqb}
 use borrow.Author.Tests.{leb-true}
-use Rattle.element.specs.{declared.FaultKind.FaultKind, declared.TagRead.TagRead, Element.constructorOf, Fault.Fault, Fault.Text, inner.Fronts.frontOf, inner.Fronts.lengthSize}
-use Rattle.element.specs.Ask.{Got, got, bad, next, blamed, Head, Body, ask}
+use Rattle.element.specs.{declared.FaultKind.FaultKind, declared.TagRead.TagRead, Element.constructorOf, Fault.Text, inner.Fronts.frontOf, inner.Fronts.lengthSize}
+use Rattle.element.specs.Ask.{Got, got, bad, next, Body, ask}
 use Rattle.element.specs.Parts.{Item, Where, level, place, leafItem, aroundItem, mapItem, orItem, thenBody, onlyBody}
 use Rattle.element.proofs.{Asking.Then, Asking.fact, Views.span-take}
 use Rattle.primitive.specs.Primitive.{mostIdentifierOctets, identifierOk}
 use Rattle.tcap.specs.Productions.{single?, octetItem, nameItem}
 use Rattle.read_place.specs.Places.{Far, Near, until, finite, part, front, Placed, nothing, Reads, Finishes, Leads, standsOf, entryPlace}
 use Rattle.read_place.specs.{Laying.layText, Laying.laySpan, Laying.layName, Leaves.Left, Leaves.untold, Leaves.unlaid}
-use Rattle.read_place.proofs.{Answers.Keeps, Answers.placed-near, Asked.ask-onto, Asked.missing-both, Bodies.placed-where, Bodies.then-far, Bodies.then-near, Bodies.only-far, Bodies.only-near}
+use Rattle.read_place.proofs.Items.{front-map}
+use Rattle.read_place.proofs.{Answers.Keeps, Answers.placed-near, Bodies.placed-where, Bodies.then-far, Bodies.then-near, Bodies.only-far, Bodies.only-near}
 use Rattle.read_place.proofs.{Items.stands-only, Items.or-left, Items.or-right, Optional.around-entry, Optional.around-read, Optional.reads-within, Values.placed-got, Values.value-leaf}
 use Rattle.read_place.proofs.Leaves.{leaves-far, leaves-all-far, left-next, left-where, then-left, only-left, around-left}
 use Rattle.read_field.proofs.{Choices.reads-map, Fields.name-sized, Fields.single-sized}
@@ -68,11 +69,6 @@ module _ {A : Type 0} (lay : A → List ℕ → List ℕ) (m : List ℕ) (at sto
 pub not-here : (m : List ℕ) (at stop t : ℕ) → until stop ≤ length m → (b : Bool) → b ≡ standsOf m at stop t → b ≡ true → (f : ℕ → Bool) → f t ≡ false → (a s : ℕ) → frontOf 1 (part m at stop) ≡ TagRead.Tag a s → f a ≡ false
 not-here m at stop t h b is u f q a s z = ap f (stands-only m at stop t h (sym is ∙ u) a s z) ∙ q
 
-blamed-next : {A B : Type 0} (w : Fault → Fault) (f : A → B) (x : Got A) → blamed w (next x (λ a n. got (f a) n)) ≡ next (blamed w x) (λ a n. got (f a) n)
-unfolding blamed next
-blamed-next w f (got a n) = refl
-blamed-next w f (bad g) = refl
-
 placed-back : {A B : Type 0} (f : A → B) (x : Got A) (p end r : ℕ) → Placed p end (next x (λ a n. got (f a) n)) r → Placed p end x r
 unfolding Placed next
 placed-back f (got a n) p end r e = e
@@ -80,9 +76,7 @@ placed-back f (bad g) p end r e = e
 
 module _ {A B : Type 0} (f : A → B) (x : Item A) (m : List ℕ) (at stop : ℕ) where
   pub item-map : Asked (mapItem f x) m at stop ≡ next (Asked x m at stop) (λ a n. got (f a) n)
-  item-map =
-      ap (λ (g : Bool → Head → ℕ → List ℕ → Got B). ask (place (level 1) none (x .mine) FaultKind.Another g) (finite stop) at (part m at stop)) (fun-ext λ d. fun-ext λ h. fun-ext λ p. fun-ext λ q. blamed-next (λ f. f) f (x .contents h p q))
-      ∙ ask-onto (front (level 1) FaultKind.Another x) none (λ d p part a n. got (f a) n) (finite stop) at (part m at stop) (λ e. missing-both (front (level 1) FaultKind.Another x) _ (finite stop) at (part m at stop) _)
+  item-map = front-map (level 1) FaultKind.Another f x (finite stop) at (part m at stop)
 
   reads-back : (r : ℕ) → Reads (mapItem f x) m at stop r → Reads x m at stop r
   reads-back r e = placed-back f (Asked x m at stop) at (until stop) r (rw item-map at e)

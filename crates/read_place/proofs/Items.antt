@@ -236,7 +236,7 @@ module _ {A B : Type 0} (w : Where) (o : FaultKind) (f : A → B) (x : Item A) (
   same-body : front w o (mapItem f x) ≡ place w none (x .mine) o (λ d h p part. next (blamed (w .owner) (x .contents h p part)) (λ a n. got (f a) n))
   same-body = ap (λ (g : Bool → Head → ℕ → List ℕ → Got B). place w none (x .mine) o g) (fun-ext λ d. fun-ext λ h. fun-ext λ p. fun-ext λ part. blamed-got (w .owner) f (x .contents h p part))
 
-  front-map : ask (front w o (mapItem f x)) d p part ≡ next (ask (front w o x) d p part) (λ a n. got (f a) n)
+  pub front-map : ask (front w o (mapItem f x)) d p part ≡ next (ask (front w o x) d p part) (λ a n. got (f a) n)
   front-map = ap (λ (b : Body B). ask b d p part) same-body ∙ ask-onto (front w o x) none (λ d p part a n. got (f a) n) d p part (λ e. missing-both (front w o x) _ d p part _)
 
   pub placed-item : (end r : ℕ) → Placed p end (ask (front w o x) d p part) r → Placed p end (ask (front w o (mapItem f x)) d p part) r

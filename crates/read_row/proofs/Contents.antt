@@ -21,8 +21,8 @@ use Rattle.tcap.specs.declared.Problem.{Problem}
 use Rattle.tcap.specs.Meaning.{Code, Component, invoke, last, notLast, error, reject}
 use Rattle.tcap.specs.WellFormed.{the93}
 use Rattle.tcap.specs.Productions.{idItem, idOrNullItem, problemItem, codeItem, bothItem, levelAt, noted, invokeBody, resultBody, errorBody, rejectBody, componentItem}
-use Rattle.read_place.specs.Places.{Far, Near, until, finite, part, front, faultPlace, base, nothing, Placed, Reads, Finishes, Leads, standsOf, endedOf, entryPlace, lengthPlace, askedPlace, wrongPlace, unknownComponent}
-use Rattle.read_place.specs.Leaves.{Left, LeavesAll, untold, unlaid}
+use Rattle.read_place.specs.Places.{Far, Near, until, finite, part, front, faultPlace, base, nothing, Reads, Finishes, Leads, standsOf, endedOf, entryPlace, lengthPlace, askedPlace, wrongPlace, unknownComponent}
+use Rattle.read_place.specs.Leaves.{untold}
 use Rattle.read_place.specs.Laying.{layId, layRejectId, layLinked, layCode, layElement, layReturned, layProblem, layComponent}
 use Rattle.read_place.proofs.Answers.{Keeps, far}
 use Rattle.read_place.proofs.Fronts.{wrong-ask}

@@ -1,10 +1,9 @@
 -- What a reader answers and what it leaves, both in one law for each way to put contents together. Assumes nothing.
 use Prim.Native.Nat.{ℕ, _+_, _≤_}
-use mathlib.Core.Path.{_≡_, refl, sym, ap, _∙_}
+use mathlib.Core.Path.{_≡_, refl, sym, _∙_}
 use mathlib.Core.Bool.{Bool, true, false, cond, _||_}
 use mathlib.Core.List.{List}
 use mathlib.Core.Option.{Option, none, some}
-use native.Mathlib.Omega.{arith}
 use lib.ListN.{length, getD, drop}
 use lib.Dec.{eqb, ltb}
 use borrow.Author.Tests.{eqb-true, eq-eqb, ne-eqb}
@@ -13,8 +12,8 @@ use Rattle.element.specs.Element.{constructorOf}
 use Rattle.element.specs.Fault.{Fault}
 use Rattle.element.specs.Head.{endOf, lengthOf}
 use Rattle.element.specs.inner.Fronts.{frontOf}
-use Rattle.element.specs.Ask.{Got, got, next, check, Size, definite, indefinite, Head, head, Body, askLength, atEnd, ask}
-use Rattle.element.specs.Parts.{Item, level, inside, done, aroundItem, bindBody, onlyBody, lastBody, mapBody}
+use Rattle.element.specs.Ask.{check, Size, definite, indefinite, Head, head, Body, askLength, atEnd, ask}
+use Rattle.element.specs.Parts.{Item, level, done, aroundItem, bindBody, onlyBody, lastBody, mapBody}
 use Rattle.element.proofs.Views.{span-drop}
 use Rattle.read_place.specs.Places.{Far, Near, until, finite, part, front, nothing, Placed, Reads, Finishes, endedOf, behindOf}
 use Rattle.read_place.specs.Leaves.{Left, Leaves, LeavesAll, unlaid}

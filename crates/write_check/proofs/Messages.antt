@@ -21,7 +21,7 @@ use Rattle.write_check_row.proofs.Listed.{over-right}
 use Rattle.write_check.specs.Judgements.{idsOf, idsThere, restFits, portionOf, portionJudged, messageJudged}
 
 pub parts-by : (k : MessageKind) (o e c : Bool) (n : ℕ) → partsFit k o e c n ≡ eqb (idsThere o e) (idsOf k) && restFits k c n
-unfolding partsFit idsOf idsThere restFits
+unfolding partsFit restFits
 parts-by MessageKind.Unidirectional true true c n = refl
 parts-by MessageKind.Unidirectional true false c n = refl
 parts-by MessageKind.Unidirectional false true c n = refl

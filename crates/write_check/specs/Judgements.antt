@@ -25,14 +25,14 @@ sourceJudged s = judged (rankOf true (sourceRanges s) true true) (sizeOf (around
 
 -- 24 at a kind: which IDs it has (1 the originating one, 2 the destination, 3 both), the cause and the number of components
 
-unfoldable pub idsOf : MessageKind → ℕ
+abbrev pub idsOf : MessageKind → ℕ
 idsOf MessageKind.Unidirectional = 0
 idsOf MessageKind.Begin = 1
 idsOf MessageKind.End = 2
 idsOf MessageKind.Continue = 3
 idsOf MessageKind.Abort = 2
 
-unfoldable pub idsThere : Bool → Bool → ℕ
+abbrev pub idsThere : Bool → Bool → ℕ
 idsThere false false = 0
 idsThere true false = 1
 idsThere false true = 2

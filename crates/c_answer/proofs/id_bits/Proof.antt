@@ -10,9 +10,6 @@ use Rattle.c_answer.proofs.id_bits.Tie as tie
 enum-told : tie.Need-enum-told
 enum-told c = search needs
 
-mul-result : tie.Need-mul-result
-mul-result c = omega (arith, c .octet-of .ok)
-
 add-result : tie.Need-add-result
 add-result c = omega (arith, c .octet-of .ok)
 
@@ -32,7 +29,7 @@ id-bits-spec =
     (λ c. search needs)
     (λ c κs. search needs)
     (λ c. search needs)
-    mul-result
+    (λ c. omega (arith, c .octet-of .ok))
     add-result
     returns
     returns-2)

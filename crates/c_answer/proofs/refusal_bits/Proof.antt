@@ -6,9 +6,6 @@ use Rattle.c_answer.proofs.Bits.{orig-small, send-small, number-small}
 use Rattle.c_answer.proofs.refusal_bits.Statement.{statement}
 use Rattle.c_answer.proofs.refusal_bits.Tie as tie
 
-add-found : tie.Need-add-found
-add-found c = omega (arith, c .before .number-of .ensures, number-small (c .before .before .args .refusal))
-
 add-result : tie.Need-add-result
 add-result c = omega (arith, c .before .before .before .number-of .ensures, number-small (c .before .before .before .before .args .refusal), c .before .orig-bits .ensures, orig-small (c .before .before .before .before .args .refusal .orig))
 
@@ -26,7 +23,7 @@ refusal-bits-spec =
     (λ c κs. search needs)
     (λ c. search needs)
     (λ c. search needs)
-    add-found
+    (λ c. omega (arith, c .before .number-of .ensures, number-small (c .before .before .args .refusal)))
     (λ c κs. search needs)
     (λ c κs. search needs)
     add-result

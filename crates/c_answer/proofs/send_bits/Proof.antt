@@ -6,9 +6,6 @@ use Rattle.c_answer.proofs.Bits.{id-small}
 use Rattle.c_answer.proofs.send_bits.Statement.{statement}
 use Rattle.c_answer.proofs.send_bits.Tie as tie
 
-add-result : tie.Need-add-result
-add-result c = omega (arith, c .id-bits .ensures, id-small (c .before .before .answer2 .given .0 .1 .1 .0))
-
 returns : tie.Need-returns
 unfolding sendBits
 returns c = rw (c .before .answer .given .1)
@@ -31,6 +28,6 @@ send-bits-spec =
     (λ c. search needs)
     (λ c. search needs)
     (λ c κs. search needs)
-    add-result
+    (λ c. omega (arith, c .id-bits .ensures, id-small (c .before .before .answer2 .given .0 .1 .1 .0)))
     returns
     returns-2)

@@ -5,21 +5,6 @@ use borrow.Author.Needs.{needs}
 use Rattle.c_unitdata.proofs.unitdata_bits.Statement.{statement}
 use Rattle.c_unitdata.proofs.unitdata_bits.Tie as tie
 
-mul-addresses : tie.Need-mul-addresses
-mul-addresses c = omega arith
-
-mul-addresses-2 : tie.Need-mul-addresses-2
-mul-addresses-2 c = omega arith
-
-add-addresses : tie.Need-add-addresses
-add-addresses c = omega arith
-
-mul-result : tie.Need-mul-result
-mul-result c = omega arith
-
-add-result : tie.Need-add-result
-add-result c = omega arith
-
 returns : tie.Need-returns
 unfolding unitdataBits
 returns c = rw (c .before .before .read .given .1) (c .unitdata-number .ensures)
@@ -37,12 +22,12 @@ unitdata-bits-spec =
     (λ c. search needs)
     (λ c. search needs)
     (λ c κs. search needs)
-    mul-addresses
+    (λ c. omega arith)
     (λ c κs. search needs)
-    mul-addresses-2
-    add-addresses
+    (λ c. omega arith)
+    (λ c. omega arith)
     (λ c κs. search needs)
-    mul-result
-    add-result
+    (λ c. omega arith)
+    (λ c. omega arith)
     returns
     returns-2)

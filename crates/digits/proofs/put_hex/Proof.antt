@@ -21,23 +21,8 @@ loop-holds : tie.Need-loop-holds Inv-loop μ-loop
 unfolding hex
 loop-holds c = (omega arith, put-none _ _ (omega arith) (omega arith))
 
-shared-slice-read-put-two-digits : tie.Need-shared-slice-read-put-two-digits Inv-loop μ-loop
-shared-slice-read-put-two-digits c = omega arith
-
-add-i : tie.Need-add-i Inv-loop μ-loop
-add-i c = omega arith
-
-loop-less : tie.Need-loop-less Inv-loop μ-loop
-loop-less c = omega arith
-
 loop-again : tie.Need-loop-again Inv-loop μ-loop
 loop-again c = (omega arith, hex-step _ _ (c .before .before .before .before .before .loop-test .taken) (c .before .before .before .before .before .before .loop .inv .1) (c .before .before .put-two-digits .ensures))
-
-same-length : tie.Need-same-length Inv-loop μ-loop
-same-length c = put-length (c .before .loop .inv .1)
-
-returns : tie.Need-returns Inv-loop μ-loop
-returns c = rw (take-all _ (c .before .before .before .before .args .part .now) (c .loop-test .left)) at (c .before .loop .inv .1)
 
 pub put-hex-spec : {M : Type 1} → statement M
 put-hex-spec =
@@ -46,10 +31,10 @@ put-hex-spec =
     Inv-loop
     μ-loop
     loop-holds
-    shared-slice-read-put-two-digits
+    (λ c. omega arith)
     (λ c κs. search needs)
-    add-i
-    loop-less
+    (λ c. omega arith)
+    (λ c. omega arith)
     loop-again
-    same-length
-    returns)
+    (λ c. put-length (c .before .loop .inv .1))
+    (λ c. rw (take-all _ (c .before .before .before .before .args .part .now) (c .loop-test .left)) at (c .before .loop .inv .1)))

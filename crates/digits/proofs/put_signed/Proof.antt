@@ -7,9 +7,6 @@ use Rattle.digits.proofs.Digits.{signed-low, signed-high}
 use Rattle.digits.proofs.put_signed.Statement.{statement}
 use Rattle.digits.proofs.put_signed.Tie as tie
 
-bits-requires : tie.Need-bits-requires
-bits-requires c κs = rw (toZ-ofZ (c .before .fits .value)) (omega (arith, c .before .fits .value .sfits))
-
 returns : tie.Need-returns
 returns c =
     let s = c .before .before .before .before .before .before .before in
@@ -26,7 +23,7 @@ pub put-signed-spec : {M : Type 1} → statement M
 put-signed-spec =
     tie.close
     (tie.spec
-    bits-requires
+    (λ c κs. rw (toZ-ofZ (c .before .fits .value)) (omega (arith, c .before .fits .value .sfits)))
     (λ c. search needs)
     (λ c κs. search needs)
     (λ c. search needs)

@@ -6,12 +6,6 @@ use borrow.Author.Needs.{needs}
 use Rattle.entry_octets.proofs.passed_eight.Statement.{statement}
 use Rattle.entry_octets.proofs.passed_eight.Tie as tie
 
-returns : tie.Need-returns
-returns c = eight-short _ _ _ (c .before .passed-four .ensures) (c .if1 .taken)
-
-passed-four-requires-2 : tie.Need-passed-four-requires-2
-passed-four-requires-2 c κs = rw (c .after .ensures) (simp length-drop (omega arith))
-
 add-result : tie.Need-add-result
 add-result c = let h = passed-most (c .before .before .before .before .before .args .word) (c .before .before .before .before .before .args .len) (c .before .after .result .now) 4 in omega (arith, c .passed-four2 .ensures, h)
 
@@ -23,8 +17,8 @@ passed-eight-spec =
     tie.close
     (tie.spec
     (λ c κs. search needs)
-    returns
+    (λ c. eight-short _ _ _ (c .before .passed-four .ensures) (c .if1 .taken))
     (λ c κs. search needs)
-    passed-four-requires-2
+    (λ c κs. rw (c .after .ensures) (simp length-drop (omega arith)))
     add-result
     returns-2)

@@ -10,15 +10,9 @@ returns : tie.Need-returns
 unfolding passedIn
 returns c = rw (← c .before .holds-in .ensures, c .if1 .taken)
 
-holds-in-requires-2 : tie.Need-holds-in-requires-2
-holds-in-requires-2 c κs = one-less (c .before .before .before .before .args .part .now) _ 12 (c .after .ensures) (omega arith)
-
 returns-2 : tie.Need-returns-2
 unfolding passedIn
 returns-2 c = rw (← c .before .before .before .before .holds-in .ensures, c .before .before .before .if1 .left, ← c .before .before .after .ensures, ← c .before .holds-in2 .ensures, c .if2 .taken)
-
-after-requires-2 : tie.Need-after-requires-2
-after-requires-2 c κs = one-less (c .before .before .before .before .before .before .args .part .now) _ 12 (c .before .before .after .ensures) (omega arith)
 
 holds-in-requires-3 : tie.Need-holds-in-requires-3
 holds-in-requires-3 c κs = one-less (c .before .before .before .after .result .now) _ 12 (c .after2 .ensures) (one-less (c .before .before .before .before .before .before .before .args .part .now) _ 24 (c .before .before .before .after .ensures) (omega arith))
@@ -48,9 +42,9 @@ passed-four-spec =
     (λ c κs. search needs)
     returns
     (λ c κs. search needs)
-    holds-in-requires-2
+    (λ c κs. one-less (c .before .before .before .before .args .part .now) _ 12 (c .after .ensures) (omega arith))
     returns-2
-    after-requires-2
+    (λ c κs. one-less (c .before .before .before .before .before .before .args .part .now) _ 12 (c .before .before .after .ensures) (omega arith))
     holds-in-requires-3
     returns-3
     after-requires-3

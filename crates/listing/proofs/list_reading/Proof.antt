@@ -6,9 +6,6 @@ use Rattle.listing.proofs.Room.{cut-length, too-long, has-room}
 use Rattle.listing.proofs.list_reading.Statement.{statement}
 use Rattle.listing.proofs.list_reading.Tie as tie
 
-slice-aggregate-put-reading : tie.Need-slice-aggregate-put-reading
-slice-aggregate-put-reading c = search (needs, cut-length)
-
 returns : tie.Need-returns
 returns c =
     let counted = c .before .before .before .put-reading .ensures in
@@ -24,7 +21,7 @@ list-reading-spec =
     tie.close
     (tie.spec
     (λ c. search needs)
-    slice-aggregate-put-reading
+    (λ c. search (needs, cut-length))
     (λ c κs. search needs)
     (λ c. search needs)
     returns

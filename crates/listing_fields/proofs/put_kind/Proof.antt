@@ -7,27 +7,8 @@ use Rattle.listing_fields.proofs.put_kind.Tie as tie
 enum-told : tie.Need-enum-told
 enum-told c = search needs
 
-returns : tie.Need-returns
-unfolding kindText
-returns c = rw (c .before .before .before .before .before .enum-told .given .1) (c .before .before .put-part .ensures)
-
-returns-2 : tie.Need-returns-2
-unfolding kindText
-returns-2 c = rw (c .before .before .before .before .before .enum-told2 .given .1) (c .before .before .put-part2 .ensures)
-
-returns-3 : tie.Need-returns-3
-unfolding kindText
-returns-3 c = rw (c .before .before .before .before .before .enum-told3 .given .1) (c .before .before .put-part3 .ensures)
-
-returns-4 : tie.Need-returns-4
-unfolding kindText
-returns-4 c = rw (c .before .before .before .before .before .enum-told4 .given .1) (c .before .before .put-part4 .ensures)
-
-returns-5 : tie.Need-returns-5
-unfolding kindText
-returns-5 c = rw (c .before .before .before .before .before .enum-told5 .given .1) (c .before .before .put-part5 .ensures)
-
 pub put-kind-spec : {M : Type 1} → statement M
+unfolding kindText
 put-kind-spec =
     tie.close
     (tie.spec
@@ -47,12 +28,12 @@ put-kind-spec =
     (λ c. search needs)
     (λ c κs. search needs)
     (λ c. search needs)
-    returns
+    (λ c. rw (c .before .before .before .before .before .enum-told .given .1) (c .before .before .put-part .ensures))
     (λ c. search needs)
-    returns-2
+    (λ c. rw (c .before .before .before .before .before .enum-told2 .given .1) (c .before .before .put-part2 .ensures))
     (λ c. search needs)
-    returns-3
+    (λ c. rw (c .before .before .before .before .before .enum-told3 .given .1) (c .before .before .put-part3 .ensures))
     (λ c. search needs)
-    returns-4
+    (λ c. rw (c .before .before .before .before .before .enum-told4 .given .1) (c .before .before .put-part4 .ensures))
     (λ c. search needs)
-    returns-5)
+    (λ c. rw (c .before .before .before .before .before .enum-told5 .given .1) (c .before .before .put-part5 .ensures)))

@@ -22,22 +22,10 @@ loop-holds : tie.Need-loop-holds Inv-loop μ-loop
 unfolding rowsText
 loop-holds c = (omega arith, put-none _ _ (omega arith) (omega arith))
 
-same-length : tie.Need-same-length Inv-loop μ-loop
-same-length c = put-length (c .before .before .loop .inv .1)
-
 returns : tie.Need-returns Inv-loop μ-loop
 returns c =
     let e : c .before .before .loop .i ≡ c .before .before .before .before .before .args .count = omega arith in
     rw (← e) (c .before .before .loop .inv .1)
-
-mul-row : tie.Need-mul-row Inv-loop μ-loop
-mul-row c = omega arith
-
-array-copy-out-row : tie.Need-array-copy-out-row Inv-loop μ-loop
-array-copy-out-row c = omega arith
-
-add-i : tie.Need-add-i Inv-loop μ-loop
-add-i c = omega arith
 
 loop-less : tie.Need-loop-less Inv-loop μ-loop
 loop-less c = omega arith
@@ -62,12 +50,12 @@ put-rows-spec =
     Inv-loop
     μ-loop
     loop-holds
-    same-length
+    (λ c. put-length (c .before .before .loop .inv .1))
     returns
-    mul-row
-    array-copy-out-row
+    (λ c. omega arith)
+    (λ c. omega arith)
     (λ c κs. search needs)
-    add-i
+    (λ c. omega arith)
     loop-less
     loop-again
     same-length-2

@@ -31,35 +31,17 @@ sixteen : (c : tie.Start Inv-loop μ-loop) → length (c .args .t2 .rows) ≡ 16
 unfolding laidOut
 sixteen c = fits c .sixteen
 
-put-head-requires : tie.Need-put-head-requires Inv-loop μ-loop
-put-head-requires c κs = omega (arith, c .before .before .before .before .pre)
-
 loop-holds : tie.Need-loop-holds Inv-loop μ-loop
 unfolding rowsOctets
 loop-holds c = (omega arith, put-none _ _ (omega arith) (omega arith))
 
-mul-row : tie.Need-mul-row Inv-loop μ-loop
-mul-row c = omega (arith, c .before .before .before .before .before .before .least2 .ensures)
-
-element-copy-out-row : tie.Need-element-copy-out-row Inv-loop μ-loop
-element-copy-out-row c = omega (arith, c .before .before .before .before .before .before .least2 .ensures)
-
 put-row-requires : tie.Need-put-row-requires Inv-loop μ-loop
 put-row-requires c κs = row-room _ (c .before .before .before .loop .k) (c .before .before .before .before .before .before .put-head .ensures) (head-length _ _ _ _ _) (c .before .before .before .before .before .before .before .before .before .before .before .pre) (omega (arith, c .before .before .loop-test .taken, c .before .before .before .before .before .before .before .before .least2 .ensures)) (c .before .before .before .loop .inv .1)
-
-add-k : tie.Need-add-k Inv-loop μ-loop
-add-k c = omega (arith, c .before .before .before .before .before .before .before .before .before .before .before .least2 .ensures)
-
-loop-less : tie.Need-loop-less Inv-loop μ-loop
-loop-less c = omega (arith, c .before .before .before .before .before .loop-test .taken)
 
 loop-again : tie.Need-loop-again Inv-loop μ-loop
 loop-again c = let rows = c .before .before .before .before .before .before .before .before .before .before .before .before .before .before .args .t2 .rows in
     let l : c .before .before .before .before .before .before .loop .k < length rows = omega (arith, c .before .before .before .before .before .loop-test .taken, c .before .before .before .before .before .before .before .before .before .before .before .least2 .ensures, sixteen (c .before .before .before .before .before .before .before .before .before .before .before .before .before .before)) in
     (omega (arith, c .before .before .before .before .before .loop-test .taken), rows-step rows (c .before .before .before .before .before .before .loop .k) _ l (c .before .before .before .before .before .before .loop .inv .1) (c .before .before .put-row .ensures .0))
-
-same-length : tie.Need-same-length Inv-loop μ-loop
-same-length c = put-length (put-then (c .before .before .before .before .put-head .ensures) (c .before .loop .inv .1))
 
 returns : tie.Need-returns Inv-loop μ-loop
 unfolding recordOctets laidOut
@@ -74,13 +56,13 @@ put-record-spec =
     μ-loop
     (λ c κs. search needs)
     (λ c κs. search needs)
-    put-head-requires
+    (λ c κs. omega (arith, c .before .before .before .before .pre))
     loop-holds
-    mul-row
-    element-copy-out-row
+    (λ c. omega (arith, c .before .before .before .before .before .before .least2 .ensures))
+    (λ c. omega (arith, c .before .before .before .before .before .before .least2 .ensures))
     put-row-requires
-    add-k
-    loop-less
+    (λ c. omega (arith, c .before .before .before .before .before .before .before .before .before .before .before .least2 .ensures))
+    (λ c. omega (arith, c .before .before .before .before .before .loop-test .taken))
     loop-again
-    same-length
+    (λ c. put-length (put-then (c .before .before .before .before .put-head .ensures) (c .before .loop .inv .1)))
     returns)

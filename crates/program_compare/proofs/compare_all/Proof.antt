@@ -10,12 +10,6 @@ Inv-loop fd cases tally₀ left₀ tally left = Unit {0}
 abbrev μ-loop : tie.MeasureT-loop
 μ-loop fd cases tally₀ left₀ tally left = left
 
-left-after-requires : tie.Need-left-after-requires Inv-loop μ-loop
-left-after-requires c κs = omega arith
-
-loop-less : tie.Need-loop-less Inv-loop μ-loop
-loop-less c = c .left-after .ensures
-
 pub compare-all-spec : {M : Type 1} → statement M
 compare-all-spec =
     tie.close
@@ -25,7 +19,7 @@ compare-all-spec =
     (λ c. search needs)
     (λ c κs. search needs)
     (λ c κs. search needs)
-    left-after-requires
-    loop-less
+    (λ c κs. omega arith)
+    (λ c. c .left-after .ensures)
     (λ c. search needs)
     (λ c. search needs))

@@ -5,9 +5,6 @@ use Rattle.program_readings.proofs.Rewriting.{line-fits}
 use Rattle.program_readings.proofs.print_written.Statement.{statement}
 use Rattle.program_readings.proofs.print_written.Tie as tie
 
-array-share-prefix-text : tie.Need-array-share-prefix-text
-array-share-prefix-text c = line-fits _ _ (c .before .put-line .ensures) (c .before .before .before .before .before .pre) (sym (c .before .before .before .buffer .ensures)) .0
-
 slice-aggregate-write-all : tie.Need-slice-aggregate-write-all
 slice-aggregate-write-all c = line-fits _ _ (c .before .before .put-line .ensures) (c .before .before .before .before .before .before .pre) (sym (c .before .before .before .before .buffer .ensures)) .1
 
@@ -18,7 +15,7 @@ print-written-spec =
     (λ c κs. search needs)
     (λ c. search needs)
     (λ c κs. search needs)
-    array-share-prefix-text
+    (λ c. line-fits _ _ (c .before .put-line .ensures) (c .before .before .before .before .before .pre) (sym (c .before .before .before .buffer .ensures)) .0)
     slice-aggregate-write-all
     (λ c κs. search needs)
     (λ c. search needs))

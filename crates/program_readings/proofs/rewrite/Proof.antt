@@ -13,9 +13,6 @@ returns-2 c =
     let p = c .before .before .before .before .before .before .before .before .before .before .before .pre in
     absurd (always _ _ (c .before .before .before .before .before .before .enum-told .given .1) x (p .0) (p .1) (c .enum-told2 .given .1))
 
-returns-3 : tie.Need-returns-3
-returns-3 c = (search needs, of-refused _ _ (c .enum-told3 .given .1))
-
 pub rewrite-spec : {M : Type 1} → statement M
 rewrite-spec =
     tie.close
@@ -29,4 +26,4 @@ rewrite-spec =
     returns
     (λ c. search needs)
     returns-2
-    returns-3)
+    (λ c. (search needs, of-refused _ _ (c .enum-told3 .given .1))))

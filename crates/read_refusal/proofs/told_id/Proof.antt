@@ -6,11 +6,10 @@ use Rattle.read_refusal.proofs.Refusals.{id-null, id-known}
 use Rattle.read_refusal.proofs.told_id.Statement.{statement}
 use Rattle.read_refusal.proofs.told_id.Tie as tie
 
-returns : tie.Need-returns
-returns c = search id-null
-
-returns-2 : tie.Need-returns-2
-returns-2 c = rw (toZ-ofZ {w = w8} (record { sfits = c .signed-octet .ok })) (id-known _ _ (c .before .if1 .left) _ (c .signed-octet .ensures))
-
 pub told-id-spec : {M : Type 1} → statement M
-told-id-spec = tie.close (tie.spec returns (λ c κs. search needs) returns-2)
+told-id-spec =
+    tie.close
+    (tie.spec
+    (λ c. search id-null)
+    (λ c κs. search needs)
+    (λ c. rw (toZ-ofZ {w = w8} (record { sfits = c .signed-octet .ok })) (id-known _ _ (c .before .if1 .left) _ (c .signed-octet .ensures))))

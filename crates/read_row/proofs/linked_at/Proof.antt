@@ -11,9 +11,6 @@ use Rattle.read_row.proofs.Contents.{linked-none, linked-fault, linked-
 use Rattle.read_row.proofs.linked_at.Statement.{statement}
 use Rattle.read_row.proofs.linked_at.Tie as tie
 
-shared-slice-read-row : tie.Need-shared-slice-read-row
-shared-slice-read-row c = octet-inside _ _ _ _ (search needs) 128 (omega arith, omega arith, omega arith) (c .before .before .one-octet-at .ensures) (c .before .if2 .left)
-
 same-length : tie.Need-same-length
 same-length c =
     let start = c .before .before .before .before .before .before .before .before .before .before .before in
@@ -33,7 +30,7 @@ linked-at-spec =
     (λ c. linked-fault _ _ _ (omega arith) (omega arith) _ (c .before .before .before .stands .ensures) _ _ (c .before .before .if1 .taken) _ (c .before .one-octet-at .ensures) (c .if2 .taken))
     (λ c. search needs)
     (λ c. search needs)
-    shared-slice-read-row
+    (λ c. octet-inside _ _ _ _ (search needs) 128 (omega arith, omega arith, omega arith) (c .before .before .one-octet-at .ensures) (c .before .if2 .left))
     (λ c. search needs)
     (λ c κs. (search (needs, reads-within), omega arith, simp length-set (omega arith)))
     same-length

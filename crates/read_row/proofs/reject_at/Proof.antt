@@ -6,9 +6,6 @@ use Rattle.read_row.proofs.Contents.{reject-fault, problem-fault, rejec
 use Rattle.read_row.proofs.reject_at.Statement.{statement}
 use Rattle.read_row.proofs.reject_at.Tie as tie
 
-leave-requires : tie.Need-leave-requires
-leave-requires c κs = ((reads-within problemItem _ _ _ _ (c .before .before .before .problem-at .ensures .0) (c .if2 .left), search needs, search needs), search needs)
-
 pub reject-at-spec : {M : Type 1} → statement M
 reject-at-spec =
     tie.close
@@ -19,6 +16,6 @@ reject-at-spec =
     (λ c κs. search (needs, reads-within))
     (λ c. search needs)
     (λ c. problem-fault _ _ _ _ _ _ (c .before .before .before .before .before .before .before .before .reject-id-at .ensures) (c .before .before .before .before .before .if1 .left) _ _ (c .before .before .before .problem-at .ensures) (c .if2 .taken))
-    leave-requires
+    (λ c κs. ((reads-within problemItem _ _ _ _ (c .before .before .before .problem-at .ensures .0) (c .if2 .left), search needs, search needs), search needs))
     (λ c. search needs)
     (λ c. reject-end _ _ _ _ _ _ (c .before .before .before .before .before .before .before .before .before .reject-id-at .ensures) (c .before .before .before .before .before .before .if1 .left) _ _ (c .before .before .before .before .problem-at .ensures) (c .before .if2 .left) _ (c .leave .ensures)))

@@ -7,9 +7,6 @@ use Rattle.table_number.proofs.step_number.Tie as tie
 enum-told : tie.Need-enum-told
 enum-told c = search needs
 
-taken-number-requires : tie.Need-taken-number-requires
-taken-number-requires c κs = reply-room _ _ _ _ _ (c .before .before .before .before .before .step-octets .ensures .0) (c .before .taken .given .1)
-
 returns : tie.Need-returns
 returns c = (rw (← c .before .before .before .before .step-octets .ensures .0, c .enum-told .given .1), c .before .before .before .before .step-octets .ensures .1)
 
@@ -23,7 +20,7 @@ step-number-spec =
     (λ c κs. search needs)
     enum-told
     (λ c. search needs)
-    taken-number-requires
+    (λ c κs. reply-room _ _ _ _ _ (c .before .before .before .before .before .step-octets .ensures .0) (c .before .taken .given .1))
     (λ c. search needs)
     returns
     (λ c. search needs)

@@ -17,29 +17,11 @@ Inv-loop table id word i₀ i = (i ≤ 64) × ((i % 8 ≡ 0) × (findFrom (holds
 abbrev μ-loop : tie.MeasureT-loop
 μ-loop table id word i₀ i = 64 - i
 
-loop-holds : tie.Need-loop-holds Inv-loop μ-loop
-loop-holds c = (omega arith, (refl, refl))
-
-mul-after : tie.Need-mul-after Inv-loop μ-loop
-mul-after c = omega arith
-
-after-requires : tie.Need-after-requires Inv-loop μ-loop
-after-requires c κs = omega arith
-
-passed-eight-requires : tie.Need-passed-eight-requires Inv-loop μ-loop
-passed-eight-requires c κs = rw (c .after .ensures) (simp length-drop (omega arith))
-
 add-t9 : tie.Need-add-t9 Inv-loop μ-loop
 add-t9 c = omega arith
 
 returns : tie.Need-returns Inv-loop μ-loop
 returns c = sym (c .before .before .before .before .loop .inv .1 .1 ∙ walk-found (c .before .before .before .before .before .before .before .before .args .table .now) (c .before .before .before .before .before .before .before .before .args .id .now) (c .before .before .before .before .loop .i) (c .before .before .before .before .before .before .before .shared-slice-known .given) (c .before .before .before .before .before .before .shared-slice-known2 .given) (omega arith) (c .before .before .before .before .before .id-word .ensures) (c .before .before .after .ensures) (c .before .passed-eight .ensures) (c .if1 .taken))
-
-add-i : tie.Need-add-i Inv-loop μ-loop
-add-i c = omega arith
-
-loop-less : tie.Need-loop-less Inv-loop μ-loop
-loop-less c = omega arith
 
 loop-again : tie.Need-loop-again Inv-loop μ-loop
 loop-again c = (omega arith, (omega arith, c .before .before .before .before .loop .inv .1 .1 ∙ walk-on (c .before .before .before .before .before .before .before .before .args .table .now) (c .before .before .before .before .before .before .before .before .args .id .now) (c .before .before .before .before .loop .i) (c .before .before .before .before .before .before .before .shared-slice-known .given) (c .before .before .before .before .before .before .shared-slice-known2 .given) (omega arith) (c .before .before .before .before .before .id-word .ensures) (c .before .before .after .ensures) (c .before .passed-eight .ensures) (c .if1 .left)))
@@ -54,13 +36,13 @@ find-in-spec =
     Inv-loop
     μ-loop
     (λ c κs. search needs)
-    loop-holds
-    mul-after
-    after-requires
-    passed-eight-requires
+    (λ c. (omega arith, (refl, refl)))
+    (λ c. omega arith)
+    (λ c κs. omega arith)
+    (λ c κs. rw (c .after .ensures) (simp length-drop (omega arith)))
     add-t9
     returns
-    add-i
-    loop-less
+    (λ c. omega arith)
+    (λ c. omega arith)
     loop-again
     returns-2)

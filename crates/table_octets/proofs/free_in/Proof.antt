@@ -16,20 +16,8 @@ Inv-loop table i₀ i = (i ≤ 64) × (findFrom isFree 0 (entriesIn table) ≡ f
 abbrev μ-loop : tie.MeasureT-loop
 μ-loop table i₀ i = 64 - i
 
-loop-holds : tie.Need-loop-holds Inv-loop μ-loop
-loop-holds c = (omega arith, refl)
-
-mul-state-in : tie.Need-mul-state-in Inv-loop μ-loop
-mul-state-in c = omega arith
-
-shared-slice-read-state-in : tie.Need-shared-slice-read-state-in Inv-loop μ-loop
-shared-slice-read-state-in c = omega arith
-
 returns : tie.Need-returns Inv-loop μ-loop
 returns c = sym (c .before .before .before .before .before .loop .inv .1 ∙ at-here isFree (c .before .before .before .before .before .before .before .args .table .now) (c .before .before .before .before .before .loop .i) (omega arith) (free-at (c .before .before .before .before .before .before .before .args .table .now) (c .before .before .before .before .before .loop .i * 12) (c .before .before .state-in .ensures) (c .before .is-open .ensures) (c .if1 .taken)))
-
-add-i : tie.Need-add-i Inv-loop μ-loop
-add-i c = omega arith
 
 loop-less : tie.Need-loop-less Inv-loop μ-loop
 loop-less c = omega arith
@@ -37,22 +25,19 @@ loop-less c = omega arith
 loop-again : tie.Need-loop-again Inv-loop μ-loop
 loop-again c = (omega arith, c .before .before .before .before .before .loop .inv .1 ∙ at-next isFree (c .before .before .before .before .before .before .before .args .table .now) (c .before .before .before .before .before .loop .i) (omega arith) (free-at (c .before .before .before .before .before .before .before .args .table .now) (c .before .before .before .before .before .loop .i * 12) (c .before .before .state-in .ensures) (c .before .is-open .ensures) (c .if1 .left)))
 
-returns-2 : tie.Need-returns-2 Inv-loop μ-loop
-returns-2 c = sym (c .before .loop .inv .1 ∙ at-none isFree (c .before .before .before .args .table .now) (c .before .loop .i) (omega arith))
-
 pub free-in-spec : {M : Type 1} → statement M
 free-in-spec =
     tie.close
     (tie.spec
     Inv-loop
     μ-loop
-    loop-holds
-    mul-state-in
-    shared-slice-read-state-in
+    (λ c. (omega arith, refl))
+    (λ c. omega arith)
+    (λ c. omega arith)
     (λ c κs. search needs)
     (λ c κs. search needs)
     returns
-    add-i
+    (λ c. omega arith)
     loop-less
     loop-again
-    returns-2)
+    (λ c. sym (c .before .loop .inv .1 ∙ at-none isFree (c .before .before .before .args .table .now) (c .before .loop .i) (omega arith))))

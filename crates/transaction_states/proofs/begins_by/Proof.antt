@@ -6,9 +6,6 @@ use Rattle.transaction_states.proofs.begins_by.Tie as tie
 enum-told : tie.Need-enum-told
 enum-told c = search needs
 
-returns : tie.Need-returns
-returns c = rw (c .enum-told .given .1)
-
 returns-2 : tie.Need-returns-2
 returns-2 c = rw (c .enum-told2 .given .1)
 
@@ -26,7 +23,7 @@ begins-by-spec =
     (λ c. search needs)
     (λ c. search needs)
     (λ c. search needs)
-    returns
+    (λ c. rw (c .enum-told .given .1))
     returns-2
     (λ c. search needs)
     (λ c. search needs)

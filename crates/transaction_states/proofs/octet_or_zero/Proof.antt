@@ -6,8 +6,10 @@ use borrow.Author.Needs.{needs}
 use Rattle.transaction_states.proofs.octet_or_zero.Statement.{statement}
 use Rattle.transaction_states.proofs.octet_or_zero.Tie as tie
 
-returns-2 : tie.Need-returns-2
-returns-2 c = sym (List·getD-eq-default (c .before .args .id .now) 0 (omega (arith, c .if1 .left)))
-
 pub octet-or-zero-spec : {M : Type 1} → statement M
-octet-or-zero-spec = tie.close (tie.spec (λ c. search needs) (λ c. search needs) returns-2)
+octet-or-zero-spec =
+    tie.close
+    (tie.spec
+    (λ c. search needs)
+    (λ c. search needs)
+    (λ c. sym (List·getD-eq-default (c .before .args .id .now) 0 (omega (arith, c .if1 .left)))))

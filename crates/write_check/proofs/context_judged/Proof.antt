@@ -4,9 +4,6 @@ use Rattle.write_check_row.proofs.Joining.{wrap, around-size, leaf-size}
 use Rattle.write_check.proofs.context_judged.Statement.{statement}
 use Rattle.write_check.proofs.context_judged.Tie as tie
 
-returns : tie.Need-returns
-returns c = rw (c .around2 .ensures, c .before .around .ensures, c .before .before .name-judged .ensures, wrap, wrap, around-size, leaf-size)
-
 pub context-judged-spec : {M : Type 1} → statement M
 context-judged-spec =
     tie.close
@@ -14,4 +11,4 @@ context-judged-spec =
     (λ c κs. search needs)
     (λ c κs. search needs)
     (λ c κs. search needs)
-    returns)
+    (λ c. rw (c .around2 .ensures, c .before .around .ensures, c .before .before .name-judged .ensures, wrap, wrap, around-size, leaf-size)))

@@ -21,24 +21,9 @@ returns-2 : tie.Need-returns-2
 unfolding dialogueRanges dialogueLies dialogueShaped dialogueForm
 returns-2 c = rw (c .before .before .dialogue .given .1, octet-size) (c .octet-judged .ensures)
 
-returns-3 : tie.Need-returns-3
-returns-3 c = rw (c .before .before .dialogue2 .given .1) (c .request-judged .ensures)
-
-returns-4 : tie.Need-returns-4
-returns-4 c = rw (c .before .before .dialogue3 .given .1) (c .response-judged .ensures)
-
-returns-5 : tie.Need-returns-5
-returns-5 c = rw (c .before .before .dialogue4 .given .1) (c .abort-judged .ensures)
-
 returns-6 : tie.Need-returns-6
 unfolding dialogueRanges dialogueLies dialogueShaped dialogueForm
 returns-6 c = rw (c .before .before .dialogue5 .given .1) (c .request-judged2 .ensures ∙ ap (judged _) (named-alike _))
-
-returns-7 : tie.Need-returns-7
-returns-7 c = rw (c .before .before .dialogue6 .given .1) (c .outside-element-judged .ensures)
-
-returns-8 : tie.Need-returns-8
-returns-8 c = rw (c .before .before .dialogue7 .given .1) (c .outside-octets-judged .ensures)
 
 pub dialogue-judged-spec : {M : Type 1} → statement M
 dialogue-judged-spec =
@@ -61,9 +46,9 @@ dialogue-judged-spec =
     (λ c κs. search needs)
     returns
     returns-2
-    returns-3
-    returns-4
-    returns-5
+    (λ c. rw (c .before .before .dialogue2 .given .1) (c .request-judged .ensures))
+    (λ c. rw (c .before .before .dialogue3 .given .1) (c .response-judged .ensures))
+    (λ c. rw (c .before .before .dialogue4 .given .1) (c .abort-judged .ensures))
     returns-6
-    returns-7
-    returns-8)
+    (λ c. rw (c .before .before .dialogue6 .given .1) (c .outside-element-judged .ensures))
+    (λ c. rw (c .before .before .dialogue7 .given .1) (c .outside-octets-judged .ensures)))

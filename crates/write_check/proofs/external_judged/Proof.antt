@@ -3,9 +3,6 @@ use borrow.Author.Needs.{needs}
 use Rattle.write_check.proofs.external_judged.Statement.{statement}
 use Rattle.write_check.proofs.external_judged.Tie as tie
 
-returns : tie.Need-returns
-returns c = rw (c .around3 .ensures, c .before .around2 .ensures, c .before .before .both .ensures, c .before .before .before .around .ensures)
-
 pub external-judged-spec : {M : Type 1} → statement M
 external-judged-spec =
     tie.close
@@ -14,4 +11,4 @@ external-judged-spec =
     (λ c κs. search needs)
     (λ c κs. search needs)
     (λ c κs. search needs)
-    returns)
+    (λ c. rw (c .around3 .ensures, c .before .around2 .ensures, c .before .before .both .ensures, c .before .before .before .around .ensures)))

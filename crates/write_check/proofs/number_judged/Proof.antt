@@ -5,13 +5,10 @@ use Rattle.write_check.proofs.Dialogues.{five}
 use Rattle.write_check.proofs.number_judged.Statement.{statement}
 use Rattle.write_check.proofs.number_judged.Tie as tie
 
-returns : tie.Need-returns
-returns c = rw (c .around .ensures, c .before .octet-judged .ensures, wrap, five)
-
 pub number-judged-spec : {M : Type 1} → statement M
 number-judged-spec =
     tie.close
     (tie.spec
     (λ c κs. search needs)
     (λ c κs. search needs)
-    returns)
+    (λ c. rw (c .around .ensures, c .before .octet-judged .ensures, wrap, five)))

@@ -6,14 +6,8 @@ use Rattle.write_check.proofs.Dialogues.{kind-outside, kind-known}
 use Rattle.write_check.proofs.outside_judged.Statement.{statement}
 use Rattle.write_check.proofs.outside_judged.Tie as tie
 
-octets-of-requires : tie.Need-octets-of-requires
-octets-of-requires c κs = passed _ _ _ _ _ _ (sym (c .before .before .before .name-judged .ensures) ∙ c .before .n .given .1) .lies
-
 returns : tie.Need-returns
 returns c = later-fine _ _ _ _ _ _ (sym (c .before .before .before .before .before .before .name-judged .ensures) ∙ c .before .before .before .before .n .given .1) (rw (← c .before .before .octets-of .ensures) (kind-outside _ _ (c .before .name-kind .ensures) (c .if1 .taken)))
-
-returns-2 : tie.Need-returns-2
-returns-2 c = later-bad _ _ _ _ _ _ (sym (c .before .before .before .name-judged .ensures) ∙ c .before .k .given .1)
 
 returns-3 : tie.Need-returns-3
 returns-3 c = later-not _ _ _ _ _ _ (sym (c .before .before .before .before .before .before .name-judged .ensures) ∙ c .before .before .before .before .n .given .1) (rw (← c .before .before .octets-of .ensures) (kind-known _ _ (c .before .name-kind .ensures) (c .if1 .left)))
@@ -25,8 +19,8 @@ outside-judged-spec =
     (λ c κs. search needs)
     (λ c. search needs)
     (λ c. search needs)
-    octets-of-requires
+    (λ c κs. passed _ _ _ _ _ _ (sym (c .before .before .before .name-judged .ensures) ∙ c .before .n .given .1) .lies)
     (λ c κs. search needs)
     returns
-    returns-2
+    (λ c. later-bad _ _ _ _ _ _ (sym (c .before .before .before .name-judged .ensures) ∙ c .before .k .given .1))
     returns-3)

@@ -3,9 +3,6 @@ use borrow.Author.Needs.{needs}
 use Rattle.write_check.proofs.pdu_judged.Statement.{statement}
 use Rattle.write_check.proofs.pdu_judged.Tie as tie
 
-returns : tie.Need-returns
-returns c = rw (c .external-judged .ensures, c .before .around2 .ensures, c .before .before .around .ensures)
-
 pub pdu-judged-spec : {M : Type 1} → statement M
 pdu-judged-spec =
     tie.close
@@ -13,4 +10,4 @@ pdu-judged-spec =
     (λ c κs. search needs)
     (λ c κs. search needs)
     (λ c κs. search needs)
-    returns)
+    (λ c. rw (c .external-judged .ensures, c .before .around2 .ensures, c .before .before .around .ensures)))

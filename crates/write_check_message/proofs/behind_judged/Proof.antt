@@ -3,9 +3,6 @@ use borrow.Author.Needs.{needs}
 use Rattle.write_check_message.proofs.behind_judged.Statement.{statement}
 use Rattle.write_check_message.proofs.behind_judged.Tie as tie
 
-returns : tie.Need-returns
-returns c = rw (c .both2 .ensures, c .before .orig-judged .ensures, c .before .before .both .ensures, c .before .before .before .dest-judged .ensures)
-
 pub behind-judged-spec : {M : Type 1} → statement M
 behind-judged-spec =
     tie.close
@@ -14,4 +11,4 @@ behind-judged-spec =
     (λ c κs. search needs)
     (λ c κs. search needs)
     (λ c κs. search needs)
-    returns)
+    (λ c. rw (c .both2 .ensures, c .before .orig-judged .ensures, c .before .before .both .ensures, c .before .before .before .dest-judged .ensures)))

@@ -4,9 +4,6 @@ use borrow.Author.Tests.{eq-eqb, ne-eqb}
 use Rattle.write_check_message.proofs.portion_judged.Statement.{statement}
 use Rattle.write_check_message.proofs.portion_judged.Tie as tie
 
-returns : tie.Need-returns
-returns c = rw (eq-eqb _ _ (c .if1 .taken))
-
 returns-2 : tie.Need-returns-2
 returns-2 c = rw (ne-eqb _ _ (c .before .if1 .left)) (c .around .ensures)
 
@@ -14,6 +11,6 @@ pub portion-judged-spec : {M : Type 1} → statement M
 portion-judged-spec =
     tie.close
     (tie.spec
-    returns
+    (λ c. rw (eq-eqb _ _ (c .if1 .taken)))
     (λ c κs. search needs)
     returns-2)

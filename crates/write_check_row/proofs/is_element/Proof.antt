@@ -4,11 +4,5 @@ use borrow.Author.Needs.{needs}
 use Rattle.write_check_row.proofs.is_element.Statement.{statement}
 use Rattle.write_check_row.proofs.is_element.Tie as tie
 
-returns : tie.Need-returns
-returns c = search element-none
-
-returns-2 : tie.Need-returns-2
-returns-2 c = search element-some
-
 pub is-element-spec : {M : Type 1} → statement M
-is-element-spec = tie.close (tie.spec (λ c κs. search needs) returns returns-2)
+is-element-spec = tie.close (tie.spec (λ c κs. search needs) (λ c. search element-none) (λ c. search element-some))

@@ -7,14 +7,8 @@ use Rattle.write_check_row.proofs.Joining.{passed, later-fine, later-ba
 use Rattle.write_check_row.proofs.name_judged.Statement.{statement}
 use Rattle.write_check_row.proofs.name_judged.Tie as tie
 
-octets-of-requires : tie.Need-octets-of-requires
-octets-of-requires c κs = passed _ _ _ _ _ _ (sym (c .before .before .before .sized-judged .ensures) ∙ c .before .n .given .1) .lies
-
 returns : tie.Need-returns
 returns c = later-fine _ _ true _ _ _ (sym (c .before .before .before .before .before .before .sized-judged .ensures) ∙ c .before .before .before .before .n .given .1) (ap identifierOk (sym (c .before .before .octets-of .ensures)) ∙ sym (c .before .identifier-ok .ensures) ∙ c .if1 .taken)
-
-returns-2 : tie.Need-returns-2
-returns-2 c = later-bad _ _ true _ _ _ (sym (c .before .before .before .sized-judged .ensures) ∙ c .before .k .given .1)
 
 returns-3 : tie.Need-returns-3
 returns-3 c = later-not _ _ true _ _ _ (sym (c .before .before .before .before .before .before .sized-judged .ensures) ∙ c .before .before .before .before .n .given .1) (ap identifierOk (sym (c .before .before .octets-of .ensures)) ∙ sym (c .before .identifier-ok .ensures) ∙ c .if1 .left)
@@ -26,8 +20,8 @@ name-judged-spec =
     (λ c κs. search needs)
     (λ c. search needs)
     (λ c. search needs)
-    octets-of-requires
+    (λ c κs. passed _ _ _ _ _ _ (sym (c .before .before .before .sized-judged .ensures) ∙ c .before .n .given .1) .lies)
     (λ c κs. search needs)
     returns
-    returns-2
+    (λ c. later-bad _ _ true _ _ _ (sym (c .before .before .before .sized-judged .ensures) ∙ c .before .k .given .1))
     returns-3)

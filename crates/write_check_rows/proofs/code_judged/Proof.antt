@@ -20,9 +20,6 @@ returns-2 : tie.Need-returns-2
 unfolding codeRanges codeLies codeShaped codeForm codeIn
 returns-2 c = rw (ne-eqb _ _ (c .before .before .before .before .before .if1 .left), eq-eqb _ _ (c .before .before .before .if2 .taken), ← (c .before .before .span-at .ensures), leaf-size, c .around2 .ensures, c .before .name-judged .ensures) (wrap _ _)
 
-returns-3 : tie.Need-returns-3
-returns-3 c = rw (ne-eqb _ _ (c .before .before .if1 .left), ne-eqb _ _ (c .if2 .left))
-
 pub code-judged-spec : {M : Type 1} → statement M
 code-judged-spec =
     tie.close
@@ -38,4 +35,4 @@ code-judged-spec =
     (λ c κs. search needs)
     (λ c κs. search needs)
     returns-2
-    returns-3)
+    (λ c. rw (ne-eqb _ _ (c .before .before .if1 .left), ne-eqb _ _ (c .if2 .left))))

@@ -18,9 +18,6 @@ returns-2 : tie.Need-returns-2
 unfolding linkedIn linkedForm restForm rowRanges rowLies rowShaped
 returns-2 c = rw (c .before .before .if2 .taken, c .both .ensures, c .before .coded-judged2 .ensures, fine-then 3 (omega arith)) (simp (then-size, octet-id))
 
-returns-3 : tie.Need-returns-3
-returns-3 c = rw (flag-none _ (c .before .before .if1 .left) (c .if2 .left))
-
 pub invoke-judged-spec : {M : Type 1} → statement M
 invoke-judged-spec =
     tie.close
@@ -32,4 +29,4 @@ invoke-judged-spec =
     (λ c κs. search needs)
     (λ c κs. search needs)
     returns-2
-    returns-3)
+    (λ c. rw (flag-none _ (c .before .before .if1 .left) (c .if2 .left))))

@@ -17,9 +17,6 @@ returns-2 : tie.Need-returns-2
 unfolding optionLies parameterShaped parameterForm shortest optionalIn
 returns-2 c = rw (c .before .before .if2 .taken, ← (c .before .span-at .ensures)) (c .element-judged .ensures)
 
-returns-3 : tie.Need-returns-3
-returns-3 c = rw (flag-none _ (c .before .before .if1 .left) (c .if2 .left))
-
 pub parameter-judged-spec : {M : Type 1} → statement M
 parameter-judged-spec =
     tie.close
@@ -30,4 +27,4 @@ parameter-judged-spec =
     (λ c κs. search needs)
     (λ c κs. search needs)
     returns-2
-    returns-3)
+    (λ c. rw (flag-none _ (c .before .before .if1 .left) (c .if2 .left))))

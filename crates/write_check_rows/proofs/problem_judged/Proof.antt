@@ -23,9 +23,6 @@ returns-4 : tie.Need-returns-4
 unfolding problemIn problemRanges
 returns-4 c = rw (c .before .if4 .taken, octet-size) (c .octet-judged4 .ensures)
 
-returns-5 : tie.Need-returns-5
-returns-5 c = rw (problem-none _ (c .before .before .before .if1 .left) (c .before .before .if2 .left) (c .before .if3 .left) (c .if4 .left))
-
 pub problem-judged-spec : {M : Type 1} → statement M
 problem-judged-spec =
     tie.close
@@ -38,4 +35,4 @@ problem-judged-spec =
     returns-3
     (λ c κs. search needs)
     returns-4
-    returns-5)
+    (λ c. rw (problem-none _ (c .before .before .before .if1 .left) (c .before .before .if2 .left) (c .before .if3 .left) (c .if4 .left))))

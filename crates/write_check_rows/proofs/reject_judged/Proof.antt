@@ -4,19 +4,13 @@ use borrow.Author.Tests.{eq-eqb, ne-eqb}
 use Rattle.write_check_rows.proofs.reject_judged.Statement.{statement}
 use Rattle.write_check_rows.proofs.reject_judged.Tie as tie
 
-returns : tie.Need-returns
-returns c = rw (ne-eqb _ _ (c .if1 .taken))
-
-returns-2 : tie.Need-returns-2
-returns-2 c = rw (eq-eqb _ _ (c .before .before .before .if1 .left)) (c .problem-judged .ensures)
-
 pub reject-judged-spec : {M : Type 1} → statement M
 reject-judged-spec =
     tie.close
     (tie.spec
     (λ c. search needs)
-    returns
+    (λ c. rw (ne-eqb _ _ (c .if1 .taken)))
     (λ c. search needs)
     (λ c. search needs)
     (λ c κs. search needs)
-    returns-2)
+    (λ c. rw (eq-eqb _ _ (c .before .before .before .if1 .left)) (c .problem-judged .ensures)))

@@ -25,20 +25,8 @@ loop-holds : tie.Need-loop-holds Inv-loop μ-loop
 unfolding areRows
 loop-holds c = (omega arith, rows-none _)
 
-mul-after : tie.Need-mul-after Inv-loop μ-loop
-mul-after c = omega (arith, c .before .before .before .before .pre)
-
-add-after : tie.Need-add-after Inv-loop μ-loop
-add-after c = omega (arith, c .before .before .before .before .pre)
-
-after-requires : tie.Need-after-requires Inv-loop μ-loop
-after-requires c κs = omega (arith, c .before .before .before .before .pre)
-
 row-judged-requires : tie.Need-row-judged-requires Inv-loop μ-loop
 row-judged-requires c κs = rw (c .after .ensures) (row-room (now (c .before .before .before .before .before .args .octets)) (c .before .before .loop .i) (omega (arith, c .before .before .before .before .before .pre)) (omega (arith, c .before .before .before .before .before .pre)))
-
-add-i : tie.Need-add-i Inv-loop μ-loop
-add-i c = omega (arith, c .before .before .before .before .before .before .before .pre)
 
 loop-again : tie.Need-loop-again Inv-loop μ-loop
 loop-again c = let o = now (c .before .before .before .before .before .before .before .args .octets) in
@@ -59,12 +47,12 @@ rows-judged-spec =
     Inv-loop
     μ-loop
     loop-holds
-    mul-after
-    add-after
-    after-requires
+    (λ c. omega (arith, c .before .before .before .before .pre))
+    (λ c. omega (arith, c .before .before .before .before .pre))
+    (λ c κs. omega (arith, c .before .before .before .before .pre))
     row-judged-requires
     (λ c κs. search needs)
-    add-i
+    (λ c. omega (arith, c .before .before .before .before .before .before .before .pre))
     (λ c. search needs)
     loop-again
     returns)

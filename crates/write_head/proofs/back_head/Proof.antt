@@ -6,15 +6,6 @@ use Rattle.base.proofs.Backs.{room-last, room-next, back-then}
 use Rattle.write_head.proofs.back_head.Statement.{statement}
 use Rattle.write_head.proofs.back_head.Tie as tie
 
-back-two-requires : tie.Need-back-two-requires
-back-two-requires c κs = rw (short-length _ (c .before .if1 .taken)) at (c .before .before .before .pre .0)
-
-returns : tie.Need-returns
-returns c = rw (short-length _ (c .before .before .before .before .if1 .taken)) (c .before .before .back-two .ensures)
-
-back-three-requires : tie.Need-back-three-requires
-back-three-requires c κs = rw (long-length _ (c .before .before .if1 .left) (c .before .if2 .taken)) at (c .before .before .before .before .pre .0)
-
 returns-2 : tie.Need-returns-2
 returns-2 c = rw (long-length _ (c .before .before .before .before .before .if1 .left) (c .before .before .before .before .if2 .taken)) (c .before .before .back-three .ensures)
 
@@ -32,11 +23,11 @@ back-head-spec =
     tie.close
     (tie.spec
     (λ c. search needs)
-    back-two-requires
+    (λ c κs. rw (short-length _ (c .before .if1 .taken)) at (c .before .before .before .pre .0))
     (λ c. search needs)
-    returns
+    (λ c. rw (short-length _ (c .before .before .before .before .if1 .taken)) (c .before .before .back-two .ensures))
     (λ c. search needs)
-    back-three-requires
+    (λ c κs. rw (long-length _ (c .before .before .if1 .left) (c .before .if2 .taken)) at (c .before .before .before .before .pre .0))
     (λ c. search needs)
     returns-2
     (λ c. search needs)

@@ -3,11 +3,11 @@ use borrow.Author.Needs.{needs}
 use Rattle.write_head.proofs.back_string.Statement.{statement}
 use Rattle.write_head.proofs.back_string.Tie as tie
 
-back-leaf-requires : tie.Need-back-leaf-requires
-back-leaf-requires c κs = rw (c .before .octets-of .ensures) (c .before .before .before .before .pre .1)
-
-returns : tie.Need-returns
-returns c = rw (← (c .before .before .before .before .octets-of .ensures)) (c .before .before .back-leaf .ensures)
-
 pub back-string-spec : {M : Type 1} → statement M
-back-string-spec = tie.close (tie.spec (λ c κs. search needs) back-leaf-requires (λ c. search needs) returns)
+back-string-spec =
+    tie.close
+    (tie.spec
+    (λ c κs. search needs)
+    (λ c κs. rw (c .before .octets-of .ensures) (c .before .before .before .before .pre .1))
+    (λ c. search needs)
+    (λ c. rw (← (c .before .before .before .before .octets-of .ensures)) (c .before .before .back-leaf .ensures)))

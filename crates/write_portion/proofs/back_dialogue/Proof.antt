@@ -50,12 +50,6 @@ returns-3 : tie.Need-returns-3
 unfolding dialogueForm
 returns-3 c = rw (c .before .before .before .before .before .before .dialogue2 .given .1) (c .before .before .back-asked .ensures)
 
-returns-4 : tie.Need-returns-4
-returns-4 c = rw (c .before .before .before .before .before .dialogue3 .given .1) (c .before .before .back-response .ensures)
-
-returns-5 : tie.Need-returns-5
-returns-5 c = rw (c .before .before .before .before .before .dialogue4 .given .1) (c .before .before .back-abort .ensures)
-
 returns-6 : tie.Need-returns-6
 unfolding dialogueForm
 returns-6 c = rw (c .before .before .before .before .before .before .dialogue5 .given .1) (c .before .before .back-asked2 .ensures)
@@ -95,9 +89,9 @@ back-dialogue-spec =
     (λ c. search needs)
     returns-3
     (λ c. search needs)
-    returns-4
+    (λ c. rw (c .before .before .before .before .before .dialogue3 .given .1) (c .before .before .back-response .ensures))
     (λ c. search needs)
-    returns-5
+    (λ c. rw (c .before .before .before .before .before .dialogue4 .given .1) (c .before .before .back-abort .ensures))
     (λ c. search needs)
     returns-6
     (λ c. search needs)

@@ -10,25 +10,14 @@ use Rattle.write_portion.proofs.back_info.Tie as tie
 enum-told : tie.Need-enum-told
 enum-told c = search needs
 
-back-string-requires : tie.Need-back-string-requires
-unfolding optionLies infoForm shortest
-back-string-requires c κs = (rw (c .before .before .info .given .1) at (c .before .before .before .before .before .before .pre .0), rw (c .before .before .info .given .1) at (c .before .before .before .before .before .before .pre .1))
-
-returns : tie.Need-returns
-unfolding infoForm shortest
-returns c = rw (c .enum-told .given .1) (back-none _ _ (c .before .before .before .before .pre .1 .within))
-
-returns-2 : tie.Need-returns-2
-unfolding infoForm shortest
-returns-2 c = rw (c .before .before .before .before .before .info .given .1) (c .before .before .back-string .ensures)
-
 pub back-info-spec : {M : Type 1} → statement M
+unfolding optionLies infoForm shortest
 back-info-spec =
     tie.close
     (tie.spec
     enum-told
     (λ c. search needs)
-    back-string-requires
-    returns
+    (λ c κs. (rw (c .before .before .info .given .1) at (c .before .before .before .before .before .before .pre .0), rw (c .before .before .info .given .1) at (c .before .before .before .before .before .before .pre .1)))
+    (λ c. rw (c .enum-told .given .1) (back-none _ _ (c .before .before .before .before .pre .1 .within)))
     (λ c. search needs)
-    returns-2)
+    (λ c. rw (c .before .before .before .before .before .info .given .1) (c .before .before .back-string .ensures)))

@@ -8,12 +8,6 @@ use native.Mathlib.Omega.{arith}
 use Rattle.write_portion.proofs.back_naming.Statement.{statement}
 use Rattle.write_portion.proofs.back_naming.Tie as tie
 
-back-leaf-requires : tie.Need-back-leaf-requires
-back-leaf-requires c κs = room-next (c .before .before .before .pre .2) _ (room-named (c .before .before .before .args .name .now) _ (c .before .before .before .pre .3))
-
-sub-back-head : tie.Need-sub-back-head
-sub-back-head c = omega (arith, c .before .before .before .before .before .before .before .pre .2 .begins, c .before .before .before .back-leaf .ensures .begins)
-
 back-head-requires : tie.Need-back-head-requires
 back-head-requires c κs = room-head (back-then (c .before .before .before .before .before .before .before .pre .2) (c .before .before .before .back-leaf .ensures)) 0x28 (room-external (c .before .before .before .before .before .before .before .args .name .now) _ (c .before .before .before .before .before .before .before .pre .3))
 
@@ -32,8 +26,8 @@ pub back-naming-spec : {M : Type 1} → statement M
 back-naming-spec =
     tie.close
     (tie.spec
-    back-leaf-requires
-    sub-back-head
+    (λ c κs. room-next (c .before .before .before .pre .2) _ (room-named (c .before .before .before .args .name .now) _ (c .before .before .before .pre .3)))
+    (λ c. omega (arith, c .before .before .before .before .before .before .before .pre .2 .begins, c .before .before .before .back-leaf .ensures .begins))
     back-head-requires
     sub-back-head-2
     back-head-requires-2

@@ -7,14 +7,8 @@ use native.Mathlib.Omega.{arith}
 use Rattle.write_portion.proofs.back_opening.Statement.{statement}
 use Rattle.write_portion.proofs.back_opening.Tie as tie
 
-sub-back-head : tie.Need-sub-back-head
-sub-back-head c = omega (arith, c .before .before .before .pre .2 .begins)
-
 back-head-requires : tie.Need-back-head-requires
 back-head-requires c κs = room-head (c .before .before .before .pre .2) _ (room-tagged (c .before .before .before .args .name .now) (c .before .before .before .args .tag) _ (c .before .before .before .pre .3))
-
-sub-back-head-2 : tie.Need-sub-back-head-2
-sub-back-head-2 c = omega (arith, c .before .before .before .before .before .before .before .pre .2 .begins, c .before .before .before .back-head .ensures .begins)
 
 back-head-requires-2 : tie.Need-back-head-requires-2
 back-head-requires-2 c κs = room-head (back-around (c .before .before .before .before .before .before .before .pre .2) _ (c .before .before .before .back-head .ensures)) 0xA0 (room-pdu (c .before .before .before .before .before .before .before .args .name .now) (c .before .before .before .before .before .before .before .args .tag) _ (c .before .before .before .before .before .before .before .pre .3))
@@ -31,9 +25,9 @@ pub back-opening-spec : {M : Type 1} → statement M
 back-opening-spec =
     tie.close
     (tie.spec
-    sub-back-head
+    (λ c. omega (arith, c .before .before .before .pre .2 .begins))
     back-head-requires
-    sub-back-head-2
+    (λ c. omega (arith, c .before .before .before .before .before .before .before .pre .2 .begins, c .before .before .before .back-head .ensures .begins))
     back-head-requires-2
     back-naming-requires
     (λ c. search needs)

@@ -6,9 +6,6 @@ use Rattle.write_portion.proofs.Around.{source-parts}
 use Rattle.write_portion.proofs.back_source.Statement.{statement}
 use Rattle.write_portion.proofs.back_source.Tie as tie
 
-back-three-requires : tie.Need-back-three-requires
-back-three-requires c κs = room-last (0xA3 ∷ 5 ∷ c .before .before .args .tag ∷ 3 ∷ []) (rw source-parts at (c .before .before .pre))
-
 back-two-requires : tie.Need-back-two-requires
 back-two-requires c κs = room-next (c .before .before .before .back-three .ensures) _ (room-last (0xA3 ∷ 5 ∷ []) (rw source-parts at (c .before .before .before .before .before .before .pre)))
 
@@ -22,7 +19,7 @@ pub back-source-spec : {M : Type 1} → statement M
 back-source-spec =
     tie.close
     (tie.spec
-    back-three-requires
+    (λ c κs. room-last (0xA3 ∷ 5 ∷ c .before .before .args .tag ∷ 3 ∷ []) (rw source-parts at (c .before .before .pre)))
     back-two-requires
     back-two-requires-2
     (λ c. search needs)

@@ -28,18 +28,6 @@ loop-holds c =
     let rows = rowsIn n (drop 44 (now (c .before .before .before .args .octets))) in
     (omega arith, rw (drop-of-length-le rows {i = n} (omega (arith, rows-length n (drop 44 (now (c .before .before .before .args .octets)))))) (back-none _ _ (c .before .before .before .pre .1 .1 .1 .within)))
 
-sub-k : tie.Need-sub-k Inv-loop μ-loop
-sub-k c = omega arith
-
-mul-after : tie.Need-mul-after Inv-loop μ-loop
-mul-after c = omega (arith, c .before .before .before .before .before .pre .0)
-
-add-after : tie.Need-add-after Inv-loop μ-loop
-add-after c = omega (arith, c .before .before .before .before .before .pre .0)
-
-after-requires : tie.Need-after-requires Inv-loop μ-loop
-after-requires c κs = omega (arith, c .before .before .before .before .before .pre .0)
-
 back-row-requires : tie.Need-back-row-requires Inv-loop μ-loop
 back-row-requires c κs =
     let s = c .before .before .before .before .before .before .before in
@@ -54,9 +42,6 @@ back-row-requires c κs =
     let p : PutBack (s .args .out .now) (s .args .at) (rowsOctets m (drop (suc i) rows)) (c .before .before .before .loop .o) (c .before .before .before .loop .out) = rw e (c .before .before .before .loop .inv .1) in
     rw (c .before .after .ensures)
     (row-room l i (s .pre .0 .0) (omega (arith, s .pre .0)), (row-is l n i b (s .pre .1 .0), rw (row-at l n i blankRow b) (every-at (λ w. rowLies (length m) (w .kind)) rows i blankRow h (s .pre .1 .1 .0), room-row m rows i blankRow h p (s .pre .1 .1 .1))))
-
-loop-less : tie.Need-loop-less Inv-loop μ-loop
-loop-less c = omega (arith, c .before .before .before .before .before .loop-test .taken)
 
 loop-again : tie.Need-loop-again Inv-loop μ-loop
 loop-again c =
@@ -73,9 +58,6 @@ loop-again c =
     let here : rowIn (now (c .before .before .before .before .after .result)) ≡ getD rows i blankRow = ap rowIn (c .before .before .before .before .after .ensures) ∙ row-at l n i blankRow b in
     (omega arith, back-row m rows i blankRow h p (rw here at (c .before .before .back-row .ensures)))
 
-same-length : tie.Need-same-length Inv-loop μ-loop
-same-length c = back-length (c .before .loop .inv .1)
-
 returns : tie.Need-returns Inv-loop μ-loop
 returns c = let e : c .before .loop .k ≡ 0 = omega (arith, c .loop-test .left) in rw e at (c .before .loop .inv .1)
 
@@ -86,12 +68,12 @@ back-rows-spec =
     Inv-loop
     μ-loop
     loop-holds
-    sub-k
-    mul-after
-    add-after
-    after-requires
+    (λ c. omega arith)
+    (λ c. omega (arith, c .before .before .before .before .before .pre .0))
+    (λ c. omega (arith, c .before .before .before .before .before .pre .0))
+    (λ c κs. omega (arith, c .before .before .before .before .before .pre .0))
     back-row-requires
-    loop-less
+    (λ c. omega (arith, c .before .before .before .before .before .loop-test .taken))
     loop-again
-    same-length
+    (λ c. back-length (c .before .loop .inv .1))
     returns)

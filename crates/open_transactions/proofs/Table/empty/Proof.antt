@@ -3,8 +3,5 @@ use borrow.Author.Needs.{needs}
 use Rattle.open_transactions.proofs.Table.empty.Statement.{statement}
 use Rattle.open_transactions.proofs.Table.empty.Tie as tie
 
-returns : tie.Need-returns
-returns c = rw (c .blank-entry .ensures)
-
 pub empty-spec : {M : Type 1} → statement M
-empty-spec = tie.close (tie.spec (λ c κs. search needs) returns)
+empty-spec = tie.close (tie.spec (λ c κs. search needs) (λ c. rw (c .blank-entry .ensures)))

@@ -8,9 +8,6 @@ use Rattle.pack.proofs.Rooms.{put-room, octets-cut}
 use Rattle.pack.proofs.head.put_head.Statement.{statement}
 use Rattle.pack.proofs.head.put_head.Tie as tie
 
-put-number-requires : tie.Need-put-number-requires
-put-number-requires c κs = omega (arith, put-room (c .before .before .before .put-choices .ensures) 40 (c .before .before .before .before .before .before .pre))
-
 put-orig-requires : tie.Need-put-orig-requires
 unfolding octetsIn
 put-orig-requires c κs = omega (arith, put-room (c .before .before .before .put-number .ensures) 36 (put-room (c .before .before .before .before .before .before .before .put-choices .ensures) 40 (c .before .before .before .before .before .before .before .before .before .before .pre)))
@@ -33,7 +30,7 @@ put-head-spec =
     (tie.spec
     (λ c κs. search needs)
     (λ c. search needs)
-    put-number-requires
+    (λ c κs. omega (arith, put-room (c .before .before .before .put-choices .ensures) 40 (c .before .before .before .before .before .before .pre)))
     put-orig-requires
     put-dest-requires
     put-dialogue-requires

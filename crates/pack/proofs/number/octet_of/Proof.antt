@@ -17,12 +17,6 @@ wide z h = record { sfits = omega (arith, h .sfits) }
 read : (c : tie.Start) → toZ w32 (ofZ w32 (toZ w8 (ofZ w8 (c .args .value)))) ≡ c .args .value
 read c = rw (toZ-ofZ (c .fits .value)) (toZ-ofZ (wide (c .args .value) (c .fits .value)))
 
-cast-bits : tie.Need-cast-bits
-cast-bits c = rw (toZ-ofZ (c .fits .value)) (wide (c .args .value) (c .fits .value))
-
-bits-requires : tie.Need-bits-requires
-bits-requires c κs = rw (read (c)) (omega (arith, c .fits .value .sfits))
-
 cast-result : tie.Need-cast-result
 cast-result c =
     let e = rw (read (c .before)) at (c .bits .ensures) in
@@ -33,4 +27,10 @@ unfolding topOf
 returns c = rw (read (c .before)) at (c .bits .ensures)
 
 pub octet-of-spec : {M : Type 1} → statement M
-octet-of-spec = tie.close (tie.spec cast-bits bits-requires cast-result returns)
+octet-of-spec =
+    tie.close
+    (tie.spec
+    (λ c. rw (toZ-ofZ (c .fits .value)) (wide (c .args .value) (c .fits .value)))
+    (λ c κs. rw (read (c)) (omega (arith, c .fits .value .sfits)))
+    cast-result
+    returns)

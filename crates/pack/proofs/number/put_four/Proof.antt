@@ -6,29 +6,17 @@ use Rattle.pack.proofs.Rooms.{four-stored}
 use Rattle.pack.proofs.number.put_four.Statement.{statement}
 use Rattle.pack.proofs.number.put_four.Tie as tie
 
-slice-write-out-2 : tie.Need-slice-write-out-2
-slice-write-out-2 c = simp length-set (omega arith)
-
-slice-write-out-3 : tie.Need-slice-write-out-3
-slice-write-out-3 c = simp length-set (omega arith)
-
-slice-write-out-4 : tie.Need-slice-write-out-4
-slice-write-out-4 c = simp length-set (omega arith)
-
-returns : tie.Need-returns
-returns c = four-stored _ _ _ _ _ (omega arith) _ (omega arith)
-
 pub put-four-spec : {M : Type 1} → statement M
 put-four-spec =
     tie.close
     (tie.spec
     (λ c. search needs)
     (λ c. search needs)
-    slice-write-out-2
+    (λ c. simp length-set (omega arith))
     (λ c. search needs)
-    slice-write-out-3
+    (λ c. simp length-set (omega arith))
     (λ c. search needs)
-    slice-write-out-4
+    (λ c. simp length-set (omega arith))
     (λ c. search needs)
     (λ c. search needs)
-    returns)
+    (λ c. four-stored _ _ _ _ _ (omega arith) _ (omega arith)))

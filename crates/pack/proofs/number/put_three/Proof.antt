@@ -6,24 +6,15 @@ use Rattle.pack.proofs.Rooms.{three-stored}
 use Rattle.pack.proofs.number.put_three.Statement.{statement}
 use Rattle.pack.proofs.number.put_three.Tie as tie
 
-slice-write-out-2 : tie.Need-slice-write-out-2
-slice-write-out-2 c = simp length-set (omega arith)
-
-slice-write-out-3 : tie.Need-slice-write-out-3
-slice-write-out-3 c = simp length-set (omega arith)
-
-returns : tie.Need-returns
-returns c = three-stored _ _ _ _ _ (omega arith) (omega arith)
-
 pub put-three-spec : {M : Type 1} → statement M
 put-three-spec =
     tie.close
     (tie.spec
     (λ c. search needs)
     (λ c. search needs)
-    slice-write-out-2
+    (λ c. simp length-set (omega arith))
     (λ c. search needs)
-    slice-write-out-3
+    (λ c. simp length-set (omega arith))
     (λ c. search needs)
     (λ c. search needs)
-    returns)
+    (λ c. three-stored _ _ _ _ _ (omega arith) (omega arith)))

@@ -8,9 +8,6 @@ use Rattle.layout.specs.Layout.{codeTag, codeSpan, codedOctets}
 use Rattle.pack.proofs.row.put_coded.Statement.{statement}
 use Rattle.pack.proofs.row.put_coded.Tie as tie
 
-bits-requires : tie.Need-bits-requires
-bits-requires c κs = rw (toZ-ofZ {w = w32} (record { sfits = c .known-told .given .0 .1 })) (omega (arith, c .known-told .given .0 .1))
-
 returns : tie.Need-returns
 unfolding codeTag codeSpan codedOctets topOf
 returns c = rw (c .before .before .before .before .before .before .code .given .1, ← (rw (toZ-ofZ {w = w32} (record { sfits = c .before .before .before .before .before .known-told .given .0 .1 })) at (c .before .before .before .before .bits .ensures))) (c .before .before .put-parameter .ensures)
@@ -24,7 +21,7 @@ put-coded-spec =
     tie.close
     (tie.spec
     (λ c. search needs)
-    bits-requires
+    (λ c κs. rw (toZ-ofZ {w = w32} (record { sfits = c .known-told .given .0 .1 })) (omega (arith, c .known-told .given .0 .1)))
     (λ c κs. search needs)
     (λ c. search needs)
     (λ c κs. search needs)

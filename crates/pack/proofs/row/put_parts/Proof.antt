@@ -8,9 +8,6 @@ use Rattle.pack.proofs.Rooms.{put-room}
 use Rattle.pack.proofs.row.put_parts.Statement.{statement}
 use Rattle.pack.proofs.row.put_parts.Tie as tie
 
-put-span-requires : tie.Need-put-span-requires
-put-span-requires c κs = omega (arith, put-room (c .before .before .before .put-three .ensures) 16 (c .before .before .before .before .before .before .pre))
-
 put-span-requires-2 : tie.Need-put-span-requires-2
 unfolding spanOctets octetsIn
 put-span-requires-2 c κs = put-room (c .before .before .before .put-span .ensures) 8 (put-room (c .before .before .before .before .before .before .before .put-three .ensures) 16 (c .before .before .before .before .before .before .before .before .before .before .pre))
@@ -22,4 +19,4 @@ returns c = put-then (put-then (c .before .before .before .before .before .befor
 pub put-parts-spec : {M : Type 1} → statement M
 put-parts-spec =
     tie.close
-    (tie.spec (λ c κs. search needs) put-span-requires put-span-requires-2 (λ c. search needs) returns)
+    (tie.spec (λ c κs. search needs) (λ c κs. omega (arith, put-room (c .before .before .before .put-three .ensures) 16 (c .before .before .before .before .before .before .pre))) put-span-requires-2 (λ c. search needs) returns)

@@ -10,8 +10,11 @@ put-problem-requires : tie.Need-put-problem-requires
 unfolding idsOctets
 put-problem-requires c κs = put-room (c .before .before .before .put-ids .ensures) 19 (c .before .before .before .before .before .before .pre)
 
-returns : tie.Need-returns
-returns c = put-then (c .before .before .before .before .before .before .put-ids .ensures) (c .before .before .put-problem .ensures)
-
 pub put-reject-spec : {M : Type 1} → statement M
-put-reject-spec = tie.close (tie.spec (λ c κs. search needs) put-problem-requires (λ c. search needs) returns)
+put-reject-spec =
+    tie.close
+    (tie.spec
+    (λ c κs. search needs)
+    put-problem-requires
+    (λ c. search needs)
+    (λ c. put-then (c .before .before .before .before .before .before .put-ids .ensures) (c .before .before .put-problem .ensures)))

@@ -10,8 +10,11 @@ put-returned-requires : tie.Need-put-returned-requires
 unfolding idsOctets
 put-returned-requires c κs = put-room (c .before .before .before .put-ids .ensures) 19 (c .before .before .before .before .before .before .pre)
 
-returns : tie.Need-returns
-returns c = put-then (c .before .before .before .before .before .before .put-ids .ensures) (c .before .before .put-returned .ensures)
-
 pub put-result-spec : {M : Type 1} → statement M
-put-result-spec = tie.close (tie.spec (λ c κs. search needs) put-returned-requires (λ c. search needs) returns)
+put-result-spec =
+    tie.close
+    (tie.spec
+    (λ c κs. search needs)
+    put-returned-requires
+    (λ c. search needs)
+    (λ c. put-then (c .before .before .before .before .before .before .put-ids .ensures) (c .before .before .put-returned .ensures)))

@@ -10,8 +10,11 @@ put-coded-requires : tie.Need-put-coded-requires
 unfolding idsOctets
 put-coded-requires c κs = put-room (c .before .before .before .put-ids .ensures) 19 (c .before .before .before .before .before .before .pre)
 
-returns : tie.Need-returns
-returns c = put-then (c .before .before .before .before .before .before .put-ids .ensures) (c .before .before .put-coded .ensures)
-
 pub put-with-code-spec : {M : Type 1} → statement M
-put-with-code-spec = tie.close (tie.spec (λ c κs. search needs) put-coded-requires (λ c. search needs) returns)
+put-with-code-spec =
+    tie.close
+    (tie.spec
+    (λ c κs. search needs)
+    put-coded-requires
+    (λ c. search needs)
+    (λ c. put-then (c .before .before .before .before .before .before .put-ids .ensures) (c .before .before .put-coded .ensures)))

@@ -5,9 +5,6 @@ use borrow.Author.Needs.{needs}
 use Rattle.program_compare.proofs.steerings.same_both.Statement.{statement}
 use Rattle.program_compare.proofs.steerings.same_both.Tie as tie
 
-returns : tie.Need-returns
-returns c = denies (λ p. fails (c .before .same-steered .ensures) (not-true _ (c .if1 .taken)) (rw (c .before .before .steer-octets .ensures) (p .0)))
-
 returns-2 : tie.Need-returns-2
 returns-2 c = also (rw (← c .before .before .before .before .steer-octets .ensures) (c .before .before .before .same-steered .ensures .0 (not-false _ (c .before .before .if1 .left)))) (rw (← c .before .steer-structs .ensures) (c .same-steered2 .ensures))
 
@@ -17,7 +14,7 @@ same-both-spec =
     (tie.spec
     (λ c κs. search needs)
     (λ c κs. search needs)
-    returns
+    (λ c. denies (λ p. fails (c .before .same-steered .ensures) (not-true _ (c .if1 .taken)) (rw (c .before .before .steer-octets .ensures) (p .0))))
     (λ c κs. search needs)
     (λ c κs. search needs)
     returns-2)

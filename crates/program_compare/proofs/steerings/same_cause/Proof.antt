@@ -4,14 +4,10 @@ use Rattle.program_compare.proofs.Agreeing.{third}
 use Rattle.program_compare.proofs.steerings.same_cause.Statement.{statement}
 use Rattle.program_compare.proofs.steerings.same_cause.Tie as tie
 
-returns : tie.Need-returns
-returns c = denies (λ p. c .if1 .taken (p .0))
-
-returns-2 : tie.Need-returns-2
-returns-2 c = denies (λ p. c .if2 .taken (p .1))
-
-returns-3 : tie.Need-returns-3
-returns-3 c = third (c .before .before .before .if1 .left) (c .before .if2 .left) (by-number _ _)
-
 pub same-cause-spec : {M : Type 1} → statement M
-same-cause-spec = tie.close (tie.spec returns returns-2 returns-3)
+same-cause-spec =
+    tie.close
+    (tie.spec
+    (λ c. denies (λ p. c .if1 .taken (p .0)))
+    (λ c. denies (λ p. c .if2 .taken (p .1)))
+    (λ c. third (c .before .before .before .if1 .left) (c .before .if2 .left) (by-number _ _)))

@@ -7,12 +7,6 @@ use Rattle.program_compare.proofs.vectors.same_answer.Tie as tie
 enum-told : tie.Need-enum-told
 enum-told c = search needs
 
-returns : tie.Need-returns
-returns c = no-id _ _ (c .enum-told .given .1)
-
-returns-2 : tie.Need-returns-2
-returns-2 c = id-of _ _ (c .before .before .answer .given .1) (c .same-id .ensures)
-
 pub same-answer-spec : {M : Type 1} → statement M
 same-answer-spec =
-    tie.close (tie.spec enum-told (λ c. search needs) (λ c κs. search needs) returns returns-2)
+    tie.close (tie.spec enum-told (λ c. search needs) (λ c κs. search needs) (λ c. no-id _ _ (c .enum-told .given .1)) (λ c. id-of _ _ (c .before .before .answer .given .1) (c .same-id .ensures)))

@@ -9,15 +9,9 @@ use Rattle.program_parts.proofs.ids.same_id.Tie as tie
 enum-told : tie.Need-enum-told
 enum-told c = search needs
 
-returns : tie.Need-returns
-returns c = id-missing _ _ (c .before .before .id .given .1) (c .if1 .taken)
-
-returns-2 : tie.Need-returns-2
-returns-2 c = id-null _ _ (c .enum-told .given .1)
-
 returns-3 : tie.Need-returns-3
 returns-3 c = id-given _ _ (c .before .before .before .id .given .1) (c .before .if1 .left) (rw (sym (c .signed-octet .ensures)) (by-signed _ _ (toZ-ofZ (record { sfits = c .before .before .known-told .given .0 .1 })) (toZ-ofZ (record { sfits = c .signed-octet .ok }))))
 
 pub same-id-spec : {M : Type 1} → statement M
 same-id-spec =
-    tie.close (tie.spec enum-told (λ c. search needs) returns (λ c κs. search needs) returns-2 returns-3)
+    tie.close (tie.spec enum-told (λ c. search needs) (λ c. id-missing _ _ (c .before .before .id .given .1) (c .if1 .taken)) (λ c κs. search needs) (λ c. id-null _ _ (c .enum-told .given .1)) returns-3)

@@ -22,9 +22,6 @@ loop-holds : tie.Need-loop-holds Inv-loop μ-loop
 unfolding rulesIn
 loop-holds c = (omega arith, refl)
 
-after-requires : tie.Need-after-requires Inv-loop μ-loop
-after-requires c κs = omega arith
-
 fits-in-requires : tie.Need-fits-in-requires Inv-loop μ-loop
 fits-in-requires c κs = rule-long (c .before .before .before .before .args .octets .now) (c .before .before .loop .left) (c .before .before .loop .at) (omega arith) (c .before .before .loop .inv .0) (c .after .ensures)
 
@@ -41,12 +38,6 @@ returns c =
     (c .before .before .before .before .before .before .loop .inv .1
     ∙ fit-here _ _ (rules-first (c .before .before .before .before .before .before .before .before .args .octets .now) (c .before .before .before .before .before .before .loop .left) (c .before .before .before .before .before .before .loop .at) (omega arith) (c .before .before .before .before .after .ensures) refl) (sym (c .before .before .before .fits-in .ensures) ∙ c .before .before .if1 .taken)
     ∙ ap Choice.Link (sym (c .number-in .ensures ∙ ap (numberFrom 0) (c .before .piece .ensures))))
-
-sub-left : tie.Need-sub-left Inv-loop μ-loop
-sub-left c = omega arith
-
-add-at : tie.Need-add-at Inv-loop μ-loop
-add-at c = omega arith
 
 loop-less : tie.Need-loop-less Inv-loop μ-loop
 loop-less c = omega arith
@@ -65,13 +56,13 @@ first-in-spec =
     Inv-loop
     μ-loop
     loop-holds
-    after-requires
+    (λ c κs. omega arith)
     fits-in-requires
     piece-requires
     number-in-requires
     returns
-    sub-left
-    add-at
+    (λ c. omega arith)
+    (λ c. omega arith)
     loop-less
     loop-again
     returns-2)

@@ -5,9 +5,6 @@ use Rattle.unpack.proofs.Places.{number-octets}
 use Rattle.unpack.proofs.number.number_at.Statement.{statement}
 use Rattle.unpack.proofs.number.number_at.Tie as tie
 
-returns : tie.Need-returns
-returns c = rw (number-octets _ _ (c .before .before .before .before .before .before .before .before .before .pre)) (omega arith)
-
 pub number-at-spec : {M : Type 1} → statement M
 number-at-spec =
     tie.close
@@ -29,4 +26,4 @@ number-at-spec =
     (λ c. search needs)
     (λ c. search needs)
     (λ c. search needs)
-    returns)
+    (λ c. rw (number-octets _ _ (c .before .before .before .before .before .before .before .before .before .pre)) (omega arith)))

@@ -20,26 +20,8 @@ loop-holds : tie.Need-loop-holds Inv-loop μ-loop
 unfolding rowsHeld rowsIn
 loop-holds c = (omega arith, rw (c .blank-row .ensures))
 
-mul-after : tie.Need-mul-after Inv-loop μ-loop
-mul-after c = omega (arith, c .before .before .before .before .pre)
-
-after-requires : tie.Need-after-requires Inv-loop μ-loop
-after-requires c κs = omega (arith, c .before .before .before .before .pre)
-
-row-in-requires : tie.Need-row-in-requires Inv-loop μ-loop
-row-in-requires c κs = rw (c .after .ensures, length-drop) (omega (arith, c .before .before .before .before .before .pre))
-
 mul-rows : tie.Need-mul-rows Inv-loop μ-loop
 mul-rows c = omega (arith, c .before .before .before .before .before .before .pre)
-
-array-set-from-rows : tie.Need-array-set-from-rows Inv-loop μ-loop
-array-set-from-rows c = omega (arith, c .before .before .before .before .before .before .pre)
-
-add-i : tie.Need-add-i Inv-loop μ-loop
-add-i c = omega (arith, c .before .before .before .before .before .before .pre)
-
-loop-less : tie.Need-loop-less Inv-loop μ-loop
-loop-less c = omega arith
 
 loop-again : tie.Need-loop-again Inv-loop μ-loop
 loop-again c = (omega arith, rw (c .before .before .before .loop .inv .1, c .row-in .ensures, c .before .after .ensures) (rows-step (now (c .before .before .before .before .before .before .args .octets)) (c .before .before .before .loop .i) (omega (arith, c .before .before .before .before .before .before .pre))))
@@ -57,12 +39,12 @@ rows-in-spec =
     μ-loop
     (λ c κs. search needs)
     loop-holds
-    mul-after
-    after-requires
-    row-in-requires
+    (λ c. omega (arith, c .before .before .before .before .pre))
+    (λ c κs. omega (arith, c .before .before .before .before .pre))
+    (λ c κs. rw (c .after .ensures, length-drop) (omega (arith, c .before .before .before .before .before .pre)))
     mul-rows
-    array-set-from-rows
-    add-i
-    loop-less
+    (λ c. omega (arith, c .before .before .before .before .before .before .pre))
+    (λ c. omega (arith, c .before .before .before .before .before .before .pre))
+    (λ c. omega arith)
     loop-again
     returns)

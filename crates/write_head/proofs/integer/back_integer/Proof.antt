@@ -15,9 +15,6 @@ use Rattle.write_head.proofs.integer.back_integer.Tie as tie
 back : (c : tie.Start) → toZ w32 (ofZ w32 (c .args .value)) ≡ c .args .value
 back c = toZ-ofZ (c .fits .value)
 
-bits-requires : tie.Need-bits-requires
-bits-requires c κs = rw (back (c .before)) (omega (arith, c .before .fits .value .sfits))
-
 back-three-requires : tie.Need-back-three-requires
 back-three-requires c κs = rw (integer-one _ _ (rw (back (c .before .before .before .before .before)) at (c .before .before .integer-size .ensures)) (c .before .before .before .before .before .fits .value .sfits) _ _ (rw (back (c .before .before .before .before .before)) at (c .before .before .before .bits .ensures)) (c .before .if1 .taken)) at (c .before .before .before .before .before .pre)
 
@@ -42,7 +39,7 @@ pub back-integer-spec : {M : Type 1} → statement M
 back-integer-spec =
     tie.close
     (tie.spec
-    bits-requires
+    (λ c κs. rw (back (c .before)) (omega (arith, c .before .fits .value .sfits)))
     (λ c κs. search needs)
     (λ c. search needs)
     back-three-requires

@@ -18,12 +18,6 @@ returns : tie.Need-returns
 unfolding octetsIn
 returns c = rw (c .before .before .before .before .if1 .taken) (c .before .before .back-two .ensures)
 
-back-three-requires : tie.Need-back-three-requires
-back-three-requires c κs = rw (c .before .if2 .taken, three-octets) at (c .before .before .before .before .pre .1 .1)
-
-returns-2 : tie.Need-returns-2
-returns-2 c = rw (c .before .before .before .before .if2 .taken, three-octets) (c .before .before .back-three .ensures)
-
 back-two-requires-2 : tie.Need-back-two-requires-2
 back-two-requires-2 c κs =
     let e : c .before .before .before .before .args .count ≡ 4 = omega (arith, c .before .before .before .before .pre .0, c .before .before .before .before .pre .1 .0, c .before .before .if1 .left, c .before .if2 .left) in
@@ -49,9 +43,9 @@ back-last-spec =
     (λ c. search needs)
     returns
     (λ c. search needs)
-    back-three-requires
+    (λ c κs. rw (c .before .if2 .taken, three-octets) at (c .before .before .before .before .pre .1 .1))
     (λ c. search needs)
-    returns-2
+    (λ c. rw (c .before .before .before .before .if2 .taken, three-octets) (c .before .before .back-three .ensures))
     back-two-requires-2
     (λ c. search needs)
     back-two-requires-3

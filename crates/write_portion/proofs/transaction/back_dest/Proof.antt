@@ -10,25 +10,14 @@ use Rattle.write_portion.proofs.transaction.back_dest.Tie as tie
 enum-told : tie.Need-enum-told
 enum-told c = search needs
 
-back-transaction-requires : tie.Need-back-transaction-requires
-unfolding destLies destForm shortest
-back-transaction-requires c κs = (rw (c .before .before .before .dest .given .1) at (c .before .before .before .before .before .before .before .pre .0), rw (c .before .before .before .dest .given .1) at (c .before .before .before .before .before .before .before .pre .1))
-
-returns : tie.Need-returns
-unfolding destForm shortest
-returns c = rw (c .enum-told .given .1) (back-none _ _ (c .before .before .before .before .pre .1 .within))
-
-returns-2 : tie.Need-returns-2
-unfolding destForm shortest
-returns-2 c = rw (c .before .before .before .before .before .before .dest .given .1) (c .before .before .back-transaction .ensures)
-
 pub back-dest-spec : {M : Type 1} → statement M
+unfolding destLies destForm shortest
 back-dest-spec =
     tie.close
     (tie.spec
     enum-told
     (λ c. search needs)
-    back-transaction-requires
-    returns
+    (λ c κs. (rw (c .before .before .before .dest .given .1) at (c .before .before .before .before .before .before .before .pre .0), rw (c .before .before .before .dest .given .1) at (c .before .before .before .before .before .before .before .pre .1)))
+    (λ c. rw (c .enum-told .given .1) (back-none _ _ (c .before .before .before .before .pre .1 .within)))
     (λ c. search needs)
-    returns-2)
+    (λ c. rw (c .before .before .before .before .before .before .dest .given .1) (c .before .before .back-transaction .ensures)))

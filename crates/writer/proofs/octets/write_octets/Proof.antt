@@ -24,15 +24,6 @@ use Rattle.writing.proofs.Standing.{head-record, no-head, too-short, octets-fit
 use Rattle.writer.proofs.octets.write_octets.Statement.{statement}
 use Rattle.writer.proofs.octets.write_octets.Tie as tie
 
-returns : tie.Need-returns
-returns c = octets-none _ _ _ (too-short _ (c .if1 .taken))
-
-returns-2 : tie.Need-returns-2
-returns-2 c = octets-none _ _ _ (no-head _ (c .before .before .if1 .left) (sym (c .before .is-head .ensures) ∙ not-true _ (c .if2 .taken)))
-
-rows-judged-requires : tie.Need-rows-judged-requires
-rows-judged-requires c κs = (c .before .before .before .before .before .before .before .before .before .before .if1 .left, omega (arith, c .rows-looked .ensures))
-
 -- what the code took from the octets is of the record
 module _ (c : tie.After-message-judged) where
   abbrev o : List ℕ
@@ -125,12 +116,6 @@ put-message-requires c κs =
     rw (kind-is d, orig-is d, dest-is d, dialogue-is d, looked-is d, ← (counted-in (o d)))
     ((long d, omega arith), (sym (rows-decide d) ∙ is-record d _ e, (orig-lies (m d) (r d) (q .1), (dest-lies (m d) (r d) (q .1), (dialogue-lies (m d) (r d) (q .1), (rows-lie (m d) (r d) (q .1), put-room (r d) (m d) (octets-fit (o d)) (t .0) _ (t .1) (omega arith)))))))
 
-returns-5 : tie.Need-returns-5
-returns-5 c = rw (c .fault-at .ensures) (bad-octets _ _ _ _ (sym (c .before .before .rank .given .1) ∙ told (c .before .before .before .before)))
-
-same-length : tie.Need-same-length
-same-length c = back-length (c .before .before .put-message .ensures)
-
 returns-6 : tie.Need-returns-6
 unfolding rankOf
 returns-6 c =
@@ -144,9 +129,9 @@ pub write-octets-spec : {M : Type 1} → statement M
 write-octets-spec =
     tie.close
     (tie.spec
-    returns
+    (λ c. octets-none _ _ _ (too-short _ (c .if1 .taken)))
     (λ c κs. search needs)
-    returns-2
+    (λ c. octets-none _ _ _ (no-head _ (c .before .before .if1 .left) (sym (c .before .is-head .ensures) ∙ not-true _ (c .if2 .taken))))
     (λ c. search needs)
     (λ c κs. search needs)
     (λ c κs. search needs)
@@ -156,7 +141,7 @@ write-octets-spec =
     (λ c κs. search needs)
     (λ c. search needs)
     (λ c κs. search needs)
-    rows-judged-requires
+    (λ c κs. (c .before .before .before .before .before .before .before .before .before .before .if1 .left, omega (arith, c .rows-looked .ensures)))
     (λ c κs. search needs)
     (λ c κs. search needs)
     (λ c. search needs)
@@ -165,6 +150,6 @@ write-octets-spec =
     returns-3
     returns-4
     put-message-requires
-    returns-5
-    same-length
+    (λ c. rw (c .fault-at .ensures) (bad-octets _ _ _ _ (sym (c .before .before .rank .given .1) ∙ told (c .before .before .before .before))))
+    (λ c. back-length (c .before .before .put-message .ensures))
     returns-6)
