@@ -25,7 +25,8 @@ use Rattle.tcap.specs.Record.{spanOf, spanField, origField, destField, idField,
 use Rattle.tcap.specs.Reading.{locatedUpTo, groundOf, byOwner, answerFor, refusalOf, answered, readingUpTo, reading}
 use Rattle.tcap.proofs.Strings.{octetsOf, codeAs, bothAs, componentAs, endingAs, origAs, destAs, forget, Strings, optionStrings, whole, seriesStrings, codeStrings, bothStrings, componentStrings, dialogueStrings, origStrings, destStrings, restStrings, strings}
 use Rattle.tcap.proofs.Records.{Sits}
-use Rattle.tcap.proofs.Places.{OwnerOk, placeOf, strings-sit, fault-placed}
+use Rattle.tcap.proofs.FaultPlaces.{OwnerOk, placeOf}
+use Rattle.tcap.proofs.Places.{strings-sit, fault-placed}
 use Rattle.tcap.proofs.Refusals.{numbered}
 use Rattle.tcap.proofs.Promises.{located-reads}
 use Rattle.digits.specs.Digits.{decimal, signed, hex, number, value}

@@ -4,7 +4,7 @@ use mathlib.Core.Path.{_≡_, refl}
 use native.Mathlib.Omega.{arith}
 use Rattle.element.specs.declared.FaultKind.{FaultKind}
 use Rattle.element.specs.Fault.{Fault, fault}
-use Rattle.tcap.proofs.Places.{kindOf, placeOf}
+use Rattle.tcap.proofs.FaultPlaces.{kindOf, placeOf}
 use Rattle.read_place.specs.Places.{opening, base, faultPlace}
 use Rattle.read_fault.specs.Faults.{kindAt, kindFrom}
 

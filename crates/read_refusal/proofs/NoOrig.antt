@@ -23,7 +23,7 @@ use Rattle.tcap.specs.declared.{Problem.Problem, Diagnostic.Diagnostic}
 use Rattle.tcap.specs.Meaning.{dest, Code, local, global, Component, invoke, last, notLast, error, reject, Dialogue, request, unidialogue, response, aborted, single, octets, structured, unstructured, version, cause, says}
 use Rattle.tcap.specs.WellFormed.{mostCause, Rules, mostComponents, leftAt, idOk}
 use Rattle.tcap.specs.Productions.{single?, octetItem, idItem, nameItem, codeItem, problemItem, destItem, noted, versionBody, levelAt, parameterItem, codeBody, resultBody, rejectBody, componentItem, componentAt, componentsItem, infoBody, contextItem, askedItem, numberItem, sourceItem, answeredItem, abortedItem, heldItem, externalBody, inside6B, dialogueItem, tailBody}
-use Rattle.tcap.proofs.Places.{origOf}
+use Rattle.tcap.proofs.FaultPlaces.{origOf}
 
 -- what is got is as P says, and a fault carries t
 unfoldable pub Said : {A : Type 0} → (A → Type 0) → Option Text → Got A → Type 0

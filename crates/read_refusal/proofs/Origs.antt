@@ -28,7 +28,7 @@ use Rattle.tcap.specs.WellFormed.{mostTransactionIdOctets, the93, idOk}
 use Rattle.tcap.specs.Productions.{origItem, destItem, carried, tailBody, beginBody, continueBody, messageItem}
 use Rattle.tcap.specs.Record.{origField}
 use Rattle.tcap.specs.Reading.{learnt, idFirst, unknownTag, unknownBody, textOf, unknownOrig, readFirst, locatedUpTo}
-use Rattle.tcap.proofs.Places.{origOf}
+use Rattle.tcap.proofs.FaultPlaces.{origOf}
 use Rattle.tcap.proofs.UnknownLocal.{unsought}
 use Rattle.read_place.specs.Places.{Far, Near, until, finite, opening, part, front, Placed, Reads, Leads, standsOf, entryPlace, lengthPlace}
 use Rattle.read_place.proofs.Answers.{far-fault, placed-near}

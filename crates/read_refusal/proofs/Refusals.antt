@@ -19,7 +19,8 @@ use Rattle.tcap.specs.Meaning.{Message}
 use Rattle.tcap.specs.WellFormed.{the93}
 use Rattle.tcap.specs.Record.{idField}
 use Rattle.tcap.specs.Reading.{locatedUpTo, groundOf, byOwner, answerFor, refusalOf}
-use Rattle.tcap.proofs.Places.{placeOf, fault-placed}
+use Rattle.tcap.proofs.FaultPlaces.{placeOf}
+use Rattle.tcap.proofs.Places.{fault-placed}
 use Rattle.read_place.specs.Places.{opening, Placed}
 use Rattle.read_place.specs.Blames.{ownerIn, idIn, Blames}
 use Rattle.read_fault.specs.Faults.{kindFrom}

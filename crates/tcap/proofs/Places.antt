@@ -1,159 +1,38 @@
 -- Each string of a message that is read stands in its octets where it says, one behind the other; each fault is found in its octets, and the
 -- IDs that it tells are well-formed. Assumes nothing.
-use Prim.Native.Nat.{ℕ, _+_, _≤_, _<_}
-use mathlib.Core.Path.{_≡_, refl, sym, ap, _∙_}
-use mathlib.Core.Bool.{Bool, true, false, _||_, false≢true}
+use Prim.Native.Nat.{ℕ, _+_, _≤_}
+use mathlib.Core.Path.{_≡_, refl, sym}
+use mathlib.Core.Bool.{Bool, true, false}
 use mathlib.Core.List.{List, [], _∷_, _++_, append-nil}
-use mathlib.Core.Logic.{_⊎_, inl, inr}
 use mathlib.Core.Option.{Option·getD, Option, none, some}
 use native.Mathlib.Omega.{arith}
 use lib.ListN.{length, getD}
 use lib.Dec.{leb, eqb}
 use lib.IntN.{ℤ}
-use borrow.Author.Tests.{eq-eqb, le-leb, leb-false}
-use Rattle.base.specs.Value.{Every, Maybe, same}
+use borrow.Author.Tests.{leb-false}
+use Rattle.base.specs.Value.{Every, same}
 use Rattle.element.specs.declared.{FaultKind.FaultKind}
 use Rattle.element.specs.Element.{extendedOf}
 use Rattle.primitive.specs.Primitive.{identifierOk, integerOk, signedOf, mostIntegerOctets}
-use Rattle.element.specs.Fault.{numberOf, Text, Owner, portion, dialogue, component, Fault, fault, at, inDialogue, inComponent, withInvokeId, withOrigId}
+use Rattle.element.specs.Fault.{numberOf, Text, Fault, fault, at, withInvokeId, withOrigId}
 use Rattle.element.specs.Form.{Form}
 use Rattle.element.specs.Ask.{Got, got, bad, Body, ask}
 use Rattle.element.specs.Parts.{Item, level, integerItem, aroundItem, mapItem, orItem, onlyBody, seriesBody, bindBody, thenBody, lastBody, optBody, silently}
 use Rattle.element.proofs.Asking.{Then, the-fact, fact, void}
 use Rattle.element.proofs.ItemLaws.{ItemLaws}
-use Rattle.element.proofs.Ends.{outer, Ends, held, failed, the-held, the-failed, ends-next, ends-weaken, ends-check, ends-blamed, Plain, ends-ask}
-use Rattle.element.proofs.StringPlaces.{Here, StandsAt, Laid, stop, stands-here, here-within, laid-wider, laid-append, laid-none, laid-each, nothing-ends, Claim, Keeps, Span, strung, ItemLaid, BodyLaid, leaf-laid, around-laid, kept-laid, item-weaken, map-laid, or-laid, bind-laid, only-laid, last-laid, opt-laid, map-body-laid, series-laid, series-unmarked, walk-laid}
+use Rattle.element.proofs.Ends.{Ends, held, failed, the-held, the-failed, ends-next, ends-weaken, ends-check, ends-blamed, ends-ask}
+use Rattle.element.proofs.StringPlaces.{Here, Laid, stop, stands-here, here-within, laid-wider, laid-append, laid-none, laid-each, nothing-ends, Keeps, Span, strung, ItemLaid, BodyLaid, leaf-laid, around-laid, kept-laid, item-weaken, map-laid, or-laid, bind-laid, only-laid, last-laid, opt-laid, map-body-laid, series-laid, series-unmarked, walk-laid}
 use Rattle.tcap.specs.declared.{Problem.Problem, Diagnostic.Diagnostic}
 use Rattle.tcap.specs.Meaning.{silent, Originating, orig, dest, Code, local, global, Component, invoke, last, notLast, error, reject, Dialogue, request, unidialogue, response, aborted, single, octets, Ending, cause, says, Message, unidirectional, begin, finish, continue, abort, structured, unstructured, version}
-use Rattle.tcap.specs.WellFormed.{Rules, mostOctets, mostComponents, mostTransactionIdOctets, mostCause, leftAt, idOk, InvokeIdOk, OrigOk, WellFormedUpTo}
+use Rattle.tcap.specs.WellFormed.{Rules, mostOctets, mostComponents, mostCause, leftAt, idOk, OrigOk, WellFormedUpTo}
 use Rattle.tcap.specs.Productions.{single?, octetItem, nameItem, codeItem, problemItem, idOrNullItem, origItem, destItem, carried, noted, versionBody, levelAt, parameterItem, codeBody, invokeBody, bothItem, resultBody, errorBody, rejectBody, componentItem, componentAt, componentsItem, infoBody, contextItem, askedItem, numberItem, sourceItem, answeredItem, abortedItem, heldItem, externalBody, inside6B, dialogueItem, tailBody, uniBody, beginBody, endBody, continueBody, abortBody, messageItem}
 use Rattle.tcap.specs.Reading.{learnt, aloneBody, unknownOrig, readFirst, locatedUpTo}
 use Rattle.tcap.proofs.Records.{Sits}
 use Rattle.tcap.proofs.Components.{id-laws, null-laws}
 use Rattle.tcap.proofs.Messages.{orig-laws, message-laws}
 use Rattle.tcap.proofs.Strings.{octetsOf, origAs, forget, Strings, tagged, whole, optionStrings, seriesStrings, codeStrings, bothStrings, componentStrings, namedStrings, dialogueStrings, endingStrings, origStrings, destStrings, restStrings, strings}
-use Rattle.tcap.specs.Refused.{UnknownOrig, begun}
-use Rattle.tcap.proofs.UnknownType.{unknown-orig, opens-begins, begins-behind}
-
--- Of a fault
-
-abbrev pub kindOf : Fault → FaultKind
-kindOf (fault k p o i t) = k
-
-abbrev pub placeOf : Fault → ℕ
-placeOf (fault k p o i t) = p
-
-abbrev pub ownerOf : Fault → Owner
-ownerOf (fault k p o i t) = o
-
-abbrev pub invokeOf : Fault → Option ℤ
-invokeOf (fault k p o i t) = i
-
-abbrev pub origOf : Fault → Option Text
-origOf (fault k p o i t) = t
-
--- behind 48 and its length, and of 1 to 4 octets
-abbrev pub OrigHere : List ℕ → Text → Type 0
-OrigHere m t = StandsAt m (some 0x48, t) × (idOk (t .1) ≡ true)
-
-abbrev pub OwnerOk : Owner → Type 0
-OwnerOk portion = Unit {0}
-OwnerOk dialogue = Unit {0}
-OwnerOk (component k) = k < mostComponents
-
--- found in contents of m that end at hi
-pub record FaultOk (m : List ℕ) (hi : ℕ) (f : Fault) : Type 0 where
-  pub place : placeOf f ≤ hi
-  pub owner : OwnerOk (ownerOf f)
-  pub plain : Plain (kindOf f)
-  pub invokeId : Maybe InvokeIdOk (invokeOf f)
-  pub origId : Maybe (OrigHere m) (origOf f)
-
-pub claim : List ℕ → Claim
-claim m =
-    record {
-      Of = FaultOk m;
-      grows = λ i j f h q. record { place = omega (arith, q .place); owner = q .owner; plain = q .plain; invokeId = q .invokeId; origId = q .origId };
-      found = λ k p i. record { place = omega arith; owner = tt; plain = i; invokeId = tt; origId = tt };
-    }
-
--- found in m or about it: 7, 8 and 9 belong to no part of it
-pub record RefusedFor (m : List ℕ) (f : Fault) : Type 0 where
-  pub place : placeOf f ≤ length m
-  pub owner : OwnerOk (ownerOf f)
-  pub inner : Plain (kindOf f) ⊎ (ownerOf f ≡ portion)
-  pub overlong : kindOf f ≡ FaultKind.Overlong → placeOf f ≡ mostOctets
-  pub noMessage : kindOf f ≡ FaultKind.NoMessage → placeOf f ≡ 0
-  pub invokeId : Maybe InvokeIdOk (invokeOf f)
-  pub origId : Maybe (OrigHere m) (origOf f)
-
--- with levels enough for the fixed parts of a message
-abbrev Refused : Rules → List ℕ → Fault → Type 0
-Refused rules m f = 8 ≤ rules .limit → RefusedFor m f
-
-plain-not : (k : FaultKind) → Plain k → (n : ℕ) → outer n ≡ true → numberOf k ≡ n → ⊥
-plain-not k i n t e = false≢true (sym i ∙ ap outer e ∙ t)
-
-inside-message : (m : List ℕ) (f : Fault) → FaultOk m (length m) f → RefusedFor m f
-unfolding numberOf
-inside-message m f q =
-    record {
-      place = q .place;
-      owner = q .owner;
-      inner = inl (q .plain);
-      overlong = λ e. absurd (plain-not (kindOf f) (q .plain) 7 refl (ap numberOf e));
-      noMessage = λ e. absurd (plain-not (kindOf f) (q .plain) 8 refl (ap numberOf e));
-      invokeId = q .invokeId;
-      origId = q .origId;
-    }
-
--- at the top: of a kind that is found there at just that place
-about-message : (m : List ℕ) (k : FaultKind) (p : ℕ) → p ≤ length m → (k ≡ FaultKind.Overlong → p ≡ mostOctets) → (k ≡ FaultKind.NoMessage → p ≡ 0) → RefusedFor m (at k p)
-about-message m k p h i j = record { place = h; owner = tt; inner = inr refl; overlong = i; noMessage = j; invokeId = tt; origId = tt }
-
-other-kind : {A : Type 0} (k l : FaultKind) → eqb (numberOf k) (numberOf l) ≡ false → k ≡ l → A
-other-kind k l t e = absurd (false≢true (sym t ∙ eq-eqb _ _ (ap numberOf e)))
-
-no-message : (m : List ℕ) (t : Option Text) → Maybe (OrigHere m) t → RefusedFor m (fault FaultKind.NoMessage 0 portion none t)
-unfolding numberOf
-no-message m t h = record { place = omega arith; owner = tt; inner = inr refl; overlong = other-kind FaultKind.NoMessage FaultKind.Overlong refl; noMessage = λ e. refl; invokeId = tt; origId = h }
-
-unknown-here : (rules : Rules) (m : List ℕ) (t : Option Text) → UnknownOrig rules m t → Maybe (OrigHere m) t
-unfolding idOk
-unknown-here rules m none u = tt
-unknown-here rules m (some s) (begun w) = let b = opens-begins rules m s w in (begins-behind b, rw (le-leb 1 (length (s .1)) (b .sized .0), le-leb (length (s .1)) mostTransactionIdOctets (b .sized .1)))
-
-too-long : (m : List ℕ) → mostOctets ≤ length m → RefusedFor m (at FaultKind.Overlong mostOctets)
-unfolding numberOf
-too-long m h = about-message m FaultKind.Overlong mostOctets h (λ e. refl) (other-kind FaultKind.Overlong FaultKind.NoMessage refl)
-
-after-message : (m : List ℕ) (p : ℕ) → p ≤ length m → RefusedFor m (at FaultKind.OctetsAfter p)
-unfolding numberOf
-after-message m p h = about-message m FaultKind.OctetsAfter p h (other-kind FaultKind.OctetsAfter FaultKind.Overlong refl) (other-kind FaultKind.OctetsAfter FaultKind.NoMessage refl)
-
--- what is known from outside: an owner, an invoke ID, an originating ID
-known-as : (m : List ℕ) (hi p : ℕ) (k : FaultKind) (o o′ : Owner) (i i′ : Option ℤ) (t t′ : Option Text) → OwnerOk o′ → Maybe InvokeIdOk i′ → Maybe (OrigHere m) t′ → FaultOk m hi (fault k p o i t) → FaultOk m hi (fault k p o′ i′ t′)
-known-as m hi p k o o′ i i′ t t′ g j h q = record { place = q .place; owner = g; plain = q .plain; invokeId = j; origId = h }
-
-keeps-dialogue : (m : List ℕ) → Keeps (claim m) inDialogue
-unfolding claim inDialogue
-keeps-dialogue m hi (fault k p o i t) q = known-as m hi p k o dialogue i i t t tt (q .invokeId) (q .origId) q
-
-keeps-component : (m : List ℕ) (n : ℕ) → n < mostComponents → Keeps (claim m) (inComponent n)
-unfolding claim inComponent
-keeps-component m n h hi (fault k p o i t) q = known-as m hi p k o (component n) i i t t h (q .invokeId) (q .origId) q
-
-keeps-invoke : (m : List ℕ) (j : Option ℤ) → Maybe InvokeIdOk j → Keeps (claim m) (withInvokeId j)
-unfolding claim withInvokeId
-keeps-invoke m j h hi (fault k p o i t) q = known-as m hi p k o o i j t t (q .owner) h (q .origId) q
-
-orig-here : (m : List ℕ) (s : Text) (l : Strings) (lo hi : ℕ) → Laid m lo hi (tagged 0x48 s ++ l) → idOk (s .1) ≡ true → OrigHere m s
-unfolding Every
-orig-here m s l lo hi i h = (laid-each {P = StandsAt m} (λ s h. h) i .0, h)
-
-keeps-carried : (m : List ℕ) (o : Originating Text) (lo hi : ℕ) → Laid m lo hi (origStrings o) → OrigOk (origAs octetsOf o) → Keeps (claim m) (carried o)
-unfolding claim withOrigId
-keeps-carried m (orig s) lo hi i h j (fault k p o n t) q = known-as m j p k o o n n t (some s) (q .owner) (q .invokeId) (orig-here m s [] lo hi i h) q
+use Rattle.tcap.proofs.UnknownType.{unknown-orig}
+use Rattle.tcap.proofs.FaultPlaces.{place, owner, invokeId, origId, claim, RefusedFor, inner, overlong, noMessage, Refused, inside-message, no-message, unknown-here, too-long, after-message, keeps-dialogue, keeps-component, keeps-invoke, orig-here, keeps-carried}
 
 -- what is read is well-formed as well
 ends-both : {A : Type 0} {P R : A → ℕ → Type 0} {Q : Fault → Type 0} {x : Got A} → Ends P Q x → Then R x → Ends (λ v n. P v n × R v n) Q x

@@ -19,7 +19,8 @@ use Rattle.tcap.specs.Meaning.{Message, orig}
 use Rattle.tcap.specs.WellFormed.{mostOctets, the93, idOk, InvokeIdOk}
 use Rattle.tcap.specs.Record.{origField, blankRecord}
 use Rattle.tcap.specs.Reading.{locatedUpTo, groundOf, byOwner, answerFor, refusalOf, answered, readingUpTo, reading}
-use Rattle.tcap.proofs.Places.{OrigHere, RefusedFor, fault-placed}
+use Rattle.tcap.proofs.FaultPlaces.{OrigHere, RefusedFor}
+use Rattle.tcap.proofs.Places.{fault-placed}
 
 -- every kind has a number of the table, and 10 is retired
 pub numbered : (k : FaultKind) → (1 ≤ numberOf k) × (numberOf k ≤ 16) × (numberOf k ≡ 10 → ⊥)

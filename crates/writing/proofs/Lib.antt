@@ -5,6 +5,7 @@ pub mod WellFormed
 pub mod Formed
 pub mod Promises
 pub mod Reasons
+pub mod PartTests
 pub mod Order
 pub mod Shortest
 pub mod Fitting

@@ -1,172 +1,22 @@
 -- The tests of a record are those of its parts: each of 24, 23, 21 and 22 fails exactly if something is wrong with some part. Assumes nothing.
-use Prim.Native.Nat.{ℕ, _+_, _<_}
+use Prim.Native.Nat.{ℕ}
 use native.Mathlib.Omega.{arith}
-use mathlib.Core.Path.{_≡_, refl, sym, _∙_}
-use mathlib.Core.Logic.{_↔_, Iff·rfl, _⊎_, inl, inr, ⊎-elim}
-use mathlib.Core.Bool.{Bool, true, false, not, _&&_, and-true, and-false, and-assoc, Bool·not-not, false≢true}
-use mathlib.Core.List.{List, [], _∷_, _++_}
+use mathlib.Core.Path.{_≡_, refl}
+use mathlib.Core.Logic.{_↔_}
+use mathlib.Core.Bool.{Bool, true, false, not, _&&_, and-true, and-false, and-assoc, Bool·not-not}
+use mathlib.Core.List.{List, [], _∷_}
 use lib.ListN.{length}
 use lib.Dec.{leb, eqb}
-use borrow.Author.Tests.{eqb-true, eqb-false, leb-true, leb-false, le-leb, not-true, not-false}
-use Rattle.base.specs.Number.{holds}
-use Rattle.base.specs.Value.{Every, same}
-use Rattle.primitive.specs.Primitive.{identifierOk, mostIdentifierOctets}
-use Rattle.tcap.specs.Meaning.{structured, unstructured}
+use borrow.Author.Tests.{eqb-true, eqb-false, le-leb}
+use Rattle.base.specs.Value.{Every}
 use Rattle.tcap.specs.declared.{OptionalSpan.OptionalSpan, OptionalOrig.OptionalOrig, OptionalDest.OptionalDest, InvokeId.InvokeId, LinkedId.LinkedId, Code.Code, Problem.Problem, Diagnostic.Diagnostic, Returned.Returned, ComponentKind.ComponentKind, Row.Row, Dialogue.Dialogue, MessageKind.MessageKind, Record.Record}
-use Rattle.tcap.specs.WellFormed.{mostComponents, mostTransactionIdOctets, the93, leftAt}
+use Rattle.tcap.specs.WellFormed.{mostComponents}
 use Rattle.layout.specs.Fits.{IdFits, LinkedFits}
-use Rattle.tcap.specs.Verdict.{every, counted, origThere, destThere, causeThere, partsFit, idThere, rowPartsFit, allParts, ranges, origRanges, destRanges, codeRanges, problemRanges, returnedRanges, rowRanges, sourceRanges, dialogueRanges, allRanges, lies, optionLies, origLies, destLies, codeLies, returnedLies, rowLies, dialogueLies, allLie, isElement, isSeries, stringOctets, parameterShaped, infoShaped, codeShaped, returnedShaped, rowShaped, dialogueShaped, allShaped}
+use Rattle.tcap.specs.Verdict.{every, counted, origThere, destThere, causeThere, partsFit, idThere, rowPartsFit, allParts, origRanges, destRanges, codeRanges, problemRanges, returnedRanges, rowRanges, sourceRanges, dialogueRanges, allRanges, lies, optionLies, origLies, destLies, codeLies, returnedLies, rowLies, dialogueLies, allLie, parameterShaped, infoShaped, codeShaped, returnedShaped, rowShaped, dialogueShaped, allShaped}
 use Rattle.writing.specs.Writing.{CodeTyped, ReturnedTyped, KindTyped, RowTyped, RecordTyped}
-use Rattle.writing.specs.Reasons.{Need, must, may, never, Wanted, transaction, identifier, outside, series, anything, element, Part, there, number, signed, string, needsOf, origParts, destParts, optionParts, sourcePart, dialogueParts, idParts, linkedParts, codePart, returnedParts, problemPart, rowParts, rowsParts, partsOf, Misfit, LengthOff, RangeOff, Shaped, EndOff, ShapeOff, Any, SomePart}
-use Rattle.writing.proofs.Testing.{element-is, series-is}
+use Rattle.writing.specs.Reasons.{Need, must, may, Wanted, series, element, there, needsOf, origParts, destParts, optionParts, sourcePart, dialogueParts, idParts, linkedParts, codePart, returnedParts, problemPart, rowParts, rowsParts, partsOf, Misfit, RangeOff, EndOff, ShapeOff, SomePart}
 use Rattle.writing.proofs.WellFormed.{every-take}
-
--- A test that fails just if something is wrong
-
-record Tells (t : Bool) (Wrong : Type 0) : Type 0 where
-  wrong : t ≡ false → Wrong
-  right : t ≡ true → Wrong → ⊥
-
-abbrev never-wrong : Tells true ⊥
-never-wrong = record { wrong = λ e. absurd (false≢true (sym e)); right = λ e w. w }
-
-tells-exactly : {t : Bool} {W : Type 0} → Tells t W → (t ≡ false) ↔ W
-tells-exactly {t} {W} x = (x .wrong, λ w. by-test t refl w)
-  where
-    by-test : (b : Bool) → t ≡ b → W → t ≡ false
-    by-test true e w = absurd (x .right e w)
-    by-test false e w = e
-
-both : {A B : Type 0} (a b : Bool) → Tells a A → Tells b B → Tells (a && b) (A ⊎ B)
-both true b x y = record { wrong = λ e. inr (y .wrong e); right = λ e w. ⊎-elim (x .right refl) (y .right e) w }
-both false b x y = record { wrong = λ e. inl (x .wrong refl); right = λ e w. absurd (false≢true e) }
-
--- of every part of a list
-unfoldable whole : (Part → Bool) → List Part → Bool
-whole f [] = true
-whole f (p ∷ ps) = f p && whole f ps
-
-whole-append : (f : Part → Bool) (ps qs : List Part) → whole f (ps ++ qs) ≡ (whole f ps && whole f qs)
-unfolding whole
-whole-append f [] qs = refl
-whole-append f (p ∷ ps) qs = rw (whole-append f ps qs) (sym (and-assoc (f p) (whole f ps) (whole f qs)))
-
-tells-any : {P : Part → Type 0} (f : Part → Bool) → ((p : Part) → Tells (f p) (P p)) → (ps : List Part) → Tells (whole f ps) (Any P ps)
-unfolding whole Any
-tells-any f h [] = never-wrong
-tells-any f h (p ∷ ps) = both (f p) (whole f ps) (h p) (tells-any f h ps)
-
--- The four tests of a part
-
-unfoldable fits : Part → Bool
-fits (there must b) = b
-fits (there may b) = true
-fits (there never b) = not b
-fits (number n most) = true
-fits (signed k z) = true
-fits (string w s) = true
-
-unfoldable lengthIn : Wanted → ℕ → Bool
-lengthIn transaction n = ranges 1 mostTransactionIdOctets n
-lengthIn identifier n = ranges 1 mostIdentifierOctets n
-lengthIn outside n = ranges 1 mostIdentifierOctets n
-lengthIn (element l) n = true
-lengthIn series n = true
-lengthIn anything n = true
-
-unfoldable inRange : Part → Bool
-inRange (there n b) = true
-inRange (number n most) = leb n most
-inRange (signed k z) = holds k z
-inRange (string w s) = lengthIn w (s .len)
-
-unfoldable shapedAs : Wanted → List ℕ → Bool
-shapedAs transaction c = true
-shapedAs identifier c = identifierOk c
-shapedAs outside c = identifierOk c && (not (same structured c) && not (same unstructured c))
-shapedAs (element l) c = isElement (leftAt the93 l) c
-shapedAs series c = isSeries (leftAt the93 7) c
-shapedAs anything c = true
-
-module _ (m : List ℕ) where
-  unfoldable within : Part → Bool
-  within (there n b) = true
-  within (number n most) = true
-  within (signed k z) = true
-  within (string w s) = lies (length m) s
-
-  unfoldable shaped : Part → Bool
-  shaped (there n b) = true
-  shaped (number n most) = true
-  shaped (signed k z) = true
-  shaped (string w s) = shapedAs w (stringOctets m s)
-
--- Each tells what it is to tell
-
-tells-not : {A : Type 0} (t : Bool) → A ↔ (t ≡ true) → Tells t (A → ⊥)
-tells-not t x = record { wrong = λ e a. false≢true (sym e ∙ x .0 a); right = λ e n. n (x .1 e) }
-
-fits-tells : (p : Part) → Tells (fits p) (Misfit p)
-unfolding fits Misfit
-fits-tells (there must b) = record { wrong = λ e. e; right = λ e w. false≢true (sym w ∙ e) }
-fits-tells (there may b) = never-wrong
-fits-tells (there never b) = record { wrong = not-false b; right = λ e w. false≢true (sym (not-true b e) ∙ w) }
-fits-tells (number n most) = never-wrong
-fits-tells (signed k z) = never-wrong
-fits-tells (string w s) = never-wrong
-
-most-tells : (n most : ℕ) → Tells (leb n most) (most < n)
-most-tells n most = record { wrong = leb-false n most; right = λ e w. absurd (omega (arith, leb-true n most e)) }
-
-between-tells : (a b n : ℕ) → Tells (ranges a b n) ((n < a) ⊎ (b < n))
-unfolding ranges
-between-tells a b n = both (leb a n) (leb n b) (most-tells a n) (most-tells n b)
-
-length-tells : (w : Wanted) (n : ℕ) → Tells (lengthIn w n) (LengthOff w n)
-unfolding lengthIn LengthOff
-length-tells transaction n = between-tells 1 _ n
-length-tells identifier n = between-tells 1 _ n
-length-tells outside n = between-tells 1 _ n
-length-tells (element l) n = never-wrong
-length-tells series n = never-wrong
-length-tells anything n = never-wrong
-
-range-tells : (p : Part) → Tells (inRange p) (RangeOff p)
-unfolding inRange RangeOff
-range-tells (there n b) = never-wrong
-range-tells (number n most) = most-tells n most
-range-tells (signed k z) = record { wrong = λ e. e; right = λ e w. false≢true (sym w ∙ e) }
-range-tells (string w s) = length-tells w (s .len)
-
-outside-shape : (a b c : Bool) → ((a ≡ true) × (b ≡ false) × (c ≡ false)) ↔ ((a && (not b && not c)) ≡ true)
-outside-shape true false false = (λ h. refl, λ e. (refl, refl, refl))
-outside-shape true false true = (λ h. sym (h .2), λ e. absurd (false≢true e))
-outside-shape true true c = (λ h. sym (h .1), λ e. absurd (false≢true e))
-outside-shape false b c = (λ h. h .0, λ e. absurd (false≢true e))
-
-shape-tells : (w : Wanted) (c : List ℕ) → Tells (shapedAs w c) (Shaped w c → ⊥)
-unfolding shapedAs Shaped
-shape-tells transaction c = tells-not true (λ u. refl, λ e. tt)
-shape-tells identifier c = tells-not (identifierOk c) Iff·rfl
-shape-tells outside c = tells-not _ (outside-shape (identifierOk c) (same structured c) (same unstructured c))
-shape-tells (element l) c = tells-not _ (element-is (leftAt the93 l) c)
-shape-tells series c = tells-not _ (series-is (leftAt the93 7) c)
-shape-tells anything c = tells-not true (λ u. refl, λ e. tt)
-
-module _ (m : List ℕ) where
-  end-tells : (p : Part) → Tells (within m p) (EndOff m p)
-  unfolding within EndOff lies
-  end-tells (there n b) = never-wrong
-  end-tells (number n most) = never-wrong
-  end-tells (signed k z) = never-wrong
-  end-tells (string w s) = most-tells (s .place + s .len) (length m)
-
-  shaped-tells : (p : Part) → Tells (shaped m p) (ShapeOff m p)
-  unfolding shaped ShapeOff stringOctets
-  shaped-tells (there n b) = never-wrong
-  shaped-tells (number n most) = never-wrong
-  shaped-tells (signed k z) = never-wrong
-  shaped-tells (string w s) = shape-tells w (stringOctets m s)
+use Rattle.writing.proofs.PartTests.{wrong, tells-exactly, whole, whole-append, tells-any, fits, lengthIn, inRange, shapedAs, within, shaped, fits-tells, range-tells, end-tells, shaped-tells}
 
 -- 24: the tests of a record are those of its parts
 
