@@ -84,6 +84,7 @@ fi
 beside needs sh tests/needs.sh
 one "layout (rt fmt --check)" rt fmt --check
 one "every crate is listed" listed
+one "docs/BELIEVED.md names what must be believed" python3 tools/believed.py --check
 # more jobs than cores: rt proves in batches, and waits for the slowest crate or edit of each
 many "rt ci" env RT_JOBS="${RT_JOBS:-4}" sh tools/prove.sh ci
 wait

@@ -13,13 +13,13 @@ import sys
 GROUPS = [
     ("Reading", ["read::read"]),
     ("Writing", ["writer::write"]),
-    ("Steering", ["steering::steer"]),
+    ("Steering", ["steer_rules::steer"]),
     ("Listing", ["listing::list_reading"]),
-    ("As octets, for C", ["read::read_octets", "writer::write_octets", "steering::steer_octets", "c_calls::goldenskep_read",
+    ("As octets, for C", ["read::read_octets", "writer::write_octets", "steer_octets::steer_octets", "c_calls::goldenskep_read",
                           "c_calls::goldenskep_write", "c_calls::goldenskep_steer", "c_calls::goldenskep_list", "c_calls::goldenskep_layout"]),
-    ("Unitdata", ["sccp::read_unitdata", "sccp::write_unitdata", "c_calls::goldenskep_unitdata_read", "c_calls::goldenskep_unitdata_write"]),
+    ("Unitdata", ["sccp_read::read_unitdata", "sccp_write::write_unitdata", "c_calls::goldenskep_unitdata_read", "c_calls::goldenskep_unitdata_write"]),
     ("The table of open transactions", ["open_transactions::empty", "open_transactions::step", "table_octets::step_octets",
-                                        "table_octets::step_number", "c_calls::goldenskep_transaction"]),
+                                        "table_number::step_number", "c_calls::goldenskep_transaction"]),
 ]
 # crates whose specs/ are inner as a whole: parts of the reader and the writer; beside them the programs, which stand over io
 INNER = r"read_\w+|write_\w+|walk|pack|unpack"

@@ -1,4 +1,4 @@
-// What every layer above stands on: parts of a lent slice, and an octet as a number.
+// What every layer above stands on: parts of a lent slice, octets put behind a place or before it, and an octet as a number.
 ghost use mathlib.Core.Path.{_≡_};
 ghost use Prim.Native.Nat.{_+_, _<_, _≤_};
 ghost use mathlib.Core.List.{[], _∷_};

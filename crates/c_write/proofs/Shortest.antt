@@ -1,4 +1,4 @@
--- Demand 3 as C is told it: the statement of writer/specs/Shortest, with what 64 bits say. Assumes nothing.
+-- Demand 3 as C is told it: the statement of writing/specs/Shortest, with what 64 bits say. Assumes nothing.
 use Prim.Native.Nat.{ℕ, _*_, _%_, _^_, _≤_}
 use native.Mathlib.Omega.{arith}
 use mathlib.Core.Path.{_≡_, refl, ap, _∙_}

@@ -8,13 +8,13 @@ use Rattle.tcap.specs.Meaning.{octet, problemForm}
 use Rattle.layout.specs.Layout.{idsOctets, kindOctets, problemTag, problemNumber}
 use Rattle.tcap.specs.Record.{rowTag}
 
-pub component-tag : (m : List ℕ) (i : InvokeId) (k : ComponentKind) → getD (kindOctets i k) 0 0 ≡ rowTag k
+pub component-tag : (i : InvokeId) (k : ComponentKind) → getD (kindOctets i k) 0 0 ≡ rowTag k
 unfolding kindOctets idsOctets
-component-tag m i (ComponentKind.Invoke l c p) = refl
-component-tag m i (ComponentKind.ResultLast r) = refl
-component-tag m i (ComponentKind.ResultNotLast r) = refl
-component-tag m i (ComponentKind.ReturnError c p) = refl
-component-tag m i (ComponentKind.Reject q) = refl
+component-tag i (ComponentKind.Invoke l c p) = refl
+component-tag i (ComponentKind.ResultLast r) = refl
+component-tag i (ComponentKind.ResultNotLast r) = refl
+component-tag i (ComponentKind.ReturnError c p) = refl
+component-tag i (ComponentKind.Reject q) = refl
 
 pub problem-tag : (q : Problem) → problemForm q ≡ octet (problemTag q) (problemNumber q)
 unfolding problemTag problemNumber

@@ -1,4 +1,4 @@
--- What the readers and walkers of elements answer: their contracts cite these, and the definition of reading rests on none of them.
+-- What a walk of an element or a series answers: the tests of what may be written ask it, and contracts cite it; the definition of reading rests on none of it.
 -- Assumes nothing: these are definitions.
 use Prim.Native.Nat.{ℕ}
 use mathlib.Core.{Bool.Bool, Bool.true, Bool.cond, List.List, List.[], Option.none, Option.some}

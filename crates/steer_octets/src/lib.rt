@@ -24,7 +24,7 @@ pub fn key_of(message: &[u8]) -> Key
     }
 }
 
-// What `steer` answers, over rules as octets.
+// The link of the first rule that fits the message, over rules as octets.
 pub fn steer_octets(message: &[u8], rules: &[u8]) -> Steered
     ensures { λ r. ⌜ r ≡ steering (now (message .entry)) (rulesIn (now (rules .entry))) ⌝ }
 {

@@ -93,7 +93,7 @@ fn fits_in(octets: &[u8], tag: u8, first: FirstCode) -> bool
     false
 }
 
-// What `first_fit` answers, over rules as octets.
+// The first rule that fits, over rules as octets.
 pub fn first_in(octets: &[u8], tag: u8, first: FirstCode) -> Choice
     ensures { λ r. ⌜ r ≡ firstFit (rulesIn (now (octets .entry))) tag first ⌝ }
 {

@@ -40,7 +40,7 @@ fn taken_number(taken: Taken) -> u64
     }
 }
 
-// The same step, answered in one number: the status in its lowest octet, then what was done, then the entry.
+// A step on a table of octets, answered in one number: the status in its lowest octet, then what was done, then the entry.
 pub fn step_number(table: &mut [u8], number: u8, ours: &[u8], partner: &[u8]) -> u64
     ensures { λ r. ⌜ r ≡ replyNumber (replying (now (table .entry)) number (now (ours .entry)) (now (partner .entry))) ⌝ }
     ensures { λ r. ⌜ now (table .exit) ≡ leaving (now (table .entry)) number (now (ours .entry)) (now (partner .entry)) ⌝ }

@@ -56,7 +56,7 @@ pub record FaultOk (m : List ℕ) (hi : ℕ) (f : Fault) : Type 0 where
   pub invokeId : Maybe InvokeIdOk (invokeOf f)
   pub origId : Maybe (OrigHere m) (origOf f)
 
-pub claim : List ℕ → Claim
+unfoldable pub claim : List ℕ → Claim
 claim m =
     record {
       Of = FaultOk m;

@@ -32,7 +32,7 @@ use Rattle.tcap.proofs.Components.{id-laws, null-laws}
 use Rattle.tcap.proofs.Messages.{orig-laws, message-laws}
 use Rattle.tcap.proofs.Strings.{octetsOf, origAs, forget, Strings, tagged, whole, optionStrings, seriesStrings, codeStrings, bothStrings, componentStrings, namedStrings, dialogueStrings, endingStrings, origStrings, destStrings, restStrings, strings}
 use Rattle.tcap.proofs.UnknownType.{unknown-orig}
-use Rattle.tcap.proofs.FaultPlaces.{place, owner, invokeId, origId, claim, RefusedFor, inner, overlong, noMessage, Refused, inside-message, no-message, unknown-here, too-long, after-message, keeps-dialogue, keeps-component, keeps-invoke, orig-here, keeps-carried}
+use Rattle.tcap.proofs.FaultPlaces.{claim, RefusedFor, Refused, inside-message, no-message, unknown-here, too-long, after-message, keeps-dialogue, keeps-component, keeps-invoke, orig-here, keeps-carried}
 
 -- what is read is well-formed as well
 ends-both : {A : Type 0} {P R : A → ℕ → Type 0} {Q : Fault → Type 0} {x : Got A} → Ends P Q x → Then R x → Ends (λ v n. P v n × R v n) Q x

@@ -45,9 +45,9 @@ module _ (x : ℕ) (l : List ℕ) where
       by true e = rw (ne-eqb _ _ a, e) (refl, refl)
       by false e = rw (ne-eqb _ _ a, e, ne-eqb _ _ b, ne-eqb _ _ d) (refl, refl)
 
-  kind-tag : (m : List ℕ) → isKind x l ≡ true → rowTag (kindIn x l) ≡ x
+  kind-tag : isKind x l ≡ true → rowTag (kindIn x l) ≡ x
   unfolding isKind isUnlinked kindIn
-  kind-tag m h = go (eqb x 0xA1) (eqb x 0xA2) (eqb x 0xA3) (eqb x 0xA4) (eqb x 0xA7) refl refl refl refl refl
+  kind-tag h = go (eqb x 0xA1) (eqb x 0xA2) (eqb x 0xA3) (eqb x 0xA4) (eqb x 0xA7) refl refl refl refl refl
     where
       none : eqb x 0xA1 ≡ false → eqb x 0xA2 ≡ false → eqb x 0xA3 ≡ false → eqb x 0xA4 ≡ false → eqb x 0xA7 ≡ false → (a : Bool) → eqb (getD l 3 0) 0 ≡ a → rowTag (kindIn x l) ≡ x
       none p q r s t true g = absurd (false≢true (rw (p, g, q, r, s, t) at h))
@@ -66,6 +66,6 @@ module _ (l : List ℕ) (h : isRow l ≡ true) where
   unfolding isRow
   row-kind = and-eq-true-iff (isFlag (getD l 1 0)) (isKind (getD l 0 0) l) .0 h .1
 
-  pub row-tag : (m : List ℕ) → rowTag (rowIn l .kind) ≡ getD l 0 0
+  pub row-tag : rowTag (rowIn l .kind) ≡ getD l 0 0
   unfolding rowIn
-  row-tag m = kind-tag (getD l 0 0) l m row-kind
+  row-tag = kind-tag (getD l 0 0) l row-kind

@@ -16,7 +16,7 @@ use Rattle.tcap.specs.Verdict.{every, counted, origThere, destThere, causeThere
 use Rattle.writing.specs.Writing.{CodeTyped, ReturnedTyped, KindTyped, RowTyped, RecordTyped}
 use Rattle.writing.specs.Reasons.{Need, must, may, Wanted, series, element, there, needsOf, origParts, destParts, optionParts, sourcePart, dialogueParts, idParts, linkedParts, codePart, returnedParts, problemPart, rowParts, rowsParts, partsOf, Misfit, RangeOff, EndOff, ShapeOff, SomePart}
 use Rattle.writing.proofs.WellFormed.{every-take}
-use Rattle.writing.proofs.PartTests.{wrong, tells-exactly, whole, whole-append, tells-any, fits, lengthIn, inRange, shapedAs, within, shaped, fits-tells, range-tells, end-tells, shaped-tells}
+use Rattle.writing.proofs.PartTests.{tells-exactly, whole, whole-append, tells-any, fits, lengthIn, inRange, shapedAs, within, shaped, fits-tells, range-tells, end-tells, shaped-tells}
 
 -- 24: the tests of a record are those of its parts
 

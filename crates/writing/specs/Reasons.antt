@@ -1,5 +1,5 @@
 -- What can be wrong with a record over the material beside it, part by part: document 01, "Writing", 24, 23, 21 and 22. `writing` asks these of whole
--- records, in its own order; writer/proofs/Order says that it answers as these do. Assumes nothing: these are definitions.
+-- records, in its own order; writing/proofs/Order says that it answers as these do. Assumes nothing: these are definitions.
 use Prim.Native.Nat.{ℕ, _+_, _<_}
 use mathlib.Core.{Path._≡_, Logic._⊎_, Bool.Bool, Bool.true, Bool.false, Bool.not, List.List, List.[], List._∷_, List._++_}
 use lib.{ListN.length, ListN.take, ListN.drop, Dec.eqb, IntN.ℤ}
