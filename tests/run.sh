@@ -95,6 +95,7 @@ one "what the tests in C need is installed" ended needs
 archive=target/lib/libgoldenskep.a
 rm -rf target/lib target/staticlib
 one "the archive is built" make --no-print-directory archive
+echo "C tests, install and README, side by side: a few minutes"
 beside c env VECTORS=tests/vectors SEED=1 COUNT=20000 ROUNDS=20000 sh tests/c/run.sh $archive
 beside install sh tests/install.sh $archive
 beside readme sh tests/readme.sh $archive
