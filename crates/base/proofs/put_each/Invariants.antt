@@ -1,0 +1,11 @@
+-- The octets passed have been put. Assumes nothing.
+use Prim.Native.Nat.{◌≤◌, ◌-◌}
+use lib.ListN.{length, take}
+use Rattle.base.specs.inner.Put.{Put}
+use Rattle.base.proofs.put_each.Given as goal
+
+abbrev pub invariant-loop-i : goal.invariant-loop-i
+invariant-loop-i l = (l.i ≤ length l.part) × Put l.initial.out l.at (take l.i l.part) l.o l.out
+
+abbrev pub decreases-loop-i : goal.decreases-loop-i
+decreases-loop-i l = length l.part - l.i
