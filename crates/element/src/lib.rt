@@ -54,6 +54,7 @@ pub enum Walk {
 }
 
 // The number of a fault.
+#[tactic(auto, unfolding(crate::specs::Fault::number_of))]
 pub fn number_of(kind: FaultKind) -> u8
     ensures { result ≡ number_of kind }
 {
