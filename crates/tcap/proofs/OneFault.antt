@@ -67,10 +67,19 @@ pub data Shown (r : Parts) (p : ℕ) (part : List ℕ) (c o : Owner) : FaultKind
   here : {k : FaultKind} → Shown r p part c o k o (bad (fault k p (component 0) none none))
   contents : {a u n : ℕ} {h : Holds} → due r a ≡ some h → contents_of h ≡ none → passes h (take n (drop u part)) ≡ false → Shown r p part c o FaultKind.BadContents o (got (some (head a u (definite n))) 0)
 
+one_shown_at : {r : Parts} {p : ℕ} {part : List ℕ} {c o w w' : Owner} {k k' : FaultKind} {x x' : Got (Option Head)} → Shown r p part c o k w x → Shown r p part c o k' w' x' → x ≡ x' → (k ≡ k') × (w ≡ w')
+one_shown_at around around e = (cc, refl)
+one_shown_at around here e = absurd (cc)
+one_shown_at around (contents is z f) e = absurd (cc)
+one_shown_at here around e = absurd (cc)
+one_shown_at here here e = (cc, refl)
+one_shown_at here (contents is z f) e = absurd (cc)
+one_shown_at (contents is z f) around e = absurd (cc)
+one_shown_at (contents is z f) here e = absurd (cc)
+one_shown_at (contents is z f) (contents is' z' f') e = (refl, refl)
+
 pub one_shown : {r : Parts} {p : ℕ} {part : List ℕ} {c o w w' : Owner} {k k' : FaultKind} {x : Got (Option Head)} → Shown r p part c o k w x → Shown r p part c o k' w' x → (k ≡ k') × (w ≡ w')
-one_shown around around = (refl, refl)
-one_shown here here = (refl, refl)
-one_shown (contents a b c) (contents d e f) = (refl, refl)
+one_shown a b = one_shown_at a b refl
 
 module _ (rules : Rules) (l : ℕ) (d : Bool) (r : Parts) (p : ℕ) (part : List ℕ) where
   -- an element with that head may stand here
