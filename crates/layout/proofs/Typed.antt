@@ -73,7 +73,7 @@ kind_typed (ComponentKind.Reject q) vs p = tt
 pub row_typed : (w : Row) (vs : List Val) → Is Rows.the_row w vs → RowFits w
 row_typed w vs p = (id_typed w.id _ p.1.1.0, kind_typed w.kind _ p.1.1.1.0)
 
-pub rows_typed : (rs : List Row) (us : List Val) → shadow (each (Struct (shape Rows.the_type)).Denot (Struct (shape Rows.the_type)).own_val (map (Rows.the_type).to rs) us) → Every RowFits rs
+pub rows_typed : (rs : List Row) (us : List Val) → shadow (each (Rows.the_row).Denot (Rows.the_row).own_val rs us) → Every RowFits rs
 unfolding Every
 rows_typed [] us p = tt
 rows_typed (w ∷ rs) [] p = absurd p
@@ -112,6 +112,6 @@ record_typed r vs p n h =
       dest = dest_typed r.dest _ p.1.1.1.1.0;
       dialogue = dialogue_typed r.dialogue _ p.1.1.1.1.1.0;
       count = h;
-      sixteen = sym (length-map r.rows _) ∙ a.1.0.1;
+      sixteen = a.1.0.1;
       rows = every_first n r.rows (rows_typed r.rows a.0 a.1.1);
     }

@@ -5,4 +5,4 @@ pub returns-in-Nowhere : goal.returns-in-Nowhere
 returns-in-Nowhere c = rw c.in-Nowhere.is
 
 pub returns-in-At : goal.returns-in-At
-returns-in-At c = rw c.free-1.given.1
+returns-in-At c = rw c.in-At.is
