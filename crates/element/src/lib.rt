@@ -4,7 +4,7 @@ ghost use Rattle.std.specs.Prelude.{◌≡◌};
 ghost use Rattle.element.specs.Fault.{number_of};
 
 // A fault by its kind; documents 01 and 02 number them.
-#[derive(Drop)]
+#[derive(Clone, Copy)]
 pub enum FaultKind {
     CutOff,
     BadTag,
@@ -24,7 +24,7 @@ pub enum FaultKind {
 }
 
 // How a series goes on: it ends here, its end pair is missing, or another element stands here.
-#[derive(Drop)]
+#[derive(Clone, Copy)]
 pub enum EndRead {
     Ended,
     Unfinished,
@@ -32,14 +32,14 @@ pub enum EndRead {
 }
 
 // The front of a part, read as a tag: its first octet, and how many it takes.
-#[derive(Drop)]
+#[derive(Clone, Copy)]
 pub enum TagRead {
     Fault(FaultKind),
     Tag { first: u8, size: usize },
 }
 
 // The front of a part, read as a length: how many octets it takes, and how many contents octets it names.
-#[derive(Drop)]
+#[derive(Clone, Copy)]
 pub enum LengthRead {
     Fault(FaultKind),
     Definite { size: usize, count: usize },
@@ -47,7 +47,7 @@ pub enum LengthRead {
 }
 
 // A walk to the bottom: the fault that was found first and its place, or the octets that were walked.
-#[derive(Drop)]
+#[derive(Clone, Copy)]
 pub enum Walk {
     Fault { kind: FaultKind, place: usize },
     Whole { size: usize },

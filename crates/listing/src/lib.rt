@@ -7,7 +7,7 @@ use listing_lines::{put_head, put_refusal, put_rows};
 use tcap::{Outcome, Reading, Record};
 
 // How long the text is, or that the buffer has too little room for it: document 01's number 25.
-#[derive(Drop)]
+#[derive(Clone, Copy)]
 pub enum Listed {
     Length(usize),
     TooLong,

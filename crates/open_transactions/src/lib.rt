@@ -12,7 +12,7 @@ use transaction_states::{
 pub use transaction_states::{Event, State, TableRefusal, Taken};
 
 // Ours is the originating ID of what we send, the partner's the destination ID; both stand in the octets beside them, ours first.
-#[derive(Drop)]
+#[derive(Clone, Copy)]
 pub struct Entry {
     pub state: State,
     pub ours: OrigTransactionId,

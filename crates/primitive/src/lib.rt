@@ -15,7 +15,7 @@ pub const MOST_INTEGER_OCTETS: usize = 4;
 pub const MOST_IDENTIFIER_OCTETS: usize = 16;
 
 // Contents, read as a signed integer.
-#[derive(Drop)]
+#[derive(Clone, Copy)]
 pub enum IntegerRead {
     Value(i32),
     Wrong,

@@ -1,13 +1,13 @@
 // SCCP unitdata, message type 09 of Recommendation Q.713: what reading and writing one answers. The code is in sccp_read and sccp_write.
 
 // A part of a unitdata: its octets, without the length octet before them.
-#[derive(Drop)]
+#[derive(Clone, Copy)]
 pub struct Part {
     pub place: usize,
     pub len: usize,
 }
 
-#[derive(Drop)]
+#[derive(Clone, Copy)]
 pub struct Unitdata {
     pub class: u8,
     pub called: Part,
@@ -16,7 +16,7 @@ pub struct Unitdata {
 }
 
 // Why octets are no unitdata; document 02 numbers these 31 to 34.
-#[derive(Drop)]
+#[derive(Clone, Copy)]
 pub enum UnitdataFault {
     OtherType,
     PastEnd,
@@ -24,28 +24,28 @@ pub enum UnitdataFault {
     EmptyAddress,
 }
 
-#[derive(Drop)]
+#[derive(Clone, Copy)]
 pub enum UnitdataRead {
     Refused(UnitdataFault),
     Read(Unitdata),
 }
 
 // The part that a pointer names, if it lies in the message.
-#[derive(Drop)]
+#[derive(Clone, Copy)]
 pub enum PartRead {
     PastEnd,
     Inside(Part),
 }
 
 // Why a unitdata is not written; document 02 numbers these 35 and 25.
-#[derive(Drop)]
+#[derive(Clone, Copy)]
 pub enum UnitdataWriteFault {
     OutOfRange,
     NoRoom,
 }
 
 // How many octets were written, or why none were.
-#[derive(Drop)]
+#[derive(Clone, Copy)]
 pub enum UnitdataWritten {
     Length(usize),
     Refused(UnitdataWriteFault),

@@ -18,14 +18,14 @@ const INVOKE: u8 = 0xA1;
 const LOCAL: u8 = 0x02;
 
 // The local operation code that a rule asks for.
-#[derive(Drop)]
+#[derive(Clone, Copy)]
 pub enum RuleCode {
     Any,
     Local(i32),
 }
 
 // The kind is 0 for any, or one of the five message tags; a rule with another fits nothing.
-#[derive(Drop)]
+#[derive(Clone, Copy)]
 pub struct Rule {
     pub kind: u8,
     pub code: RuleCode,
@@ -33,7 +33,7 @@ pub struct Rule {
 }
 
 // What steering answers.
-#[derive(Drop)]
+#[derive(Clone, Copy)]
 pub enum Steered {
     NoRule,
     Link(u32),
@@ -41,14 +41,14 @@ pub enum Steered {
 }
 
 // What the first component is: an Invoke with this local code, or anything else, none at all included.
-#[derive(Drop)]
+#[derive(Clone, Copy)]
 pub enum FirstCode {
     Other,
     Local(i32),
 }
 
 // What the rules look at in a message, and whether it was read.
-#[derive(Drop)]
+#[derive(Clone, Copy)]
 pub struct Key {
     pub outcome: Outcome,
     pub tag: u8,
@@ -56,7 +56,7 @@ pub struct Key {
 }
 
 // What a list of rules says to a key.
-#[derive(Drop)]
+#[derive(Clone, Copy)]
 pub enum Choice {
     NoRule,
     Link(u32),

@@ -2,7 +2,7 @@
 use transaction_states::Taken;
 
 // How a call on lent octets ends.
-#[derive(Drop)]
+#[derive(Clone, Copy)]
 pub enum Reply {
     NoRoom,
     Answer(Taken),

@@ -41,66 +41,66 @@ pub const MOST_PROVIDER_DIAGNOSTIC: u8 = 2;
 
 pub const MOST_ABORT_SOURCE: u8 = 1;
 
-#[derive(Drop)]
+#[derive(Clone, Copy)]
 pub struct Span {
     pub place: u32,
     pub len: u32,
 }
 
 // A string that may be left out: a parameter, user information.
-#[derive(Drop)]
+#[derive(Clone, Copy)]
 pub enum OptionalSpan {
     Absent,
     Present(Span),
 }
 
 // A transaction ID is kept as its octets.
-#[derive(Drop)]
+#[derive(Clone, Copy)]
 pub struct TransactionId {
     pub octets: Span,
 }
 
 // Tag 48 and tag 49: the two are never mixed up.
-#[derive(Drop)]
+#[derive(Clone, Copy)]
 pub struct OrigTransactionId(pub TransactionId);
 
-#[derive(Drop)]
+#[derive(Clone, Copy)]
 pub struct DestTransactionId(pub TransactionId);
 
-#[derive(Drop)]
+#[derive(Clone, Copy)]
 pub enum OptionalOrig {
     NoOrig,
     Orig(OrigTransactionId),
 }
 
-#[derive(Drop)]
+#[derive(Clone, Copy)]
 pub enum OptionalDest {
     NoDest,
     Dest(DestTransactionId),
 }
 
 // Only a Reject may have null.
-#[derive(Drop)]
+#[derive(Clone, Copy)]
 pub enum InvokeId {
     Null,
     Id(i8),
 }
 
-#[derive(Drop)]
+#[derive(Clone, Copy)]
 pub enum LinkedId {
     Unlinked,
     Linked(i8),
 }
 
 // An operation or error code.
-#[derive(Drop)]
+#[derive(Clone, Copy)]
 pub enum Code {
     Local(i32),
     Global(Span),
 }
 
 // The problem of a Reject: tags 80, 81, 82, 83.
-#[derive(Drop)]
+#[derive(Clone, Copy)]
 pub enum Problem {
     General(u8),
     OfInvoke(u8),
@@ -109,13 +109,13 @@ pub enum Problem {
 }
 
 // What a return result holds: nothing, or 30 with code and parameter.
-#[derive(Drop)]
+#[derive(Clone, Copy)]
 pub enum Returned {
     Bare,
     Both { code: Code, parameter: Span },
 }
 
-#[derive(Drop)]
+#[derive(Clone, Copy)]
 pub enum ComponentKind {
     Invoke {
         linked: LinkedId,
@@ -132,7 +132,7 @@ pub enum ComponentKind {
 }
 
 // One component: its invoke ID beside its kind, which carries its own fields.
-#[derive(Drop)]
+#[derive(Clone, Copy)]
 pub struct Row {
     pub id: InvokeId,
     pub kind: ComponentKind,
@@ -153,14 +153,14 @@ pub fn blank_row() -> Row
 }
 
 // Who diagnosed, of a dialogue response: the user (A1) or the provider (A2).
-#[derive(Drop)]
+#[derive(Clone, Copy)]
 pub enum Diagnostic {
     ByUser(u8),
     ByProvider(u8),
 }
 
 // The dialogue portion (6B), or the P-Abort cause (4A), which stands in its place.
-#[derive(Drop)]
+#[derive(Clone, Copy)]
 pub enum Dialogue {
     NoDialogue,
     Cause(u8),
@@ -192,7 +192,7 @@ pub enum Dialogue {
     },
 }
 
-#[derive(Drop)]
+#[derive(Clone, Copy)]
 pub enum MessageKind {
     Unidirectional,
     Begin,
@@ -226,7 +226,7 @@ pub struct Record {
 }
 
 // The standard answer to a message that is refused: the P-Abort cause to send, or the general problem of a Reject.
-#[derive(Drop)]
+#[derive(Clone, Copy)]
 pub enum Answer {
     AbortCause(u8),
     RejectProblem {
@@ -237,7 +237,7 @@ pub enum Answer {
 }
 
 // On what ground a message is refused: the standard answer goes by it, and by whom the fault belongs to.
-#[derive(Drop)]
+#[derive(Clone, Copy)]
 pub enum Ground {
     UnknownMessage,
     TooManyComponents,
@@ -246,7 +246,7 @@ pub enum Ground {
     BadForm,
 }
 
-#[derive(Drop)]
+#[derive(Clone, Copy)]
 pub struct Refusal {
     pub kind: FaultKind,
     pub place: usize,
@@ -254,7 +254,7 @@ pub struct Refusal {
     pub answer: Answer,
 }
 
-#[derive(Drop)]
+#[derive(Clone, Copy)]
 pub enum Outcome {
     Accepted,
     Refused(Refusal),

@@ -7,7 +7,7 @@ use base::after;
 use tcap::MOST_TRANSACTION_ID_OCTETS;
 
 // Idle is what free room is in.
-#[derive(Drop)]
+#[derive(Clone, Copy)]
 pub enum State {
     Idle,
     InitiationSent,
@@ -16,7 +16,7 @@ pub enum State {
 }
 
 // The nine events that the page names, and every other.
-#[derive(Drop)]
+#[derive(Clone, Copy)]
 pub enum Event {
     BeginSent,
     BeginReceived,
@@ -31,7 +31,7 @@ pub enum Event {
 }
 
 // What an event does to an open transaction.
-#[derive(Drop)]
+#[derive(Clone, Copy)]
 pub enum Move {
     Barred,
     Stay,
@@ -41,14 +41,14 @@ pub enum Move {
 }
 
 // Where an entry stands.
-#[derive(Drop)]
+#[derive(Clone, Copy)]
 pub enum Room {
     Nowhere,
     At(usize),
 }
 
 // 40; 41 of a Begin and of the other events; 42; 43.
-#[derive(Drop)]
+#[derive(Clone, Copy)]
 pub enum TableRefusal {
     BadId,
     InUse,
@@ -58,14 +58,14 @@ pub enum TableRefusal {
 }
 
 // Whether an event opens a transaction, and in which state.
-#[derive(Drop)]
+#[derive(Clone, Copy)]
 pub enum Begins {
     Never,
     In(State),
 }
 
 // What is to be done in which room.
-#[derive(Drop)]
+#[derive(Clone, Copy)]
 pub enum Deed {
     Refused(TableRefusal),
     Opens { room: usize, state: State },
@@ -76,7 +76,7 @@ pub enum Deed {
 }
 
 // How an event was taken, and in which room.
-#[derive(Drop)]
+#[derive(Clone, Copy)]
 pub enum Taken {
     Refused(TableRefusal),
     Opened(usize),

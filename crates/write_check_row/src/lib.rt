@@ -12,7 +12,7 @@ use walk::whole_at;
 const SIZE_CAP: usize = MOST_OCTETS + 1;
 
 // A part that may be written, with its size, capped; or the worst that is wrong: 4 for 24, 3 for 23, 2 for 21, 1 for 22.
-#[derive(Drop)]
+#[derive(Clone, Copy)]
 pub enum Judged {
     Fine(usize),
     Bad(u8),

@@ -1,7 +1,7 @@
 // Writing: what it answers. Definitions and theorems stand here, the code in `writer`.
 
 // Why a record is not written; document 01 numbers these 24, 23, 21, 22 and 25.
-#[derive(Drop)]
+#[derive(Clone, Copy)]
 pub enum WriteFault {
     WrongParts,
     OutOfRange,
@@ -11,7 +11,7 @@ pub enum WriteFault {
 }
 
 // How many octets were written, or why none were.
-#[derive(Drop)]
+#[derive(Clone, Copy)]
 pub enum Written {
     Length(usize),
     Refused(WriteFault),
