@@ -20,13 +20,13 @@ pub struct Entry {
     pub octets: [u8; 8],
 }
 
-#[derive(Drop)]
+#[derive(Clone, Copy)]
 pub struct Table {
     pub entries: [Entry; Table::CAPACITY],
 }
 
 // Of an event that is refused the table is as it was.
-#[derive(Drop)]
+#[derive(Clone, Copy)]
 pub struct Stepped {
     pub taken: Taken,
     pub table: Table,

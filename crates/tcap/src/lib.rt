@@ -215,7 +215,7 @@ pub fn message_tag(kind: MessageKind) -> u8
 }
 
 // Rows from `count` on do not matter; reading leaves them blank.
-#[derive(Drop)]
+#[derive(Clone, Copy)]
 pub struct Record {
     pub kind: MessageKind,
     pub orig: OptionalOrig,
@@ -261,7 +261,7 @@ pub enum Outcome {
 }
 
 // A refused reading has the blank record.
-#[derive(Drop)]
+#[derive(Clone, Copy)]
 pub struct Reading {
     pub outcome: Outcome,
     pub message: Record,
