@@ -3,31 +3,40 @@ use Rattle.element.specs.Form.{fewest_of}
 use Rattle.element.specs.inner.Fronts.{long_read}
 use Rattle.element.proofs.Views.{long_by, long_view, low_place}
 use Rattle.walk.proofs.Views.{long_one, long_past, long_more}
+use Rattle.walk.specs.Walks.{end_by_length}
 use Prim.Native.Nat.{◌+◌}
 use native.Mathlib.Omega.{arith}
 use Rattle.base.proofs.Tests.{tests}
 use Rattle.walk.proofs.long_end.Goals as goal
 
 pub returns-then-k-gt126 : goal.returns-then-k-gt126
+unfolding end_by_length
 returns-then-k-gt126 c = unfold long_read long_by fewest_of in search (tests, long_view)
 
 pub returns-then-left-k : goal.returns-then-left-k
+unfolding end_by_length
 returns-then-left-k c = unfold long_read long_by fewest_of in search (tests, long_view)
 
 pub overflow_cast-one : goal.overflow_cast-one
+unfolding end_by_length
 overflow_cast-one c = omega (arith, c.shared_slice_known-2-1.given (c.args.from + 1))
 
 pub returns-then-one-lt128 : goal.returns-then-one-lt128
+unfolding end_by_length
 returns-then-one-lt128 c = search low_place
 
 pub returns-then-one-left : goal.returns-then-one-left
+unfolding end_by_length
 returns-then-one-left c = search long_one
 
 pub returns-then-k-eq1 : goal.returns-then-k-eq1
+unfolding end_by_length
 returns-then-k-eq1 c = search long_past
 
 pub returns-then-one-eq0 : goal.returns-then-one-eq0
+unfolding end_by_length
 returns-then-one-eq0 c = unfold long_read long_by fewest_of in search (tests, long_view)
 
 pub returns : goal.returns
+unfolding end_by_length
 returns c = search long_more
