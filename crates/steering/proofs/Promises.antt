@@ -6,13 +6,13 @@ use mathlib.Core.Path.{◌≡◌, refl, ap}
 use mathlib.Core.Logic.{◌↔◌}
 use mathlib.Core.Bool.{Bool, true, false}
 use mathlib.Core.List.{List, [], ◌∷◌, ◌++◌, map}
-use mathlib.Core.Option.{none, some}
+use mathlib.Core.Option.{some}
 use lib.ListN.{length, get_or, replicate}
 use borrow.Author.Tests.{ne_eqb, lt-leb}
 use Rattle.base.specs.Value.{Every}
 use Rattle.element.specs.Fault.{Text}
 use Rattle.element.specs.Ask.{got}
-use Rattle.tcap.specs.declared.{MessageKind.MessageKind, Refusal.Refusal, Outcome.Outcome, Record.Record, Reading.Reading}
+use Rattle.tcap.specs.declared.{MessageKind.MessageKind, Refusal.Refusal, Outcome.Outcome, Reading.Reading}
 use Rattle.tcap.specs.Meaning.{local, global, Component, invoke, last, not_last, error, reject, Message, unidirectional, begin, finish, continue, abort, Meaning}
 use Rattle.tcap.specs.WellFormed.{the93, Reads}
 use Rattle.tcap.specs.Record.{row_of, blank_row, record_of, message_tag}

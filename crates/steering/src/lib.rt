@@ -1,4 +1,6 @@
 // Steering: the link that a list of rules gives a message. The first rule that fits gives it.
+#![tactic(auto)]
+
 pub mod octets;
 
 ghost use Rattle.std.specs.Prelude.{◌≡◌, ◌≤◌, length};

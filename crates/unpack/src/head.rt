@@ -8,6 +8,7 @@ use tcap::{
     OrigTransactionId, TransactionId,
 };
 
+#[tactic(auto, unfolding(layout::specs::Layout::message_kind_in))]
 pub fn message_kind_in(tag: u8) -> MessageKind
     ensures { result ≡ message_kind_in tag }
 {
@@ -126,6 +127,7 @@ pub fn dialogue_in(choice: u8, octets: &[u8]) -> Dialogue
     outside_in(choice, octets)
 }
 
+#[tactic(auto, unfolding(layout::specs::Layout::is_message_tag))]
 fn is_message_tag(tag: u8) -> bool
     ensures { result ≡ is_message_tag tag }
 {

@@ -1,4 +1,6 @@
 // Octets as the parts of a record.
+#![tactic(auto)]
+
 pub mod head;
 pub mod number;
 pub mod row;

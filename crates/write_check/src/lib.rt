@@ -1,4 +1,6 @@
 // Whether a dialogue portion may be written, and how many octets it has, told in one pass.
+#![tactic(auto)]
+
 ghost use Rattle.std.specs.Prelude.{◌≡◌};
 ghost use Rattle.tcap.specs.declared.Dialogue.{Dialogue};
 ghost use Rattle.write_check.specs.Judgements.{external_judged, pdu_judged, number_judged, source_judged, info_judged, context_judged, outside_judged, answer_judged, dialogue_judged};

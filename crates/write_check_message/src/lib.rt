@@ -1,4 +1,6 @@
 // Whether a record may be written, and how many octets the message has, told in one pass: the transaction IDs, and the message around its components.
+#![tactic(auto)]
+
 ghost use Rattle.std.specs.Prelude.{◌≡◌};
 ghost use Rattle.tcap.specs.Verdict.{orig_there, dest_there, cause_there};
 ghost use Rattle.write_check.specs.Judgements.{ids_of, ids_there, rest_fits, parts_judged, orig_judged, dest_judged, portion_of, behind_judged, message_judged};

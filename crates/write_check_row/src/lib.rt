@@ -1,4 +1,6 @@
 // Whether the parts of a record may be written, and how many octets they take, told in one pass.
+#![tactic(auto)]
+
 ghost use Rattle.std.specs.Prelude.{◌≡◌, true, ◌+◌, min, max, length};
 ghost use Rattle.tcap.specs.Verdict.{lies, is_element, is_series, string_octets};
 ghost use Rattle.write_check_row.specs.Judged.{size_cap, joined, wrapped, octet_judged, octets_judged, sized_judged, name_judged, element_judged, series_judged};

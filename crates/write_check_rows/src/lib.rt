@@ -1,4 +1,6 @@
 // The components of a record: each judged from the 24 octets of its row, with no row made; an octet that chooses and is not listed is a wrong part.
+#![tactic(auto)]
+
 ghost use Rattle.std.specs.Prelude.{◌≡◌, ◌&&◌, ◌≤◌, length, drop, get_or, eqb};
 ghost use Rattle.layout.specs.Layout.{is_flag, linked_in, is_code_tag, code_at, parameter_at, is_problem_tag, problem_in, is_coded, is_returned, returned_in, is_unlinked, is_kind, kind_in, is_row, row_in, are_rows, rows_in};
 ghost use Rattle.tcap.specs.declared.ComponentKind.{ComponentKind};
