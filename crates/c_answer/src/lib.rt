@@ -1,4 +1,6 @@
 // What C is told of a refused message, as one number: docs/LAYOUT.md, "Answer".
+#![tactic(auto)]
+
 ghost use Rattle.std.specs.Prelude.{◌≡◌, ◌+◌, ◌*◌, ◌%◌, ◌^◌};
 ghost use Rattle.layout.specs.Layout.{id_flag, id_octet};
 ghost use Rattle.c_answer.specs.Answer.{orig_bits, send_bits, refusal_bits};
@@ -6,6 +8,7 @@ ghost use Rattle.c_answer.specs.Answer.{orig_bits, send_bits, refusal_bits};
 use tcap::{Answer, InvokeId, OptionalOrig, Refusal};
 
 // The field of a transaction ID, by the place and length of its octets.
+#[tactic(auto, unfolding(layout::specs::Layout::orig_span, crate::specs::Answer::orig_bits))]
 fn orig_bits(orig: OptionalOrig) -> u64
     ensures { result ≡ orig_bits orig }
 {
@@ -22,6 +25,7 @@ fn orig_bits(orig: OptionalOrig) -> u64
 }
 
 // The fields of an invoke ID, if it was read.
+#[tactic(auto, unfolding(layout::specs::Layout::id_flag, layout::specs::Layout::id_octet))]
 fn id_bits(id: InvokeId) -> u64
     ensures { result ≡ id_flag id * 2 ^ 55 + id_octet id % 2 ^ 8 * 2 ^ 56 }
 {
@@ -34,6 +38,7 @@ fn id_bits(id: InvokeId) -> u64
 }
 
 // What to send.
+#[tactic(auto, using(crate::proofs::Bits::id_small), unfolding(crate::specs::Answer::send_bits))]
 fn send_bits(answer: Answer) -> u64
     ensures { result ≡ send_bits answer }
 {

@@ -1,4 +1,6 @@
 // An entry of the table of open transactions as 12 octets, in the layout of docs/LAYOUT.md: compared, and put.
+#![tactic(auto)]
+
 ghost use Rattle.std.specs.Prelude.{◌≡◌, ◌+◌, ◌<◌, ◌≤◌, length};
 ghost use Rattle.base.specs.inner.Put.{Put};
 ghost use Rattle.entry_octets.specs.Entries.{state_in, state_octet, four_of, entry_octets, blank_octets};

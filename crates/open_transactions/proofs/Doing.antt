@@ -8,9 +8,9 @@ use lib.ListN.{length, get_or}
 use lib.Dec.{leb}
 use borrow.Author.Tests.{leb-true}
 use Rattle.tcap.specs.WellFormed.{most_transaction_id_octets, id_ok}
-use Rattle.transaction_states.specs.declared.{State.State, Event.Event, Move.Move, Room.Room, Begins.Begins, Deed.Deed, Taken.Taken}
+use Rattle.transaction_states.specs.declared.{State.State, Event.Event, Move.Move, Room.Room, Begins.Begins, Deed.Deed}
 use Rattle.open_transactions.specs.declared.{Entry.Entry, Table.Table}
-use Rattle.transaction_states.specs.Events.{move_of, begins_of, tells, told_by, ids_ok, opening, moving, taken_of}
+use Rattle.transaction_states.specs.Events.{move_of, begins_of, tells, told_by, ids_ok, opening, moving}
 use Rattle.open_transactions.specs.Table.{blank_entry, holds, is_free, find_from, begin_deed, other_deed, found_deed, deed_of, with_entry, active_now, done}
 use Rattle.open_transactions.specs.inner.Steps.{Inside, Kept, Doable}
 use Rattle.open_transactions.proofs.Finding.{found_below, same_entry, past_entry}

@@ -10,7 +10,7 @@ use lib.ListN.{length, get_or, set}
 use lib.Seq.{get_or-set_same}
 use lib.Dec.{eqb}
 use borrow.Author.Tests.{eq-eqb, ne_eqb}
-use Rattle.transaction_states.specs.declared.{State.State, Event.Event, Move.Move, Room.Room, TableRefusal.TableRefusal, Begins.Begins, Deed.Deed}
+use Rattle.transaction_states.specs.declared.{State.State, Event.Event, Move.Move, Room.Room, Begins.Begins, Deed.Deed}
 use Rattle.open_transactions.specs.declared.{Entry.Entry, Table.Table}
 use Rattle.tcap.specs.WellFormed.{id_ok}
 use Rattle.transaction_states.specs.Events.{is_open, move_of, begins_of, told_by, ids_ok, opening, moving, taken_of}

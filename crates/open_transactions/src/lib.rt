@@ -1,4 +1,6 @@
 // Open transactions, kept in a table of 64 entries: document 02, §10.
+#![tactic(auto)]
+
 ghost use Rattle.std.specs.Prelude.{◌≡◌, length, ◌<◌};
 ghost use Rattle.open_transactions.specs.Table.{blank_entry, empty_table, same_id, holds, is_free, find_from, entry_for, partner_of, with_entry, active_now, begin_deed, other_deed, found_deed, deed_of, done, stepped};
 ghost use Rattle.open_transactions.specs.inner.Steps.{Inside, Doable};

@@ -162,6 +162,7 @@ fn put_response(
     }
 }
 
+#[tactic(auto, unfolding(layout::specs::Layout::dialogue_octets))]
 fn put_dialogue(out: &mut [u8], at: usize, dialogue: Dialogue) -> usize
     requires { at + 20 ≤ length out.old }
     ensures { Put out.old at (dialogue_octets dialogue) result out.new }

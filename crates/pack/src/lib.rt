@@ -1,4 +1,6 @@
 // Lays a record out as octets in a lent buffer: its head, and each row.
+#![tactic(auto)]
+
 pub mod head;
 pub mod number;
 pub mod row;

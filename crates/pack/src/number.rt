@@ -8,6 +8,7 @@ use primitive::bits;
 use tcap::Span;
 
 // One octet that stands for a signed number.
+#[tactic(auto, using(base::proofs::Numbers::bits_within), unfolding(base::specs::Number::top_of))]
 pub fn octet_of(value: i8) -> u8
     ensures { result ≡ bits_at (top_of 1) value }
 {

@@ -18,6 +18,7 @@ fn put_five(out: &mut [u8], at: usize, a: u8, b: u8, c: u8, d: u8, e: u8) -> usi
 }
 
 // The kind's tag and the invoke ID, both as octets, and the linked ID.
+#[tactic(auto, unfolding(layout::specs::Layout::linked_flag, layout::specs::Layout::linked_octet))]
 fn put_linked(out: &mut [u8], at: usize, tag: u8, flag: u8, id: u8, linked: LinkedId) -> usize
     requires { at + 5 ≤ length out.old }
     ensures { Put out.old at (tag ∷ flag ∷ id ∷ linked_flag linked ∷ linked_octet linked ∷ []) result out.new }
@@ -28,6 +29,7 @@ fn put_linked(out: &mut [u8], at: usize, tag: u8, flag: u8, id: u8, linked: Link
     }
 }
 
+#[tactic(auto, unfolding(layout::specs::Layout::id_flag, layout::specs::Layout::id_octet, layout::specs::Layout::ids_octets))]
 fn put_ids(out: &mut [u8], at: usize, tag: u8, id: InvokeId, linked: LinkedId) -> usize
     requires { at + 5 ≤ length out.old }
     ensures { Put out.old at (ids_octets tag id linked) result out.new }
@@ -67,6 +69,7 @@ fn put_parameter(out: &mut [u8], at: usize, tag: u8, code: Span, parameter: Opti
     }
 }
 
+#[tactic(auto, unfolding(layout::specs::Layout::code_tag, layout::specs::Layout::code_span, layout::specs::Layout::coded_octets, base::specs::Number::top_of))]
 fn put_coded(out: &mut [u8], at: usize, code: Code, parameter: OptionalSpan) -> usize
     requires { at + 19 ≤ length out.old }
     ensures { Put out.old at (coded_octets code parameter) result out.new }
@@ -169,6 +172,7 @@ fn put_reject(out: &mut [u8], at: usize, id: InvokeId, problem: Problem) -> usiz
     put_problem(out, next, problem)
 }
 
+#[tactic(auto, unfolding(layout::specs::Layout::kind_octets))]
 fn put_kind(out: &mut [u8], at: usize, id: InvokeId, kind: ComponentKind) -> usize
     requires { at + 24 ≤ length out.old }
     ensures { Put out.old at (kind_octets id kind) result out.new }

@@ -1,4 +1,6 @@
 // A step on the octets of a table, answered in one number, as C is told it: docs/LAYOUT.md.
+#![tactic(auto)]
+
 ghost use Rattle.std.specs.Prelude.{◌≡◌, ◌<◌};
 ghost use Rattle.open_transactions.specs.Table.{refusal_number};
 ghost use Rattle.table_layout.specs.Octets.{replying, leaving, done_number, taken_number, reply_number, InTable};

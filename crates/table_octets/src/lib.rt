@@ -1,4 +1,6 @@
 // The table of open transactions as 768 octets that a program in C keeps, changed in place: 64 entries of 12, in the layout of docs/LAYOUT.md.
+#![tactic(auto)]
+
 ghost use Rattle.std.specs.Prelude.{◌≡◌, ◌≤◌, length};
 ghost use Rattle.transaction_states.specs.Events.{begins_of, taken_of};
 ghost use Rattle.open_transactions.specs.Table.{holds, is_free, find_from, begin_deed, other_deed, found_deed, deed_of};
