@@ -1,4 +1,6 @@
 // Numbers and octets as text.
+#![tactic(auto)]
+
 ghost use Rattle.std.specs.Prelude.{◌≡◌, [], ◌∷◌, ◌<◌, ◌/◌, ◌%◌};
 ghost use Rattle.base.specs.inner.Put.{Put};
 ghost use Rattle.digits.specs.Digits.{decimal, signed, hex_digit, hex, number, value};

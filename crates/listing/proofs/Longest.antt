@@ -30,7 +30,7 @@ use Rattle.tcap.proofs.FaultPlaces.{OwnerOk, place_of}
 use Rattle.tcap.proofs.Places.{strings_sit, fault_placed}
 use Rattle.tcap.proofs.Refusals.{numbered}
 use Rattle.tcap.proofs.Promises.{located_reads}
-use Rattle.digits.specs.Digits.{decimal, signed, hex, number, value}
+use Rattle.digits.specs.Digits.{decimal, signed, number, value}
 use Rattle.digits.proofs.Digits.{tens, decimal_few, signed_few, hex_length}
 use Rattle.listing_fields.specs.Fields.{kind_text, dialogue_text, word_text, id_text, linked_text, place_text, parameter_text, problem_of, problem_text, answer_text, string_text, transaction_text, orig_text, dest_text, ids_text, code_text}
 use Rattle.listing_lines.specs.Lines.{refusal_text, reject_text, coded_text, returned_text, parts_text, row_text, rows_text, head_text}

@@ -1,4 +1,6 @@
 // Lists a reading as text in a lent buffer.
+#![tactic(auto)]
+
 ghost use Rattle.std.specs.Prelude.{◌≡◌};
 ghost use Rattle.base.specs.inner.Put.{Put};
 ghost use Rattle.listing.specs.Listing.{record_text, listing_of, listed_of, buffer_after};
@@ -21,6 +23,7 @@ fn put_record(out: &mut [u8], at: usize, message: &[u8], held: Record) -> usize
     put_rows(out, a, message, rows, held.count)
 }
 
+#[tactic(auto, unfolding(crate::specs::Listing::listing_of, crate::specs::Listing::outcome_text))]
 fn put_reading(out: &mut [u8], message: &[u8], reading: Reading) -> usize
     ensures { Put out.old 0 (listing_of message.now reading) result out.new }
 {

@@ -2,7 +2,7 @@
 -- Assumes nothing: these are definitions.
 use Rattle.std.specs.Prelude.{ℕ}
 use mathlib.Core.{List.List, List.◌++◌}
-use lib.{ListN.take, ListN.drop, IntN.ℤ}
+use lib.{ListN.take, ListN.drop}
 use Rattle.base.specs.{Text.text}
 use Rattle.tcap.specs.declared.{Span.Span, OptionalSpan.OptionalSpan, TransactionId.TransactionId, OptionalOrig.OptionalOrig, OptionalDest.OptionalDest, InvokeId.InvokeId, LinkedId.LinkedId, Code.Code, Problem.Problem, ComponentKind.ComponentKind, Dialogue.Dialogue, MessageKind.MessageKind, Answer.Answer}
 use Rattle.digits.specs.{Digits.decimal, Digits.signed, Digits.hex, Digits.number, Digits.value}

@@ -1,4 +1,6 @@
 // The fields of a line, each with the space before it; the kind of a message begins its line.
+#![tactic(auto)]
+
 ghost use Rattle.std.specs.Prelude.{◌≡◌, take, drop};
 ghost use Rattle.base.specs.inner.Put.{Put};
 ghost use Rattle.listing_fields.specs.Fields.{kind_text, dialogue_text, word_text, id_text, linked_text, place_text, parameter_text, problem_of, problem_text, string_text, transaction_text, orig_text, dest_text, ids_text, code_text};
@@ -10,6 +12,7 @@ use tcap::{
     OptionalSpan, Problem, Span, TransactionId,
 };
 
+#[tactic(auto, unfolding(crate::specs::Fields::kind_text))]
 pub fn put_kind(out: &mut [u8], at: usize, kind: MessageKind) -> usize
     ensures { Put out.old at (kind_text kind) result out.new }
 {
@@ -29,6 +32,7 @@ fn put_cause(out: &mut [u8], at: usize, cause: u8) -> usize
     put_decimal(out, next, cause as usize)
 }
 
+#[tactic(auto, unfolding(crate::specs::Fields::dialogue_text))]
 pub fn put_dialogue(out: &mut [u8], at: usize, dialogue: Dialogue) -> usize
     ensures { Put out.old at (dialogue_text dialogue) result out.new }
 {
@@ -52,6 +56,7 @@ pub fn put_dialogue(out: &mut [u8], at: usize, dialogue: Dialogue) -> usize
     }
 }
 
+#[tactic(auto, unfolding(crate::specs::Fields::word_text))]
 pub fn put_word(out: &mut [u8], at: usize, kind: ComponentKind) -> usize
     ensures { Put out.old at (word_text kind) result out.new }
 {
@@ -71,6 +76,7 @@ pub fn put_word(out: &mut [u8], at: usize, kind: ComponentKind) -> usize
     }
 }
 
+#[tactic(auto, unfolding(crate::specs::Fields::id_text))]
 pub fn put_invoke_id(out: &mut [u8], at: usize, id: InvokeId) -> usize
     ensures { Put out.old at (id_text id) result out.new }
 {
@@ -80,6 +86,7 @@ pub fn put_invoke_id(out: &mut [u8], at: usize, id: InvokeId) -> usize
     }
 }
 
+#[tactic(auto, unfolding(crate::specs::Fields::linked_text))]
 pub fn put_linked(out: &mut [u8], at: usize, linked: LinkedId) -> usize
     ensures { Put out.old at (linked_text linked) result out.new }
 {
@@ -99,6 +106,7 @@ fn put_place(out: &mut [u8], at: usize, string: Span) -> usize
     put_decimal(out, b, len as usize)
 }
 
+#[tactic(auto, unfolding(crate::specs::Fields::parameter_text))]
 pub fn put_parameter(out: &mut [u8], at: usize, parameter: OptionalSpan) -> usize
     ensures { Put out.old at (parameter_text parameter) result out.new }
 {
@@ -117,6 +125,7 @@ fn put_problem_of(out: &mut [u8], at: usize, tag: usize, problem: u8) -> usize
     put_decimal(out, c, problem as usize)
 }
 
+#[tactic(auto, unfolding(crate::specs::Fields::problem_text))]
 pub fn put_problem(out: &mut [u8], at: usize, problem: Problem) -> usize
     ensures { Put out.old at (problem_text problem) result out.new }
 {
@@ -158,6 +167,7 @@ fn put_transaction(out: &mut [u8], at: usize, message: &[u8], id: TransactionId)
     put_string(out, next, message, octets)
 }
 
+#[tactic(auto, unfolding(crate::specs::Fields::orig_text))]
 fn put_orig(out: &mut [u8], at: usize, message: &[u8], orig: OptionalOrig) -> usize
     ensures { Put out.old at (orig_text message.now orig) result out.new }
 {
@@ -170,6 +180,7 @@ fn put_orig(out: &mut [u8], at: usize, message: &[u8], orig: OptionalOrig) -> us
     }
 }
 
+#[tactic(auto, unfolding(crate::specs::Fields::dest_text))]
 fn put_dest(out: &mut [u8], at: usize, message: &[u8], dest: OptionalDest) -> usize
     ensures { Put out.old at (dest_text message.now dest) result out.new }
 {

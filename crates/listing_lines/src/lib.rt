@@ -1,4 +1,6 @@
 // The lines of a listing: the head, one for each component, or the refusal.
+#![tactic(auto)]
+
 ghost use Rattle.std.specs.Prelude.{◌≡◌, take};
 ghost use Rattle.base.specs.inner.Put.{Put};
 ghost use Rattle.listing_fields.specs.Fields.{answer_text};
@@ -31,6 +33,7 @@ fn put_coded(
     put_parameter(out, b, parameter)
 }
 
+#[tactic(auto, unfolding(crate::specs::Lines::returned_text))]
 fn put_returned(out: &mut [u8], at: usize, message: &[u8], returned: Returned) -> usize
     ensures { Put out.old at (returned_text message.now returned) result out.new }
 {
@@ -56,6 +59,7 @@ fn put_rejected(out: &mut [u8], at: usize, problem: Problem) -> usize
 }
 
 // What follows the invoke ID.
+#[tactic(auto, unfolding(crate::specs::Lines::parts_text))]
 fn put_parts(out: &mut [u8], at: usize, message: &[u8], kind: ComponentKind) -> usize
     ensures { Put out.old at (parts_text message.now kind) result out.new }
 {

@@ -1,4 +1,6 @@
 // A unitdata, read: its class, and where its three parts stand.
+#![tactic(auto)]
+
 ghost use Rattle.std.specs.Prelude.{◌≡◌};
 ghost use Rattle.sccp.specs.Unitdata.{apart, separate, judged, read_unitdata, unitdata_number};
 ghost use Rattle.sccp.specs.inner.Parts.{part_read};
