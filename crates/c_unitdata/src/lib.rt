@@ -1,4 +1,6 @@
 // SCCP unitdata for C: docs/LAYOUT.md, "Unitdata".
+#![tactic(auto)]
+
 ghost use Rattle.std.specs.Prelude.{◌≡◌, ◌<◌, ◌^◌};
 ghost use Rattle.c_unitdata.specs.Unitdata.{part_bits, unitdata_bits, unitdata_answer, unitdata_written_bits, unitdata_write_answer};
 ghost use Rattle.sccp.specs.Writing.{leaves_unitdata};
@@ -8,6 +10,7 @@ use sccp_read::{read_unitdata, unitdata_number};
 use sccp_write::{unitdata_write_number, write_unitdata};
 
 // Place and length side by side.
+#[tactic(auto, unfolding(crate::specs::Unitdata::part_bits))]
 fn part_bits(part: Part) -> u64
     ensures { (result ≡ part_bits part) × (result < 2 ^ 17) }
 {
@@ -37,6 +40,7 @@ pub fn unitdata_read_answer(message: &[u8]) -> u64
     unitdata_bits(read)
 }
 
+#[tactic(auto, unfolding(crate::specs::Unitdata::unitdata_written_bits, c_answer::specs::Answer::length_bits))]
 fn unitdata_written_bits(written: UnitdataWritten) -> u64
     ensures { result ≡ unitdata_written_bits written }
 {
