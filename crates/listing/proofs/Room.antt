@@ -1,14 +1,19 @@
 -- What the counted length says of the room: past it the text is too long, and within it the text stands at the front. Assumes nothing.
 use Prim.Native.Nat.{ℕ, ◌<◌, ◌≤◌}
 use native.Mathlib.Omega.{arith}
-use mathlib.Core.Path.{◌≡◌}
+use mathlib.Core.Path.{◌≡◌, sym}
 use mathlib.Core.List.{List}
-use lib.ListN.{length}
+use lib.ListN.{length, take}
+use lib.Seq.{length-take-le}
 use borrow.Author.Tests.{le-leb, lt-leb}
 use Rattle.base.specs.inner.Put.{farthest, Put}
 use Rattle.base.proofs.Puts.{put_front}
 use Rattle.listing.specs.declared.Listed.{Listed}
 use Rattle.listing.specs.Listing.{listed_of, buffer_after}
+
+-- a part has as many octets as it was cut to
+pub cut_length : (n : ℕ) (l : List ℕ) → n ≤ length l → n ≡ length (take n l)
+cut_length n l h = sym (length-take-le n l h)
 
 module _ (t out : List ℕ) {d : List ℕ} {size : ℕ} {e : List ℕ} (counted : Put d 0 t size e) where
   pub too_long : length out < size → (Listed.TooLong ≡ listed_of t out) × (out ≡ buffer_after t out)

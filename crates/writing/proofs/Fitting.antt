@@ -34,4 +34,4 @@ all_typed (w ∷ rs) h = ((h.0.0, kind_typed w.kind h.0.1), all_typed rs h.1)
 
 -- of a parameter `r` this is `record-typed c.args.r _ c.good.0`, if it is the first
 pub record_typed : (r : Record) (vs : List Val) → Is Records.the_row r vs → RecordTyped r
-record_typed r vs p = let a = p.1.1.1.1.1.1.1.0 in record { full = sym (length-map r.rows _) ∙ a.1.0.1; each = all_typed r.rows (rows_typed r.rows a.0 a.1.1) }
+record_typed r vs p = let a = p.1.1.1.1.1.1.1.0 in record { full = a.1.0.1; each = all_typed r.rows (rows_typed r.rows a.0 a.1.1) }
