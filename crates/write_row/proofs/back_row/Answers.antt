@@ -1,0 +1,37 @@
+-- The head has the tag of the row, and the length of what it stands before. Assumes nothing.
+use Rattle.base.proofs.Backs.{room_last, room_next, back_then}
+use Rattle.element.specs.Form.{shortest}
+use Rattle.write_check_row.specs.Forms.{id_form, row_form, octets_of}
+use Rattle.layout.specs.Layout.{row_in}
+use Rattle.write_head.proofs.Heads.{room_head, back_around}
+use Rattle.write_row.proofs.Fields.{contents_parts, row_inside}
+use Rattle.write_row.proofs.Tags.{row_kind, row_tag_lem}
+use Rattle.write_row.proofs.back_row.Goals as goal
+
+pub back_rest-next-requires-clause-in_bounds : goal.back_rest-next-requires-clause-in_bounds
+unfolding row_in
+back_rest-next-requires-clause-in_bounds c = c.requires.in_bounds
+
+pub back_rest-next-requires-clause-part_value : goal.back_rest-next-requires-clause-part_value
+unfolding row_in
+back_rest-next-requires-clause-part_value c = row_kind _ c.requires.part_value
+
+pub back_rest-next-requires-clause-part_value_2 : goal.back_rest-next-requires-clause-part_value_2
+unfolding row_in
+back_rest-next-requires-clause-part_value_2 c = c.requires.part_value_2
+
+pub back_rest-next-requires-clause-room : goal.back_rest-next-requires-clause-room
+unfolding row_in
+back_rest-next-requires-clause-room c = room_last (octets_of (id_form (row_in c.args.part.now).id)) (row_inside c.args.material.now (row_in c.args.part.now) c.requires.room)
+
+pub back_id-start-requires : goal.back_id-start-requires
+unfolding row_in
+back_id-start-requires c = room_next c.back_rest-next.ensures _ (row_inside c.args.material.now (row_in c.args.part.now) c.requires.room)
+
+pub back_head-requires : goal.back_head-requires
+unfolding row_in row_form shortest
+back_head-requires c = let both = room_head (back_then c.back_rest-next.ensures c.back_id-start.ensures) _ (rw (contents_parts, row_tag_lem _ c.requires.part_value) at c.requires.room) in record { room = both.0; n_bound = both.1 }
+
+pub returns : goal.returns
+unfolding row_in row_form shortest
+returns c = rw (contents_parts, row_tag_lem _ c.requires.part_value) (back_around (back_then c.back_rest-next.ensures c.back_id-start.ensures) _ c.back_head.ensures)
