@@ -6,6 +6,7 @@ use steer_octets::key_of;
 use steering::{Choice, FirstCode, Rule, Steered, answer, code_fits, kind_fits};
 
 // Whether a rule fits a message of this tag and first component.
+#[tactic(auto, unfolding(steering::specs::Steering::rule_fits))]
 fn rule_fits(rule: Rule, tag: u8, first: FirstCode) -> bool
     ensures { result ≡ rule_fits rule tag first }
 {
@@ -16,7 +17,7 @@ fn rule_fits(rule: Rule, tag: u8, first: FirstCode) -> bool
     false
 }
 
-// Proved by hand, since it walks a slice of structs: every test is in `rule_fits`.
+// The link of the first rule that fits.
 fn first_fit(rules: &[Rule], tag: u8, first: FirstCode) -> Choice
     ensures { result ≡ first_fit rules.now tag first }
 {
@@ -31,7 +32,7 @@ fn first_fit(rules: &[Rule], tag: u8, first: FirstCode) -> Choice
     Choice::NoRule
 }
 
-// The link of the first rule that fits a message, "no rule", or the reader's refusal. Proved by hand, since it takes a slice of structs: three calls, and no test.
+// The link of the first rule that fits a message, "no rule", or the reader's refusal.
 pub fn steer(message: &[u8], rules: &[Rule]) -> Steered
     ensures { result ≡ steering message.now rules.now }
 {

@@ -2,6 +2,10 @@
 use Rattle.c_list.specs.List.{list_answer, list_room}
 use Rattle.c_list.proofs.list_answer.Goals as goal
 
-pub returns : goal.returns
-unfolding list_answer list_room
-returns c = let both = rw (← c.read-reading.ensures, ← c.list_reading-listed.ensures.value) (c.listed_bits.ensures, c.list_reading-listed.ensures.out_after) in record { value = both.0; out_after = both.1 }
+pub returns-clause-value : goal.returns-clause-value
+unfolding list_answer
+returns-clause-value c = rw (← c.read-reading.ensures, ← c.list_reading-listed.ensures.value) c.listed_bits.ensures
+
+pub returns-clause-out_after : goal.returns-clause-out_after
+unfolding list_room
+returns-clause-out_after c = rw (← c.read-reading.ensures) c.list_reading-listed.ensures.out_after
