@@ -1,7 +1,7 @@
 # make help      this list, which plain make prints too
 # make demo      steer the messages of examples/messages.hex by examples/rules.txt, through the library
 # make test      the whole gate: proves all from nothing, tries the edits that must be refused, runs every test
-# make check     prove what has changed, and run the programs
+# make check     prove what has changed
 # make list      prove and build the listing program, and list a message with it
 # make archive   prove and build the library for C: target/lib/libgoldenskep.a
 # make examples  build the examples: target/examples/steer, answer, change, sccp, desk
@@ -11,7 +11,7 @@
 # make fuzz      the same comparisons with fresh seeds until one differs: SEED, COUNT (2000), ROUNDS (0: no end)
 # make bench     instructions of a call beside plain C, the costliest message found, the deepest stack
 # make fmt       lay out the sources
-# make clean     remove target/
+# make clean     remove target/ and what rt keeps in crates/*/out
 #
 # ARCHIVE may name another archive of the library. C is compiled for x86-64 through tools/cc.sh.
 .PHONY: help test check list archive demo examples install uninstall ctest fuzz bench fmt clean always
@@ -35,20 +35,18 @@ test:
 check:
 	@sh tools/prove.sh check
 
-list:
-	@sh tools/prove.sh check list
+list: target/bin/list
 	sh tools/cc.sh run target/bin/list <crates/list/stdin
+
+target/bin/%: $(SOURCES)
+	@echo "proving $*; the prover's notes are in target/log"
+	@sh tools/prove.sh program $* $@
 
 archive: $(ARCHIVE)
 
-# the crates two at a time first: rt staticlib alone proves one after the other
 target/lib/libgoldenskep.a: $(SOURCES)
 	@echo "proving the library; the prover's notes are in target/log"
-	@sh tools/prove.sh check c_calls
-	@echo "building the archive; c_calls is proved once more"
-	@sh tools/prove.sh staticlib c_calls
-	@mkdir -p target/lib
-	@cp target/staticlib/libc_calls.a $@
+	@sh tools/prove.sh archive $@
 
 examples: $(EXAMPLES)
 
@@ -76,12 +74,11 @@ ctest: $(ARCHIVE)
 fuzz: $(ARCHIVE)
 	@SEED=$(SEED) COUNT=$(COUNT) ROUNDS=$(ROUNDS) sh tests/fuzz.sh $(ARCHIVE)
 
-bench: $(ARCHIVE)
-	@sh tools/prove.sh check program_readings
+bench: $(ARCHIVE) target/bin/program_readings
 	@sh bench/run.sh $(ARCHIVE) target/bin/program_readings
 
 fmt:
-	rt fmt
+	@for crate in crates/*/; do (cd "$$crate" && rt fmt) || exit; done
 
 clean:
-	rm -rf target
+	rm -rf target crates/*/out

@@ -82,19 +82,18 @@ else
     echo "note: this is $version, and docs/TOOLCHAIN.md names $(sed -n 's/^.*toolchain `\([^`]*\)`.*$/\1/p' docs/TOOLCHAIN.md)"
 fi
 beside needs sh tests/needs.sh
-one "layout (rt fmt --check)" rt fmt --check
 one "every crate is listed" listed
 one "docs/BELIEVED.md names what must be believed" python3 tools/believed.py --check
-# more jobs than cores: rt proves in batches, and waits for the slowest crate or edit of each
-many "rt ci" env RT_JOBS="${RT_JOBS:-4}" sh tools/prove.sh ci
+many "rt ci" sh tools/prove.sh ci
 wait
 one "what the tests in C need is installed" ended needs
 
 # The library for C, built anew from what was just proved, and its tests. None is left out: without a
 # compiler, an emulator or the archive they fail.
 archive=target/lib/libgoldenskep.a
-rm -rf target/lib target/staticlib
+rm -rf target/lib target/bin
 one "the archive is built" make --no-print-directory archive
+one "the listing program is built" make --no-print-directory target/bin/list
 echo "C tests, install and README, side by side: a few minutes"
 beside c env VECTORS=tests/vectors SEED=1 COUNT=20000 ROUNDS=20000 sh tests/c/run.sh $archive
 beside install sh tests/install.sh $archive

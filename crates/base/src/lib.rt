@@ -1,4 +1,6 @@
 // What every layer above stands on: parts of a lent slice, octets put behind a place or before it, and an octet as a number.
+#![tactic(auto)]
+
 ghost use Rattle.std.specs.Prelude.{◌≡◌, ◌+◌, ◌<◌, ◌≤◌, [], ◌∷◌, length, drop, take};
 ghost use Rattle.base.specs.inner.Put.{Put};
 ghost use Rattle.base.specs.inner.Back.{Room, PutBack};

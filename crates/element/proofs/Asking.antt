@@ -1,17 +1,15 @@
 -- What `ask` answers, from what stands at the place; facts of what is got. Assumes nothing.
-use Prim.Native.Nat.{ℕ, zero, suc, ◌+◌, ◌≤◌, ◌<◌}
-use mathlib.Core.Path.{◌≡◌, refl, sym, ap, ap₂, ◌∙◌}
-use mathlib.Core.Logic.{◌⊎◌, inl, inr}
+use Prim.Native.Nat.{ℕ, suc, ◌+◌}
+use mathlib.Core.Path.{◌≡◌, refl, sym, ap, ◌∙◌}
 use mathlib.Core.Bool.{Bool, true, false, not, ◌||◌, false≢true}
 use mathlib.Core.List.{List, [], ◌∷◌, ◌++◌, append_assoc}
 use mathlib.Core.Option.{Option, none, some}
 use native.Mathlib.Omega.{arith}
 use lib.ListN.{length, take, drop, length-append, length-drop, take-append-drop}
-use lib.Seq.{drop-append_seam, take-append_seam, take-append-add, drop-append-add, length-take-le}
-use lib.Dec.{ltb, leb, eqb}
-use borrow.Author.Tests.{eqb-true, eqb-false, eq-eqb, ne_eqb}
+use lib.Seq.{drop-append_seam, drop-append-add, length-take-le}
+use lib.Dec.{ltb, eqb}
 use Rattle.element.specs.Form.{StandsFor}
-use Rattle.element.specs.Element.{IsTag, constructor_of, code_zero, extended_of, Definitely, Endlessly}
+use Rattle.element.specs.Element.{IsTag, constructor_of, code_zero, Definitely, Endlessly}
 use Rattle.element.specs.declared.FaultKind.{FaultKind}
 use Rattle.element.specs.Fault.{Fault, at}
 use Rattle.element.specs.declared.FaultKind.TheVariants.{CutOff, Missing, CodeZero, TooDeep, Seventeenth}
@@ -22,7 +20,7 @@ use Rattle.element.specs.declared.LengthRead.{LengthRead}
 use Rattle.element.specs.declared.LengthRead.TheVariants.{Fault as lengthFault, Definite as known, Indefinite as endless}
 use Rattle.element.specs.declared.EndRead.{EndRead}
 use Rattle.element.specs.declared.EndRead.TheVariants.{Ended as ended, Unfinished as unfinished, More as more}
-use Rattle.element.specs.Ask.{Got, got, bad, next, check, blamed, Size, definite, indefinite, Head, head, Body, ask_length, ask_tag, at_end, ask_end, ask}
+use Rattle.element.specs.Ask.{Got, got, bad, next, check, blamed, definite, indefinite, Head, head, Body, ask_length, ask_tag, at_end, ask_end, ask}
 use Rattle.element.specs.Parts.{first_of}
 use Rattle.element.proofs.Heads.{tag_complete, TagIs, tag_sound, length_complete, length_endless, LengthIs, length_sound}
 

@@ -1,27 +1,23 @@
 -- A tag and a length are read just where they stand. Assumes nothing.
-use Prim.Native.Nat.{ℕ, zero, suc, ◌+◌, ◌-◌, ◌%◌, ◌≤◌, ◌<◌}
-use mathlib.Core.Path.{◌≡◌, refl, sym, ap, ap₂, ◌∙◌}
-use mathlib.Core.Logic.{◌⊎◌, inl, inr}
-use mathlib.Core.Bool.{Bool, true, false, cond, not, ◌||◌, false≢true}
-use mathlib.Core.List.{List, [], ◌∷◌, ◌++◌, append_assoc}
+use Prim.Native.Nat.{ℕ, zero, suc, ◌+◌, ◌-◌, ◌≤◌, ◌<◌}
+use mathlib.Core.Path.{◌≡◌, refl, ap, ◌∙◌}
+use mathlib.Core.Logic.{inl, inr}
+use mathlib.Core.Bool.{Bool, true, false, cond}
+use mathlib.Core.List.{List, [], ◌∷◌, ◌++◌}
 use native.Mathlib.Omega.{arith}
-use lib.ListN.{length, get_or, take, drop, length-append, length-drop, length-take, take-append-drop}
-use lib.Seq.{drop-append_seam, take-append_seam, take-append-add, drop-append-add, length-take-le}
+use lib.ListN.{length, get_or, take, length-append}
+use lib.Seq.{take-append_seam, length-take-le}
 use lib.Dec.{ltb, leb, eqb}
-use borrow.Author.Tests.{ltb-true, ltb-false, leb-true, leb-false, eqb-true, eqb-false, lt-ltb, le-ltb, le-leb, lt-leb, eq-eqb, ne_eqb}
-use Rattle.element.specs.Form.{StandsFor, LongLength, fewest_of}
+use borrow.Author.Tests.{ltb-true, ltb-false, leb-true, leb-false, eqb-true, eqb-false, lt-ltb, le-ltb, le-leb, lt-leb, ne_eqb}
+use Rattle.element.specs.Form.{StandsFor, fewest_of}
 use Rattle.base.specs.Number.{number_from}
-use Rattle.element.specs.Element.{IsTag, extended_of, constructor_of, code_zero}
-use Rattle.element.specs.declared.FaultKind.{FaultKind}
+use Rattle.element.specs.Element.{IsTag, extended_of}
 use Rattle.element.specs.declared.FaultKind.TheVariants.{CutOff, BadTag, BadLength}
 use Rattle.element.specs.declared.TagRead.{TagRead}
 use Rattle.element.specs.declared.TagRead.TheVariants.{Fault as tagFault, Tag as tag}
-use Rattle.element.specs.Head.{third, second, first, tag_of, within, long_of, length_of, end_of}
+use Rattle.element.specs.Head.{third, second, first, tag_of, within, long_of, length_of}
 use Rattle.element.specs.declared.LengthRead.{LengthRead}
 use Rattle.element.specs.declared.LengthRead.TheVariants.{Fault as lengthFault, Definite as known, Indefinite as endless}
-use Rattle.element.specs.declared.EndRead.{EndRead}
-use Rattle.element.specs.declared.EndRead.TheVariants.{Ended as ended, Unfinished as unfinished, More as more}
-use Rattle.element.specs.Ask.{Size, definite, indefinite, Head, head}
 
 -- by cases on a test, with what the test says
 pub cond_all {ℓ} : {A : Type ℓ} (P : A → Type 0) (b : Bool) (x y : A) → (b ≡ true → P x) → (b ≡ false → P y) → P (cond b x y)

@@ -1,25 +1,24 @@
 -- What it is for an item and for a body to be read right; primitives and constructors. Assumes nothing.
-use Prim.Native.Nat.{ℕ, zero, suc, ◌+◌, ◌≤◌, ◌<◌}
-use mathlib.Core.Path.{◌≡◌, refl, sym, ap, ap₂, ◌∙◌}
+use Prim.Native.Nat.{ℕ, suc, ◌+◌, ◌≤◌}
+use mathlib.Core.Path.{◌≡◌, refl, sym, ap, ◌∙◌}
 use mathlib.Core.Logic.{◌⊎◌, inl, inr}
 use mathlib.Core.Bool.{Bool, true, false, cond, false≢true}
 use mathlib.Core.List.{List, [], ◌∷◌, ◌++◌, append_assoc, append-nil}
-use mathlib.Core.Option.{Option, none, some}
+use mathlib.Core.Option.{some}
 use native.Mathlib.Omega.{arith}
-use lib.ListN.{length, take, drop, length-append, length-drop, take-append-drop}
-use lib.Seq.{drop-append_seam, take-append_seam, take-append-add, drop-append-add, length-take-le, take_all, take-add}
-use lib.Dec.{ltb, leb, eqb}
-use borrow.Author.Tests.{eqb-true, eqb-false, eq-eqb, ne_eqb}
-use Rattle.element.specs.Form.{Form, exactly, leaf_of, then, around_of, perhaps, leaf, around, Matches, Definite, Unending, StandsFor, document01}
+use lib.ListN.{length, take, drop, length-append, length-drop}
+use lib.Seq.{take-append_seam, take-append-add, length-take-le, take_all, take-add}
+use lib.Dec.{ltb, eqb}
+use borrow.Author.Tests.{eqb-true, eq-eqb}
+use Rattle.element.specs.Form.{Form, exactly, leaf, around, Matches, Definite, Unending, document01}
 use Rattle.element.specs.Element.{IsTag, constructor_of, code_zero, extended_of, Definitely, Endlessly}
-use Rattle.element.specs.Fault.{Fault, at, Text}
+use Rattle.element.specs.Fault.{at, Text}
 use Rattle.element.specs.declared.FaultKind.TheVariants.{BadContents}
-use Rattle.element.specs.declared.EndRead.{EndRead}
 use Rattle.element.specs.declared.EndRead.TheVariants.{Ended as ended, Unfinished as unfinished, More as more}
 use Rattle.element.specs.Head.{end_of}
-use Rattle.element.specs.Ask.{Got, got, bad, next, check, blamed, Size, definite, indefinite, Head, head, Body, ask}
+use Rattle.element.specs.Ask.{got, check, definite, indefinite, Head, head, Body, ask}
 use Rattle.element.specs.Parts.{Item, first_of, leaf_contents, leaf_item, inside, around_item, kept_item}
-use Rattle.element.proofs.Asking.{Then, fact, void, then_next, then_check, then_weaken, next_of, HeadOf, ask_head, ask_ends, ask_sound, Says, head_says, head_definite, head_endless}
+use Rattle.element.proofs.Asking.{Then, fact, then_next, then_check, then_weaken, next_of, HeadOf, ask_head, ask_ends, ask_sound, Says, head_says, head_definite, head_endless}
 
 -- n octets of a part were taken, and are of the form
 pub record Took (f : Form) (ok : Type 0) (part : List ℕ) (n : ℕ) : Type 0 where

@@ -1,28 +1,26 @@
 -- Items and bodies put together are read right if their parts are. Assumes nothing.
-use Prim.Native.Nat.{ℕ, zero, suc, ◌+◌, ◌≤◌, ◌<◌}
+use Prim.Native.Nat.{ℕ, zero, suc, ◌+◌, ◌≤◌}
 use mathlib.Core.Path.{◌≡◌, refl, sym, ap, ap₂, ◌∙◌}
 use mathlib.Core.Logic.{◌⊎◌, inl, inr}
 use mathlib.Core.Bool.{Bool, true, false, cond, ◌||◌, false≢true}
-use mathlib.Core.List.{List, [], ◌∷◌, ◌++◌, append_assoc, append-nil, map}
+use mathlib.Core.List.{List, [], ◌∷◌, ◌++◌, append_assoc, map}
 use mathlib.Core.Option
 use mathlib.Core.Option.{Option, none, some}
 use native.Mathlib.Omega.{arith}
 use native.Mathlib.Nat.{add-zero}
 use lib.ListN.{length, take, drop, length-append, length-drop}
-use lib.Seq.{drop-append_seam, take-append_seam, take-add, drop-drop}
-use lib.Dec.{ltb, leb, eqb}
-use borrow.Author.Tests.{eqb-true, eq-eqb, ne_eqb}
-use Rattle.element.specs.Form.{Form, exactly, leaf_of, then, around_of, perhaps, leaf, around, Matches, maybe, series_form, document01}
+use lib.Seq.{drop-append_seam, take-add, drop-drop}
+use lib.Dec.{ltb, eqb}
+use borrow.Author.Tests.{ne_eqb}
+use Rattle.element.specs.Form.{Form, exactly, then, Matches, maybe, series_form, document01}
 use Rattle.base.specs.Value.{Every, Maybe}
 use Rattle.element.specs.declared.FaultKind.{FaultKind}
-use Rattle.element.specs.Fault.{Fault, Text}
-use Rattle.element.specs.declared.EndRead.{EndRead}
+use Rattle.element.specs.Fault.{Fault}
 use Rattle.element.specs.declared.EndRead.TheVariants.{Ended as ended}
-use Rattle.element.specs.Head.{end_of, tag_of}
-use Rattle.element.specs.declared.TagRead.TheVariants.{Fault as tagFault, Tag as tag}
-use Rattle.element.specs.Ask.{Got, got, bad, next, blamed, Head, head, Body, ask}
-use Rattle.element.specs.Parts.{Item, Where, first_of, map_item, or_item, done, onward, silently, bind_body, then_body, only_body, last_body, opt_pick, opt_body, map_body, series_body}
-use Rattle.element.proofs.Asking.{Then, fact, void, then_next, then_blamed, then_weaken, next_of, blamed_of, HeadOf, finite, unended, ask_ends, ask_sound}
+use Rattle.element.specs.Head.{end_of}
+use Rattle.element.specs.Ask.{Got, got, Head, Body, ask}
+use Rattle.element.specs.Parts.{Item, Where, first_of, map_item, or_item, done, onward, silently, bind_body, only_body, last_body, opt_pick, opt_body, map_body, series_body}
+use Rattle.element.proofs.Asking.{Then, fact, then_next, then_blamed, then_weaken, next_of, blamed_of, HeadOf, ask_ends, ask_sound}
 use Rattle.element.proofs.ItemLaws.{Took, Reads, ItemLaws, BodyReads, nothing, begun, BodyLaws, Asked, asked_complete, asked_sound}
 
 -- Values under other names: each way with what is of the form

@@ -6,9 +6,9 @@ use mathlib.Core.Bool.{Bool, true, false, cond, false≢true}
 use mathlib.Core.List.{List, [], ◌∷◌, ◌++◌}
 use native.Mathlib.Omega.{arith}
 use native.Mathlib.Nat.{le_refl}
-use lib.ListN.{length, length-append, get_or}
+use lib.ListN.{length, length-append}
 use lib.Dec.{ltb, leb, eqb}
-use borrow.Author.Tests.{ltb-true, ltb-false, leb-true, eqb-true, lt-ltb, le-ltb, le-leb, eq-eqb, ne_eqb}
+use borrow.Author.Tests.{ltb-true, ltb-false, leb-true, le-ltb, le-leb, ne_eqb}
 use Rattle.element.specs.Form.{Form, exactly, leaf_of, then, around_of, perhaps, LengthRules, Definite, Unending, Matches, shortest, ◌⊑◌, fewest_of, LongLength, StandsFor, digits, length_octets, document01}
 use Rattle.base.specs.Number.{number_from}
 use Rattle.base.specs.Value.{Every}

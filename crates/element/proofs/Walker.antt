@@ -1,30 +1,29 @@
 -- The walker takes just the elements, of any size. Assumes nothing.
-use Prim.Native.Nat.{ℕ, zero, suc, ◌+◌, ◌≤◌, ◌<◌}
-use mathlib.Core.Path.{◌≡◌, refl, sym, ap, ap₂, ◌∙◌}
-use mathlib.Core.Logic.{◌⊎◌, inl, inr}
-use mathlib.Core.Bool.{Bool, true, false, not, false≢true}
+use Prim.Native.Nat.{ℕ, zero, suc, ◌≤◌}
+use mathlib.Core.Path.{◌≡◌, refl, sym, ap, ◌∙◌}
+use mathlib.Core.Logic.{inl, inr}
+use mathlib.Core.Bool.{Bool, true, false, not}
 use mathlib.Core.List.{List, [], ◌∷◌, ◌++◌, append-nil, map}
-use mathlib.Core.Option.{Option, none, some}
+use mathlib.Core.Option.{some}
 use native.Mathlib.Omega.{arith}
 use lib.ListN.{length, take, drop, length-append, length-drop}
 use lib.Seq.{take-append_seam, take_all}
-use lib.Dec.{ltb, eqb}
+use lib.Dec.{ltb}
 use borrow.Author.Tests.{eqb-true, eq-eqb, lt-ltb}
-use Rattle.element.specs.Form.{Form, exactly, leaf_of, around_of, Matches, series_form, document01}
-use Rattle.element.specs.Element.{IsTag, IsElement, Element, SeriesOf, constructor_of, code_zero}
+use Rattle.element.specs.Form.{Form, exactly, Matches, series_form, document01}
+use Rattle.element.specs.Element.{IsElement, Element, constructor_of, code_zero}
 use Rattle.base.specs.Value.{Every}
 use Rattle.element.specs.declared.FaultKind.{FaultKind}
 use Rattle.element.specs.declared.FaultKind.TheVariants.{Another}
 use Rattle.element.specs.declared.EndRead.TheVariants.{Ended as ended}
 use Rattle.element.specs.Head.{end_of, tag_of}
-use Rattle.element.specs.declared.TagRead.TheVariants.{Fault as tagFault, Tag as tag}
-use Rattle.element.specs.Ask.{Got, got, bad, next, Size, definite, indefinite, Head, head, Body, ask, blamed}
+use Rattle.element.specs.Ask.{got, next, Head, Body, ask, blamed}
 use Rattle.element.specs.Fault.{Text}
-use Rattle.element.specs.Parts.{Item, Where, level, first_of, leaf_contents, inside, series_body, only_body, onward}
-use Rattle.element.specs.Walk.{walk_pick, element_of, any_tag, walk_contents, walk_item, walk_tag_item}
-use Rattle.element.proofs.Asking.{Then, fact, void, the_fact, then_next, ask_sound, then_weaken, next_of, HeadOf, finite, unended, Says, head_says}
-use Rattle.element.proofs.ItemLaws.{Took, Reads, ItemLaws, BodyReads, BodyLaws, Held, Holds, leaf_octets, leaf_sound, inside_complete, inside_sound, Asked, asked_complete, asked_sound}
-use Rattle.element.proofs.Joins.{SeriesOk, EndsAs, series_laws, only_laws}
+use Rattle.element.specs.Parts.{Item, Where, level, first_of, series_body, only_body, onward}
+use Rattle.element.specs.Walk.{walk_pick, walk_contents, walk_item, walk_tag_item}
+use Rattle.element.proofs.Asking.{Then, fact, void, the_fact, then_next, ask_sound, then_weaken, next_of, HeadOf, finite, unended}
+use Rattle.element.proofs.ItemLaws.{ItemLaws, BodyLaws, leaf_octets, leaf_sound, inside_complete, inside_sound, Asked, asked_complete, asked_sound}
+use Rattle.element.proofs.Joins.{series_laws, only_laws}
 
 -- an element takes octets
 no_head : (h : Head) → HeadOf [] h → ⊥

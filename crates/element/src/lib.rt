@@ -1,4 +1,5 @@
 // The element layer: what is read at the front of a part, what a walk answers, and the numbers of faults.
+#![tactic(auto)]
 
 ghost use Rattle.std.specs.Prelude.{◌≡◌};
 ghost use Rattle.element.specs.Fault.{number_of};

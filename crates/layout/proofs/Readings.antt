@@ -1,12 +1,12 @@
 -- The layout holds every record that is read, and gives it back. Assumes nothing.
 use Prim.Native.Nat.{ℕ, ◌+◌, ◌-◌, ◌≤◌}
 use native.Mathlib.Omega.{arith}
-use mathlib.Core.Path.{◌≡◌, refl, sym, ap, ◌∙◌}
+use mathlib.Core.Path.{◌≡◌, refl, ◌∙◌}
 use mathlib.Core.Bool.{true}
 use mathlib.Core.List.{List, [], ◌∷◌, ◌++◌, map}
 use mathlib.Core.Option
 use mathlib.Core.Option.{Option, none, some}
-use lib.ListN.{length, take, drop, replicate, length-append, length-map, length-replicate}
+use lib.ListN.{length, replicate, length-append, length-map, length-replicate}
 use lib.Seq.{take_at}
 use lib.IntN.{ℤ}
 use Rattle.base.specs.Number.{top_of, holds}
@@ -14,17 +14,17 @@ use Rattle.base.specs.Value.{Every, Maybe}
 use Rattle.base.proofs.Values.{every_parts}
 use Rattle.element.specs.Fault.{Text}
 use Rattle.element.specs.Ask.{Got, got, bad}
-use Rattle.tcap.specs.declared.{OptionalOrig.OptionalOrig, OptionalDest.OptionalDest, Dialogue.Dialogue as DialogueField, MessageKind.MessageKind, Row.Row, Record.Record, Outcome.Outcome}
+use Rattle.tcap.specs.declared.{OptionalOrig.OptionalOrig, OptionalDest.OptionalDest, Dialogue.Dialogue as DialogueField, MessageKind.MessageKind, Outcome.Outcome}
 use Rattle.tcap.specs.Meaning.{Originating, orig, Destination, dest, Code, local, global, Component, invoke, last, not_last, error, reject, Dialogue, request, unidialogue, response, aborted, single, octets, Ending, silent, cause, says, Message, unidirectional, begin, finish, continue, abort}
 use Rattle.tcap.specs.WellFormed.{Rules, most_octets, most_components, the93, CodeOk, ComponentOk, ComponentsOk, BothOk, WellFormedUpTo}
 use Rattle.tcap.specs.Record.{span_of, span_field, orig_field, dest_field, id_field, linked_field, code_field, both_field, row_of, dialogue_field, ending_field, portion_field, blank_row, record_from, record_of}
 use Rattle.tcap.specs.Reading.{located_up_to, answered, reading_up_to, reading}
 use Rattle.tcap.proofs.Strings.{octets_of, code_as, both_as, component_as, forget, Strings, option_strings, tagged, whole, series_strings, code_strings, both_strings, component_strings, named_strings, dialogue_strings, ending_strings, orig_strings, dest_strings, rest_strings, strings}
-use Rattle.tcap.proofs.Records.{Sits, components}
+use Rattle.tcap.proofs.Records.{Sits}
 use Rattle.tcap.proofs.Places.{strings_sit}
 use Rattle.tcap.proofs.Promises.{located_reads}
 use Rattle.layout.specs.Layout.{most_rows, record_in, record_octets}
-use Rattle.layout.specs.Fits.{SpanFits, OptionalFits, IdFits, LinkedFits, CodeFits, ReturnedFits, KindFits, RowFits, OrigFits, DestFits, DialogueFits, RecordFits}
+use Rattle.layout.specs.Fits.{SpanFits, OptionalFits, IdFits, LinkedFits, CodeFits, ReturnedFits, RowFits, OrigFits, DestFits, DialogueFits, RecordFits}
 use Rattle.layout.proofs.RoundTrip.{blanked, record_back}
 
 module _ (m : List ℕ) (short : length m ≤ most_octets) where

@@ -1,12 +1,12 @@
 -- What is laid out is a record, and stands for the record that was laid out, with blank rows from the count on. Assumes nothing.
-use Prim.Native.Nat.{ℕ, ◌+◌, ◌-◌, ◌*◌, ◌≤◌, min}
+use Prim.Native.Nat.{ℕ, ◌-◌, ◌*◌, ◌≤◌, min}
 use native.Mathlib.Omega.{arith}
-use mathlib.Core.Path.{◌≡◌, refl, sym, ap, ap₂, ◌∙◌}
-use mathlib.Core.Bool.{Bool, true, false, ◌&&◌}
+use mathlib.Core.Path.{◌≡◌, refl, ap, ap₂, ◌∙◌}
+use mathlib.Core.Bool.{true, false}
 use mathlib.Core.List.{List, [], ◌∷◌, ◌++◌, append_assoc}
 use lib.ListN.{length, take, drop, replicate, length-append, length-take}
-use lib.Seq.{drop_at, length-take-le}
-use lib.Dec.{leb, eqb}
+use lib.Seq.{drop_at}
+use lib.Dec.{eqb}
 use lib.IntN.{ℤ}
 use borrow.Author.Tests.{le-leb}
 use Rattle.base.specs.Number.{number_from, octets_in, top_of, signed_at, bits_at, holds}
@@ -15,7 +15,7 @@ use Rattle.base.proofs.Numbers.{signed_bits, bits_within, top_odd, holds_small, 
 use Rattle.tcap.specs.declared.{Span.Span, OptionalSpan.OptionalSpan, OptionalOrig.OptionalOrig, OptionalDest.OptionalDest, InvokeId.InvokeId, LinkedId.LinkedId, Code.Code, Problem.Problem, Returned.Returned, ComponentKind.ComponentKind, Row.Row, Diagnostic.Diagnostic, Dialogue.Dialogue, MessageKind.MessageKind, Record.Record}
 use Rattle.tcap.specs.Record.{blank_row, message_tag}
 use Rattle.layout.specs.Fits.{SpanFits, OptionalFits, IdFits, LinkedFits, CodeFits, ReturnedFits, KindFits, RowFits, OrigFits, DestFits, DialogueFits, RecordFits}
-use Rattle.layout.specs.Layout.{head_size, row_size, most_rows, record_size, octet, number_at, span_at, span_octets, no_span, is_flag, optional_in, optional_flag, optional_span, is_message_tag, message_kind_in, orig_in, orig_flag, orig_span, dest_in, dest_flag, dest_span, is_source_tag, diagnostic_in, source_tag, diagnostic_number, is_dialogue, pdu_in, outside_in, dialogue_in, dialogue_number, portion_octets, dialogue_octets, id_in, id_flag, id_octet, linked_in, linked_flag, linked_octet, is_code_tag, code_in, code_tag, code_span, is_problem_tag, problem_in, problem_tag, problem_number, is_coded, is_returned, returned_in, is_unlinked, is_kind, kind_in, ids_octets, parts_octets, coded_octets, returned_octets, problem_octets, kind_octets, is_row, row_in, row_octets, are_rows, rows_in, rows_held, rows_octets, is_head, is_record, record_in, head_octets, record_octets}
+use Rattle.layout.specs.Layout.{head_size, row_size, most_rows, record_size, octet, number_at, span_at, span_octets, is_flag, optional_in, optional_flag, optional_span, is_message_tag, message_kind_in, orig_in, orig_flag, orig_span, dest_in, dest_flag, dest_span, is_source_tag, diagnostic_in, source_tag, diagnostic_number, is_dialogue, pdu_in, outside_in, dialogue_in, dialogue_number, portion_octets, dialogue_octets, id_in, id_flag, id_octet, linked_in, linked_flag, linked_octet, is_code_tag, code_in, code_tag, code_span, is_problem_tag, problem_in, problem_tag, problem_number, is_coded, is_returned, returned_in, is_unlinked, is_kind, kind_in, ids_octets, parts_octets, coded_octets, returned_octets, problem_octets, kind_octets, is_row, row_in, row_octets, are_rows, rows_in, rows_held, rows_octets, is_head, is_record, record_in, head_octets, record_octets}
 
 -- Each field
 

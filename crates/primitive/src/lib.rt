@@ -1,4 +1,6 @@
 // The contents of primitives: signed integers and object identifiers.
+#![tactic(auto)]
+
 ghost use Rattle.std.specs.Prelude.{◌≡◌, not, ◌&&◌, ◌≤◌, ◌<◌, length, get_or, eqb};
 ghost use Rattle.std.specs.Int.Signed.{mag, le_z};
 ghost use Rattle.base.specs.Number.{signed_at, bits_at, holds};

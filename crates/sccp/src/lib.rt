@@ -1,4 +1,5 @@
 // SCCP unitdata, message type 09 of Recommendation Q.713: what reading and writing one answers. The code is in sccp_read and sccp_write.
+#![tactic(auto)]
 
 // A part of a unitdata: its octets, without the length octet before them.
 #[derive(Clone, Copy)]

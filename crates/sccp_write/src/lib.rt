@@ -1,4 +1,6 @@
 // A unitdata, written: called address, calling address and data, without gaps.
+#![tactic(auto)]
+
 ghost use Rattle.std.specs.Prelude.{◌≡◌, true, ◌<◌, length};
 ghost use Rattle.base.specs.inner.Put.{Put};
 ghost use Rattle.sccp.specs.Writing.{counted, in_range, unitdata_octets, writing_unitdata, leaves_unitdata, unitdata_write_number};

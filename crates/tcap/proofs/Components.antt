@@ -2,7 +2,7 @@
 use Prim.Native.Nat.{ℕ, suc, ◌-◌, ◌≤◌}
 use mathlib.Core.Path.{◌≡◌, refl, ap}
 use mathlib.Core.Logic.{◌⊎◌, inl, inr, ⊎_elim}
-use mathlib.Core.Bool.{Bool, true, false, false≢true}
+use mathlib.Core.Bool.{true, false, false≢true}
 use mathlib.Core.List.{List, [], ◌∷◌, map}
 use mathlib.Core.Option
 use mathlib.Core.Option.{Option, none, some}
@@ -20,7 +20,7 @@ use Rattle.element.specs.Element.{Element, code_zero, extended_of, constructor_o
 use Rattle.primitive.specs.Primitive.{identifier_ok, most_integer_octets}
 use Rattle.element.specs.Fault.{Text, with_invoke_id}
 use Rattle.element.specs.Ask.{Body}
-use Rattle.element.specs.Parts.{Item, leaf_item, integer_item, around_item, map_item, or_item, bind_body, then_body, only_body, last_body, opt_body, silently}
+use Rattle.element.specs.Parts.{integer_item, around_item, map_item, silently}
 use Rattle.element.proofs.ItemLaws.{ItemLaws, BodyLaws, leaf_laws, around_laws}
 use Rattle.element.proofs.Joins.{map_laws, or_laws, item_range, item_form, Image, image_out, image_laws, image_body_laws, pairs, then_forms, then_oks, bind_laws, only_laws, last_laws, opt_pairs, opt_forms, opt_oks, opt_laws, SeriesOk, series_laws}
 use Rattle.element.proofs.Walker.{element_laws}

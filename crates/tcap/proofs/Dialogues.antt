@@ -7,24 +7,24 @@ use mathlib.Core.List.{List, [], map}
 use mathlib.Core.Option
 use mathlib.Core.Option.{Option, none, some}
 use native.Mathlib.Omega.{arith}
-use lib.Dec.{ltb, leb}
+use lib.Dec.{ltb}
 use Rattle.base.specs.Value.{Every, Maybe, same}
 use Rattle.base.proofs.Values.{same_equal, same_refl}
 use Rattle.element.specs.declared.{FaultKind.FaultKind}
-use Rattle.element.specs.Form.{Form, exactly, then, leaf, around, maybe, series_form, Matches, document01}
+use Rattle.element.specs.Form.{Form, exactly, then, leaf, around, series_form, Matches, document01}
 use Rattle.element.specs.Element.{Element, IsElement, SeriesOf, code_zero, extended_of, constructor_of}
 use Rattle.primitive.specs.Primitive.{identifier_ok, numbers}
 use Rattle.element.specs.Fault.{Text}
 use Rattle.element.specs.Ask.{Body}
-use Rattle.element.specs.Parts.{Item, leaf_item, around_item, map_item, only_body, silently}
+use Rattle.element.specs.Parts.{leaf_item, around_item, silently}
 use Rattle.element.specs.Walk.{walk_tag_item}
 use Rattle.element.proofs.ItemLaws.{ItemLaws, BodyLaws, leaf_laws, around_laws, kept_laws}
 use Rattle.element.proofs.Joins.{map_body_laws, or_laws, item_range, item_form, Image, image_out, image_laws, image_body_laws, pairs, then_forms, then_oks, bind_laws, only_laws, last_laws, opt_pairs, opt_forms, opt_oks, opt_laws}
 use Rattle.element.proofs.Walker.{element_laws, element_tag_laws, enough_laws}
 use Rattle.tcap.specs.declared.{Diagnostic.Diagnostic}
 use Rattle.tcap.specs.Meaning.{Dialogue, request, unidialogue, response, aborted, single, octets, octet, structured, unstructured, version, version_form, context_form, info_form, source_form, dialogue_form}
-use Rattle.tcap.specs.WellFormed.{Rules, left_at, most_result, most_user_diagnostic, most_provider_diagnostic, most_abort_source, SourceOk, Outside, DialogueOk}
-use Rattle.tcap.specs.Productions.{octet_item, name_item, version_body, level_at, parameter_item, info_body, context_item, asked_item, number_item, source_item, answered_item, aborted_item, held_item, external_body, inside6_b, dialogue_item}
+use Rattle.tcap.specs.WellFormed.{Rules, left_at, most_result, most_user_diagnostic, most_provider_diagnostic, most_abort_source, SourceOk, DialogueOk}
+use Rattle.tcap.specs.Productions.{octet_item, name_item, version_body, level_at, info_body, context_item, asked_item, number_item, source_item, answered_item, aborted_item, held_item, external_body, inside6_b, dialogue_item}
 use Rattle.tcap.proofs.Strings.{octets_of, dialogue_as}
 use Rattle.tcap.proofs.Components.{id, AtMost, octet_laws, name_laws, deep_at}
 

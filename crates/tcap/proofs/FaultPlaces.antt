@@ -1,5 +1,5 @@
 -- Where a fault is found, and what it tells: in the message or about it, with IDs that are well-formed. Assumes nothing.
-use Prim.Native.Nat.{ℕ, ◌+◌, ◌≤◌, ◌<◌}
+use Prim.Native.Nat.{ℕ, ◌≤◌, ◌<◌}
 use mathlib.Core.Path.{◌≡◌, refl, sym, ap, ◌∙◌}
 use mathlib.Core.Bool.{true, false, false≢true}
 use mathlib.Core.List.{List, [], ◌++◌}
@@ -15,7 +15,7 @@ use Rattle.element.specs.declared.{FaultKind.FaultKind}
 use Rattle.element.specs.Fault.{number_of, Text, Owner, portion, dialogue, component, Fault, fault, at, in_dialogue, in_component, with_invoke_id, with_orig_id}
 use Rattle.element.proofs.Ends.{outer, Plain}
 use Rattle.element.proofs.StringPlaces.{StandsAt, Laid, laid_each, Claim, Keeps}
-use Rattle.tcap.specs.Meaning.{Originating, orig, invoke, octets}
+use Rattle.tcap.specs.Meaning.{Originating, orig}
 use Rattle.tcap.specs.WellFormed.{Rules, most_octets, most_components, most_transaction_id_octets, id_ok, InvokeIdOk, OrigOk}
 use Rattle.tcap.specs.Productions.{carried}
 use Rattle.tcap.proofs.Strings.{octets_of, orig_as, Strings, tagged, orig_strings}

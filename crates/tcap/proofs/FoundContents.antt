@@ -17,7 +17,7 @@ use Rattle.element.specs.Walk.{walk_pick, element_of, any_tag, walk_contents}
 use Rattle.element.proofs.Asking.{HeadOf}
 use Rattle.element.proofs.StringPlaces.{nothing_ends}
 use Rattle.element.proofs.Ends.{Ends, held, ends_next}
-use Rattle.tcap.specs.Due.{Parts, end, must, may, many, Choice, tag, any, Holds, octets, parts, find, due, behind, may_end, position, there}
+use Rattle.tcap.specs.Due.{Parts, end, must, may, many, Choice, any, Holds, octets, parts, find, due, behind, may_end, position, there}
 use Rattle.tcap.specs.Refused.{Right, Fits, also, Known, known, whose, told, Trail, past, Unfit, another, too_many, Found}
 use Rattle.tcap.proofs.Fronts.{right_some, ends_blame}
 use Rattle.tcap.proofs.Found.{there_some, there_none, there_else, else_none, quiet, quiet_told, Like, BodyTells, Untold, BodyFinds, Spot, ItemFinds, ask_finds, Said, Silent, leaf_from, inside_finds}

@@ -24,7 +24,7 @@ use Rattle.tcap.specs.Meaning.{silent, Originating, orig, dest, cause, says, Mes
 use Rattle.tcap.specs.WellFormed.{Rules, most_octets, id_ok}
 use Rattle.tcap.specs.Productions.{orig_item, dest_item, carried, level_at, tail_body, uni_body, begin_body, end_body, continue_body, abort_body, message_item}
 use Rattle.tcap.specs.Reading.{learnt, alone_body, read_first, located_up_to}
-use Rattle.tcap.specs.Due.{Parts, end, must, may, tag, Holds, octets, orig_id, parts, destination, portions, unidirectional as Uni, begin as Begin, finish as Finish, continue as Continue, abort as Abort, message, find, due, behind, contents_of, there}
+use Rattle.tcap.specs.Due.{Parts, end, must, tag, Holds, octets, orig_id, parts, destination, portions, unidirectional as Uni, begin as Begin, finish as Finish, continue as Continue, abort as Abort, message, find, due, contents_of, there}
 use Rattle.tcap.specs.Refused.{Right, Fits, nothing, also, Known, known, told, Trail, top, into, into_endless, past, Tagged, Unfit, another, Found, OrigOf, without, with, after, Refuses, overlong, no_octets, no_message, within, Allowed}
 use Rattle.tcap.proofs.Fronts.{ends_blame}
 use Rattle.tcap.proofs.Found.{tag_held, there_some, there_none, Like, BodyTells, Untold, BodyFinds, ItemFinds, Silent, ask_finds, leaf_finds, around_tells, map_finds, quietly, or_finds}

@@ -1,8 +1,8 @@
 -- Messages are read right. Assumes nothing.
 use Prim.Native.Nat.{ℕ, ◌≤◌}
-use mathlib.Core.Path.{◌≡◌, refl, ap}
+use mathlib.Core.Path.{◌≡◌, refl}
 use mathlib.Core.Logic.{◌⊎◌, inl, inr, ⊎_elim}
-use mathlib.Core.Bool.{Bool, true, false}
+use mathlib.Core.Bool.{true, false}
 use mathlib.Core.List.{List, [], ◌∷◌, map}
 use mathlib.Core.Option
 use mathlib.Core.Option.{get_or, Option, none, some}
@@ -10,17 +10,17 @@ use native.Mathlib.Omega.{arith}
 use lib.ListN.{length}
 use lib.Dec.{ltb}
 use Rattle.base.specs.Value.{Every, Maybe}
-use Rattle.element.specs.Form.{Form, exactly, then, leaf, around, maybe, series_form, Matches, document01}
+use Rattle.element.specs.Form.{Form, then, leaf, around, maybe, series_form, Matches, document01}
 use Rattle.element.specs.Element.{code_zero, extended_of, constructor_of}
 use Rattle.element.specs.Fault.{Text}
 use Rattle.element.specs.Ask.{Body}
-use Rattle.element.specs.Parts.{around_item, map_item, then_body, bind_body, silently}
+use Rattle.element.specs.Parts.{around_item, then_body, silently}
 use Rattle.element.proofs.ItemLaws.{ItemLaws, BodyLaws, leaf_laws, around_laws}
 use Rattle.element.proofs.Joins.{map_body_laws, or_laws, item_range, item_form, Image, image_out, image_laws, image_body_laws, pairs, then_forms, then_oks, bind_laws, only_laws, last_laws, opt_pairs, opt_forms, opt_oks, opt_laws, SeriesOk}
 use Rattle.tcap.specs.Meaning.{Originating, orig, Destination, dest, Component, Dialogue, Ending, silent, cause, says, Message, unidirectional, begin, finish, continue, abort, Meaning, octet, component_form, components_form, dialogue_form, ending_form, orig_form, dest_form, message_form}
 use Rattle.tcap.specs.WellFormed.{Rules, left_at, most_components, most_cause, id_ok, ComponentOk, ComponentsOk, DialogueOk, EndingOk, OrigOk, DestOk, WellFormedUpTo}
-use Rattle.tcap.specs.Productions.{octet_item, orig_item, dest_item, carried, level_at, components_item, dialogue_item, tail_body, uni_body, begin_body, end_body, continue_body, abort_body, message_item}
-use Rattle.tcap.proofs.Strings.{octets_of, component_as, dialogue_as, ending_as, orig_as, dest_as, message_as, forget}
+use Rattle.tcap.specs.Productions.{orig_item, dest_item, carried, level_at, components_item, dialogue_item, tail_body, uni_body, begin_body, end_body, continue_body, abort_body, message_item}
+use Rattle.tcap.proofs.Strings.{octets_of, component_as, dialogue_as, ending_as, orig_as, dest_as, forget}
 use Rattle.tcap.proofs.Components.{AtMost, id, octet_laws, components_laws, deep_at}
 use Rattle.tcap.proofs.Dialogues.{dialogue_laws}
 

@@ -8,7 +8,7 @@ use native.Mathlib.Omega.{arith}
 use lib.ListN.{length, take, drop, length-drop}
 use lib.Dec.{eqb}
 use borrow.Author.Tests.{lt-ltb, le-ltb, eqb-true}
-use Rattle.element.specs.Fault.{Text, Owner, portion, component, fault, at, in_component}
+use Rattle.element.specs.Fault.{Text, Owner, portion, component, fault, in_component}
 use Rattle.element.specs.declared.FaultKind.{FaultKind}
 use Rattle.element.specs.declared.EndRead.TheVariants.{Ended as ended, More as more}
 use Rattle.element.specs.Head.{end_of}

@@ -1,33 +1,33 @@
 -- Demands 2 and 3: what reads so is accepted and nothing else is, each message reads in one way, what is written reads so and is the shortest.
 -- Assumes nothing.
-use Prim.Native.Nat.{ℕ, zero, suc, ◌+◌, ◌≤◌, ◌<◌}
+use Prim.Native.Nat.{ℕ, ◌+◌, ◌≤◌, ◌<◌}
 use mathlib.Core.Path.{◌≡◌, refl, sym, ap, ◌∙◌}
 use mathlib.Core.Logic.{◌↔◌}
-use mathlib.Core.Bool.{Bool, true, false, false≢true}
-use mathlib.Core.List.{List, [], ◌∷◌, ◌++◌, append-nil, map}
-use mathlib.Core.Option.{Option, none, some}
+use mathlib.Core.Bool.{Bool, true}
+use mathlib.Core.List.{List, [], ◌∷◌, ◌++◌, append-nil}
+use mathlib.Core.Option.{none, some}
 use native.Mathlib.Omega.{arith}
-use lib.ListN.{length, take, length-map}
+use lib.ListN.{length, length-map}
 use lib.Seq.{take_all}
 use lib.Dec.{ltb, leb, eqb}
 use borrow.Author.Tests.{lt-ltb, le-leb, leb-true, eq-eqb, eqb-true}
 use Rattle.element.specs.declared.{FaultKind.FaultKind}
-use Rattle.element.specs.Form.{Matches, shortest, ◌⊑◌, document01}
+use Rattle.element.specs.Form.{Matches, ◌⊑◌, document01}
 use Rattle.element.specs.Fault.{Text, Fault, at}
 use Rattle.element.specs.declared.TagRead.TheVariants.{Tag}
 use Rattle.element.specs.Head.{tag_of}
-use Rattle.element.specs.Ask.{Got, got, bad, check, blamed, Head, ask}
+use Rattle.element.specs.Ask.{Got, got, bad, check, Head, ask}
 use Rattle.element.specs.Parts.{first_of}
 use Rattle.element.proofs.Heads.{TagIs, tag_sound}
 use Rattle.element.proofs.Asking.{Then, fact, void, the_fact, then_next, then_check, then_blamed, next_of, blamed_of, HeadOf, finite, unended, ask_head, ask_sound}
-use Rattle.element.proofs.ItemLaws.{Reads as ItemReads, ItemLaws}
-use Rattle.element.proofs.Shortest.{cap, strict_cap, Octets, document01_laws, ⊑-length, shortest_matches, shortest_least, never_longer}
-use Rattle.tcap.specs.declared.{Record.Record, Outcome.Outcome, Reading.Reading}
+use Rattle.element.proofs.ItemLaws.{Reads as ItemReads}
+use Rattle.element.proofs.Shortest.{cap, Octets, document01_laws, ⊑-length, shortest_matches, shortest_least, never_longer}
+use Rattle.tcap.specs.declared.{Record.Record, Outcome.Outcome}
 use Rattle.tcap.specs.Meaning.{Message, unidirectional, begin, finish, continue, abort, Meaning, message_form, written}
 use Rattle.tcap.specs.WellFormed.{Rules, most_octets, most_components, the93, deepest_level, WellFormedUpTo, WellFormed, ReadsUpTo, Reads}
 use Rattle.tcap.specs.Record.{record_of, meaning_of, Same}
 use Rattle.tcap.specs.Productions.{message_item}
-use Rattle.tcap.specs.Reading.{learnt, alone_body, read_first, located_up_to, refusal_of, answered, reading_up_to, reading}
+use Rattle.tcap.specs.Reading.{learnt, alone_body, read_first, located_up_to, answered, reading_up_to, reading}
 use Rattle.tcap.proofs.Strings.{octets_of, component_as, forget}
 use Rattle.tcap.proofs.Messages.{message_laws}
 use Rattle.tcap.proofs.Records.{components, record_means}

@@ -1,21 +1,19 @@
 -- The record of a message whose strings stand in m means, over m, that message with the places forgotten. Assumes nothing.
 use Prim.Native.Nat.{ℕ, ◌+◌, ◌-◌, ◌≤◌, ◌<◌}
-use mathlib.Core.Path.{◌≡◌, refl, sym, ap, ◌∙◌}
-use mathlib.Core.Bool.{Bool, true, false, cond}
+use mathlib.Core.Path.{◌≡◌, refl}
 use mathlib.Core.List.{List, [], ◌∷◌, ◌++◌, map}
 use mathlib.Core.Option
 use mathlib.Core.Option.{Option, none, some, bind}
 use lib.ListN.{length, take, drop, replicate, length-map}
 use lib.Seq.{take_at}
-use lib.Dec.{leb}
 use borrow.Author.Tests.{le-leb, lt-leb}
 use Rattle.base.specs.Value.{Every}
 use Rattle.base.proofs.Values.{every_parts}
 use Rattle.element.specs.Fault.{Text}
-use Rattle.tcap.specs.declared.{Row.Row, Span.Span, Record.Record}
-use Rattle.tcap.specs.Meaning.{Originating, orig, Destination, dest, Code, local, global, Component, invoke, last, not_last, error, reject, Dialogue, request, unidialogue, response, aborted, single, octets, Ending, silent, cause, says, Message, unidirectional, begin, finish, continue, abort, Meaning}
+use Rattle.tcap.specs.declared.{Span.Span, Record.Record}
+use Rattle.tcap.specs.Meaning.{Originating, orig, Destination, dest, Code, local, global, Component, invoke, last, not_last, error, reject, Dialogue, request, unidialogue, response, aborted, single, octets, Ending, silent, cause, says, Message, unidirectional, begin, finish, continue, abort}
 use Rattle.tcap.specs.WellFormed.{most_components}
-use Rattle.tcap.specs.Record.{span_of, span_field, code_field, both_field, row_of, dialogue_field, ending_field, portion_field, orig_field, dest_field, blank_row, record_from, record_of, octets_at, span_means, code_means, both_means, id_field, id_means, linked_field, linked_means, row_means, rows_mean, ending_means, portion_of, orig_means, dest_means, parts_mean, meaning_of}
+use Rattle.tcap.specs.Record.{span_of, span_field, code_field, both_field, row_of, dialogue_field, ending_field, portion_field, orig_field, dest_field, blank_row, record_of, octets_at, span_means, code_means, both_means, id_field, id_means, linked_field, linked_means, row_means, rows_mean, ending_means, portion_of, orig_means, dest_means, meaning_of}
 use Rattle.tcap.proofs.Strings.{octets_of, code_as, both_as, component_as, dialogue_as, ending_as, orig_as, dest_as, forget, Strings, option_strings, tagged, whole, series_strings, code_strings, both_strings, component_strings, named_strings, dialogue_strings, ending_strings, orig_strings, dest_strings, rest_strings, strings}
 
 -- the string's octets are those of m at its place

@@ -1,4 +1,6 @@
 // The record of a TCAP message, and what reading answers. A string of a record is a place and a length in the octets beside it.
+#![tactic(auto)]
+
 ghost use Rattle.std.specs.Prelude.{◌≡◌, length};
 ghost use Rattle.tcap.specs.Record.{blank_row, message_tag};
 ghost use Rattle.tcap.specs.inner.Names.{common, name_kind};

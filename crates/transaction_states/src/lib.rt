@@ -1,4 +1,6 @@
 // What an event does to a transaction: the states and events of Q.774, and what is answered.
+#![tactic(auto)]
+
 ghost use Rattle.std.specs.Prelude.{◌≡◌, true, false, get_or};
 ghost use Rattle.tcap.specs.WellFormed.{id_ok};
 ghost use Rattle.transaction_states.specs.Events.{continuing, closing, move_of, begins_of, tells, told_by, ids_ok, is_open, opening, moving, taken_of};

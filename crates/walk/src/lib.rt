@@ -1,4 +1,6 @@
 // Whether whole elements stand at a place: the place behind them, or 0. Faults are not told apart.
+#![tactic(auto)]
+
 ghost use Rattle.std.specs.Prelude.{◌≡◌, true, false, suc, ◌+◌, ◌-◌, ◌<◌, ◌≤◌, length, get_or, take, drop};
 ghost use Rattle.base.specs.Number.{number_from};
 ghost use Rattle.element.specs.Head.{within, length_of};

@@ -1,8 +1,6 @@
 use native.Mathlib.Nat.{le_of_eq}
 use lib.ListN.{length-drop}
 use lib.Seq.{take_all}
-use Rattle.base.proofs.after.Reads as reads
-use Rattle.base.proofs.after.Lts as lts
 use Rattle.base.proofs.after.Goals as goal
 
 -- src/lib.rt:98:5

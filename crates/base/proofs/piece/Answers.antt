@@ -1,6 +1,4 @@
 use native.Mathlib.Nat.{add-sub_cancel_left}
-use Rattle.base.proofs.piece.Reads as reads
-use Rattle.base.proofs.piece.Lts as lts
 use Rattle.base.proofs.piece.Goals as goal
 
 -- src/lib.rt:106:15

@@ -62,13 +62,13 @@ pub whole_at-returns-then-m-at-eq0 : goal.whole_at-returns-then-m-at-eq0
 whole_at-returns-then-m-at-eq0 t c = search whole_unended
 
 pub whole_at-overflow_add-from : goal.whole_at-overflow_add-from
-whole_at-overflow_add-from t c = 
+whole_at-overflow_add-from t c =
     let P = c.requires in
     let t = length_before c.args.m.now _ _ _ P.0 P.1 c.tag_end-from.ensures c.if-from-eq0.false c.if-from-end.false in
     search (rules, t)
 
 pub whole_at-open_at-requires : goal.whole_at-open_at-requires
-whole_at-open_at-requires t c = 
+whole_at-open_at-requires t c =
     let P = c.requires in
     let t = length_before c.args.m.now _ _ _ P.0 P.1 c.tag_end-from.ensures c.if-from-eq0.false c.if-from-end.false in
     omega (arith, t, c.requires)
@@ -77,7 +77,7 @@ pub whole_at-returns-then-m-from : goal.whole_at-returns-then-m-from
 whole_at-returns-then-m-from t c = search whole_open
 
 pub whole_at-contents_end-stop-requires : goal.whole_at-contents_end-stop-requires
-whole_at-contents_end-stop-requires t c = 
+whole_at-contents_end-stop-requires t c =
     let P = c.requires in
     let t = length_before c.args.m.now _ _ _ P.0 P.1 c.tag_end-from.ensures c.if-from-eq0.false c.if-from-end.false in
     ((omega (arith, t), P.1), t.1, c.if-m-from.false)
@@ -95,7 +95,7 @@ pub whole_at-start_of-requires : goal.whole_at-start_of-requires
 whole_at-start_of-requires t c = search length_inside
 
 pub whole_at-shut_at-requires : goal.whole_at-shut_at-requires
-whole_at-shut_at-requires t c = 
+whole_at-shut_at-requires t c =
     let P = c.requires in
     let t = shut_room c.args.m.now _ _ _ P.0 P.1 _ c.if-left-eq0.false c.tag_end-from.ensures c.if-from-eq0.false c.if-from-end.false c.if-m-from.false _ c.contents_end-stop.ensures c.if-stop-eq0.false _ c.start_of.ensures in
     omega (arith, t, c.requires)
