@@ -1,4 +1,6 @@
 // The reader: one message into the octets of its record, or into its record, or the refusal.
+#![tactic(auto)]
+
 ghost use Rattle.std.specs.Prelude.{◌≡◌, replicate};
 ghost use Rattle.tcap.specs.Reading.{reading};
 ghost use Rattle.read.specs.Octets.{Held};

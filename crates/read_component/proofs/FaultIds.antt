@@ -12,7 +12,7 @@ use Rattle.element.specs.declared.EndRead.{EndRead}
 use Rattle.element.specs.declared.TagRead.{TagRead}
 use Rattle.element.specs.declared.LengthRead.{LengthRead}
 use Rattle.element.specs.Element.{constructor_of}
-use Rattle.element.specs.Fault.{Fault, fault, at, Text, with_invoke_id}
+use Rattle.element.specs.Fault.{fault, at, Text, with_invoke_id}
 use Rattle.element.specs.Head.{end_of, length_of}
 use Rattle.element.specs.inner.Fronts.{front_of}
 use Rattle.element.specs.Ask.{Got, got, bad, next, check, blamed, definite, indefinite, Head, head, Body, ask_length, at_end, ask}

@@ -19,7 +19,7 @@ use Rattle.element.specs.declared.LengthRead.{LengthRead}
 use Rattle.element.specs.Head.{end_of, length_of}
 use Rattle.element.specs.inner.Fronts.{front_of, length_size}
 use Rattle.element.proofs.Reading.{definite_size}
-use Rattle.element.specs.Fault.{Fault, fault, Text, with_invoke_id}
+use Rattle.element.specs.Fault.{Text, with_invoke_id}
 use Rattle.element.specs.Ask.{Got, got, bad, next, check, blamed, Body, ask_length, at_end, ask}
 use Rattle.element.specs.Parts.{Item, Where, first_of, level, leaf_item, map_item, around_item, integer_item, opt_body, last_body, only_body, bind_body, map_body}
 use Rattle.element.proofs.Asking.{Then, fact, void, then_next, then_blamed, ask_sound}

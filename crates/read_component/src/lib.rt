@@ -1,4 +1,6 @@
 // The loop over components, and what is told of a fault of theirs: an answer is the place behind what was read, or a fault.
+#![tactic(auto)]
+
 ghost use Rattle.std.specs.Prelude.{◌≡◌, ◌<◌, ◌≤◌, length};
 ghost use Rattle.element.specs.Fault.{component};
 ghost use Rattle.read_place.specs.Places.{until, Finishes, Ready};

@@ -1,5 +1,7 @@
 // The dialogue portion: an answer is the place behind what was read, or a fault.
 // Octets of the head (docs/LAYOUT.md): 0 whom a fault belongs to, 3 the kind of dialogue, 24 the name, 32 one element or octets; the PDU's are in read_pdu.
+#![tactic(auto)]
+
 ghost use Rattle.std.specs.Prelude.{◌≡◌, true, ◌+◌, length, take, drop};
 ghost use Rattle.element.specs.Parts.{around_item, only_body};
 ghost use Rattle.element.specs.Head.{end_of};

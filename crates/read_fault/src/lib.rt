@@ -1,4 +1,6 @@
 // The number of a fault, taken apart.
+#![tactic(auto)]
+
 ghost use Rattle.std.specs.Prelude.{◌≡◌};
 ghost use Rattle.read_fault.specs.Faults.{kind_from};
 

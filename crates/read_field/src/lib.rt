@@ -1,4 +1,6 @@
 // The fields that stand in a component, a dialogue or a message: an answer is the place behind the field, or a fault.
+#![tactic(auto)]
+
 ghost use Rattle.std.specs.Prelude.{◌≡◌, [], ◌/◌, ◌%◌};
 ghost use Rattle.read_place.specs.Places.{Leads, Reads, Ready};
 ghost use Rattle.base.specs.Value.{same};

@@ -1,4 +1,6 @@
 // Messages: an answer is the place behind what was read, or the first fault. What is read is laid out in the octets lent, or whom the fault belongs to is told there.
+#![tactic(auto)]
+
 ghost use Rattle.std.specs.Prelude.{◌≡◌, true, ◌+◌, ◌/◌, ◌%◌, ◌<◌, ◌≤◌, length, set};
 ghost use Rattle.element.specs.Parts.{then_body};
 ghost use Rattle.read_place.specs.Places.{Leads, Reads, Finishes, Ready, nothing};

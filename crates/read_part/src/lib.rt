@@ -1,4 +1,6 @@
 // The fields of a component, laid out in its row as they are read: an answer is the place behind the field, or a fault.
+#![tactic(auto)]
+
 ghost use Rattle.std.specs.Prelude.{◌≡◌, ◌+◌, ◌/◌, ◌%◌, ◌≤◌, length};
 ghost use Rattle.std.proofs.lemmas.List.Edits.{sets};
 ghost use Rattle.base.specs.Number.{octets_in};

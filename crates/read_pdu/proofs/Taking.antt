@@ -7,7 +7,7 @@ use lib.{ListN.length, ListN.get_or, ListN.drop, ListN.take, ListN.set, ListN.le
 use borrow.Author.Tests.{leb-true}
 use Rattle.element.specs.{declared.FaultKind.FaultKind, declared.TagRead.TagRead, Element.constructor_of, Fault.Text, inner.Fronts.front_of, inner.Fronts.length_size}
 use Rattle.element.specs.Ask.{Got, got, bad, next, Body, ask}
-use Rattle.element.specs.Parts.{Item, Where, level, place, leaf_item, around_item, map_item, or_item, then_body, only_body}
+use Rattle.element.specs.Parts.{Item, Where, level, leaf_item, around_item, map_item, or_item, then_body, only_body}
 use Rattle.element.proofs.{Asking.Then, Asking.fact, Views.span_take}
 use Rattle.primitive.specs.Primitive.{most_identifier_octets, identifier_ok}
 use Rattle.tcap.specs.Productions.{single?, octet_item, name_item}

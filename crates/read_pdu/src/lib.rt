@@ -1,5 +1,7 @@
 // The dialogue PDUs: an answer is the place behind what was read, or a fault.
 // Octets of the head (docs/LAYOUT.md): 3 the kind of dialogue, 24 the name, 32 and 40 user information, 41 result or source, 42 and 43 the diagnostic.
+#![tactic(auto)]
+
 ghost use Rattle.std.specs.Prelude.{◌≡◌, true, ◌≤◌, ◌<◌, length};
 ghost use Rattle.element.specs.Parts.{around_item};
 ghost use Rattle.read_place.specs.Places.{Finishes, Ready, part};

@@ -13,11 +13,10 @@ use Rattle.element.specs.declared.FaultKind.{FaultKind}
 use Rattle.element.specs.declared.EndRead.{EndRead}
 use Rattle.element.specs.declared.TagRead.{TagRead}
 use Rattle.element.specs.Element.{constructor_of, code_zero}
-use Rattle.element.specs.Fault.{Fault, at}
+use Rattle.element.specs.Fault.{at}
 use Rattle.element.specs.Head.{end_of, tag_of, length_of}
 use Rattle.element.specs.inner.Fronts.{fronted, front_of, span}
 use Rattle.element.specs.Ask.{Got, got, bad, check, Body, ask_length, ask_tag, at_end, ask_end, ask}
-use Rattle.element.specs.Parts.{place}
 use Rattle.element.proofs.Reading.{tag_size, tag_first}
 use Rattle.element.proofs.Views.{span_length, span_get}
 use Rattle.read_place.specs.Places.{base, fault_place, part, finite, ended_of, unfinished_of, behind_of, tag_place, length_place, Placed, Shut, Closing, Closed, nothing, asked_place, wrong_place, stands_of, entry_place, bad_place, until, Far, Near, Finite, opening, faults, cut_off, bad_contents, missing, too_many}

@@ -13,7 +13,7 @@ use Rattle.element.specs.declared.EndRead.{EndRead}
 use Rattle.element.specs.declared.TagRead.{TagRead}
 use Rattle.element.specs.declared.LengthRead.{LengthRead}
 use Rattle.element.specs.Element.{constructor_of}
-use Rattle.element.specs.Fault.{Fault, fault, at}
+use Rattle.element.specs.Fault.{fault, at}
 use Rattle.element.specs.Head.{end_of, tag_of, length_of}
 use Rattle.element.specs.Answers.{wanted_item, walk_of, element_walk}
 use Rattle.element.specs.inner.Fronts.{front_of, length_size}

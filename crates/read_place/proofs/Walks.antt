@@ -14,7 +14,7 @@ use Rattle.element.specs.declared.EndRead.{EndRead}
 use Rattle.element.specs.declared.TagRead.{TagRead}
 use Rattle.element.specs.declared.LengthRead.{LengthRead}
 use Rattle.element.specs.Element.{constructor_of, code_zero, extended_of}
-use Rattle.element.specs.Fault.{Fault, at}
+use Rattle.element.specs.Fault.{at}
 use Rattle.walk.proofs.Views.{length_short}
 use Rattle.walk.proofs.Wholes.{odd}
 use lib.Seq.{length-take-le}

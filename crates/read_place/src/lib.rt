@@ -1,6 +1,8 @@
 // Where a reader stands, and what may stand there: ends, tags, lengths; `elements` walks those that may be any.
 // Contents stand from a place to a `stop`: the place where they end, or, if they are indefinite, OPEN and the end of what is around them.
 // An answer below FAULT is the place behind what was read, or a stop; from FAULT on it is a fault: kind and place, each kind in a block of OPEN.
+#![tactic(auto)]
+
 pub mod elements;
 
 ghost use Rattle.std.specs.Prelude.{◌≡◌, true, false, ◌+◌, ◌<◌, ◌≤◌, length, get_or};

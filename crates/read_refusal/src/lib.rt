@@ -1,4 +1,6 @@
 // The refusal of a message, from the number of its fault and what is told of it in the octets lent to its reader.
+#![tactic(auto)]
+
 ghost use Rattle.std.specs.Prelude.{◌≡◌, ◌≤◌, length};
 ghost use Rattle.tcap.specs.WellFormed.{the93};
 ghost use Rattle.tcap.specs.Record.{id_field};

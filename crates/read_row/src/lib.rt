@@ -1,4 +1,6 @@
 // A component, laid out in its row as it is read: an answer is the place behind what was read, or a fault.
+#![tactic(auto)]
+
 ghost use Rattle.std.specs.Prelude.{◌≡◌, true, false, ◌<◌, ◌≤◌, length};
 ghost use Rattle.read_place.specs.Places.{until, Finishes, Ready};
 ghost use Rattle.read_place.specs.Leaves.{LeavesAll, untold};

@@ -1,4 +1,6 @@
 // Steering by rules as octets: the message is read once, for what the rules look at.
+#![tactic(auto)]
+
 ghost use Rattle.std.specs.Prelude.{◌≡◌};
 ghost use Rattle.tcap.specs.Reading.{reading};
 ghost use Rattle.steering.specs.Layout.{rules_in};

@@ -1,4 +1,6 @@
 // Steering by a slice of rules. The C calls know nothing of it: they take rules as octets.
+#![tactic(auto)]
+
 ghost use Rattle.std.specs.Prelude.{◌≡◌};
 ghost use Rattle.steering.specs.Steering.{rule_fits, first_fit, steering};
 

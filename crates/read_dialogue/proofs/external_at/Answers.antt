@@ -41,7 +41,7 @@ pub overflow_add-from-3 : goal.overflow_add-from-3
 overflow_add-from-3 c = let h = count_room c.args.m.now _ _ 6 _ _ c.count_at-n.ensures c.if-n-eq0.false in omega (arith, h)
 
 pub known_at-r-requires : goal.known_at-r-requires
-known_at-r-requires c =  let h = count_room c.args.m.now _ _ 6 _ _ c.count_at-n.ensures c.if-n-eq0.false in
+known_at-r-requires c = let h = count_room c.args.m.now _ _ 6 _ _ c.count_at-n.ensures c.if-n-eq0.false in
     (((omega (arith, h), search entry_to, search rules), search rules), search rules)
 
 pub returns-then-r-ge-FAULT : goal.returns-then-r-ge-FAULT

@@ -41,7 +41,7 @@ pub overflow_sub-r : goal.overflow_sub-r
 overflow_sub-r c = search walked_from
 
 pub leave-requires : goal.leave-requires
-leave-requires c =  let l = walked_near _ _ _ _ c.walk_any-r.ensures c.if-r-ge-FAULT.false in
+leave-requires c = let l = walked_near _ _ _ _ c.walk_any-r.ensures c.if-r-ge-FAULT.false in
     let h = entry_to _ _ _ 160 _ (omega arith) (omega arith) c.entry_at-inner.ensures c.if-inner-ge-FAULT.false (omega arith) _ c.start_of-from.ensures in omega (arith, l, h)
 
 pub returns : goal.returns

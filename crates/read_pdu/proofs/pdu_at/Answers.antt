@@ -1,7 +1,6 @@
 -- `pdu_at` meets its contract. Assumes nothing.
-use borrow.Author.Rules.{rules}
-use mathlib.Core.Path.{ap, ◌∙◌}
-use lib.ListN.{length, length-set}
+use mathlib.Core.Path.{◌∙◌}
+use lib.ListN.{length-set}
 use Rattle.read_pdu.proofs.Pdus.{pdu_response, pdu_abort, pdu_request, pdu_alone}
 use Rattle.read_pdu.proofs.pdu_at.Goals as goal
 use Rattle.read_pdu.proofs.pdu_at.Goals.{then-in_structured+else-stands+else-stands-2, else-in_structured}

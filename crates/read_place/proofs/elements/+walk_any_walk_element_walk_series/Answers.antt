@@ -36,7 +36,7 @@ pub walk_any-start_of-requires : goal.walk_any-start_of-requires
 walk_any-start_of-requires t c = search (rules, length_inside)
 
 pub walk_any-walk_series-requires : goal.walk_any-walk_series-requires
-walk_any-walk_series-requires t c = 
+walk_any-walk_series-requires t c =
     let P = c.requires in
     let M = c.args.m.now in
     let t = tag_room M _ _ _ P.0 P.1 c.tag_at-next.ensures c.if-next-ge-FAULT.false in
