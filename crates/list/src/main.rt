@@ -1,14 +1,22 @@
 // Reads a message from standard input, and writes its listing.
-use libc::{STDIN_FILENO, STDOUT_FILENO};
+#![tactic(auto)]
+
+use program_parts::input::read_full;
 use program_parts::list_into;
 use read::read;
+use std::io;
 
-fn main() {
+fn list_input<R: Input + Print>(rt: &R) -> io::Result<()> {
     // One octet more than a message may have: longer input is answered like this much of it.
     let mut input = [0u8; 256];
-    let count = io::read_full(STDIN_FILENO, &mut input);
+    let mut source = rt.reader();
+    let count = read_full(&mut source, &mut input)?;
     let reading = read(&input[..count]);
-    let mut text = io::buffer();
+    let mut text = [0u8; 4096];
     let size = list_into(&input[..count], reading, &mut text);
-    io::write_all(STDOUT_FILENO, &text[..size]);
+    rt.write_all(&text[..size])
+}
+
+fn main(rt: HostRuntime) -> io::Result<()> {
+    list_input(&rt)
 }

@@ -1,15 +1,19 @@
 // Compares steering, by rules as octets and by rules as structs, with the cases of steer.bin. A case: message and rules, each after its length in
 // two octets; the originating ID of a refusal after its length in one, 0 for none; then what is expected, in 13 octets as `expected_of` takes them.
-ghost use Rattle.std.specs.Prelude.{◌≡◌, [], ◌∷◌, ◌≤◌};
+ghost use Rattle.std.specs.Prelude.{◌≡◌, ◌≤◌, [], ◌∷◌, IfOk};
 ghost use Rattle.program_parts.specs.Expected.{Tells, IdIs};
+ghost use Rattle.program_parts.specs.Strings.{Loses};
 ghost use Rattle.steering.specs.Steering.{steering};
 ghost use Rattle.steering.specs.Layout.{rules_in};
-ghost use Rattle.program_compare.specs.Steerings.{AnswerIs, RefusalIs, SteeredIs, rule_or, four_in};
+ghost use Rattle.program_compare.specs.Steerings.{AnswerIs, RefusalIs, SteeredIs, rule_or, four_in, expected_in, Compares};
 
 use base::after;
 use element::number_of;
 use program_parts::cases::{Verdict, next_short_string, next_string, pair_of, verdict_of};
 use program_parts::ids::{same_id, same_orig};
+use program_parts::input::read_full;
+use std::io;
+use std::io::Read;
 use steer_octets::steer_octets;
 use steer_rules::steer;
 use steering::octets::rule_of;
@@ -17,7 +21,7 @@ use steering::{Rule, RuleCode, Steered};
 use tcap::{Answer, InvokeId, Refusal};
 
 // What a case expects: no rule (0), a link (1), or a refusal (2); its standard answer is a cause (0) or a problem (1).
-#[derive(Drop)]
+#[derive(Clone, Copy)]
 struct Expected {
     outcome: u8,
     link: u32,
@@ -30,7 +34,10 @@ struct Expected {
     id: u8,
 }
 
-fn expected_of(octets: &[u8; 13]) -> Expected {
+#[tactic(auto, unfolding(crate::specs::Steerings::expected_in))]
+fn expected_of(octets: &[u8; 13]) -> Expected
+    ensures { result ≡ expected_in octets.now }
+{
     let high = pair_of(octets[1], octets[2]);
     let low = pair_of(octets[3], octets[4]);
     Expected {
@@ -73,6 +80,7 @@ fn same_problem(problem: u8, component: usize, id: InvokeId, expected: Expected)
     same_id(id, expected.given, expected.id)
 }
 
+#[tactic(auto, unfolding(crate::specs::Steerings::AnswerIs))]
 fn same_answer(answer: Answer, expected: Expected) -> bool
     ensures { Tells result (AnswerIs answer expected) }
 {
@@ -86,6 +94,7 @@ fn same_answer(answer: Answer, expected: Expected) -> bool
     }
 }
 
+#[tactic(auto, unfolding(crate::specs::Steerings::RefusalIs))]
 fn same_refusal(message: &[u8], refusal: Refusal, expected: Expected, orig: &[u8]) -> bool
     ensures { Tells result (RefusalIs message.now refusal expected orig.now) }
 {
@@ -114,6 +123,7 @@ fn same_link(link: u32, expected: Expected) -> bool
     expected.link == link
 }
 
+#[tactic(auto, unfolding(crate::specs::Steerings::SteeredIs))]
 fn same_steered(message: &[u8], steered: Steered, expected: Expected, orig: &[u8]) -> bool
     ensures { Tells result (SteeredIs message.now steered expected orig.now) }
 {
@@ -130,6 +140,7 @@ fn same_steered(message: &[u8], steered: Steered, expected: Expected, orig: &[u8
 }
 
 // The rule at a place, or one that fits nothing where no whole rule stands.
+#[tactic(auto, unfolding(crate::specs::Steerings::rule_or))]
 fn rule_or_none(rules: &[u8], at: usize) -> Rule
     requires { at ≤ 255 }
     ensures { result ≡ rule_or rules.now at }
@@ -145,7 +156,7 @@ fn rule_or_none(rules: &[u8], at: usize) -> Rule
     }
 }
 
-// Proved by hand, since an array of structs in a local is lent as a slice.
+// Four rules, lent as a slice.
 fn steer_four(message: &[u8], one: Rule, two: Rule, three: Rule, four: Rule) -> Steered
     ensures { result ≡ steering message.now (one ∷ two ∷ three ∷ four ∷ []) }
 {
@@ -154,6 +165,7 @@ fn steer_four(message: &[u8], one: Rule, two: Rule, three: Rule, four: Rule) -> 
 }
 
 // A case has at most four rules.
+#[tactic(auto, unfolding(crate::specs::Steerings::four_in))]
 fn steer_structs(message: &[u8], rules: &[u8]) -> Steered
     ensures { result ≡ steering message.now (four_in rules.now) }
 {
@@ -177,18 +189,22 @@ fn same_both(message: &[u8], rules: &[u8], expected: Expected, orig: &[u8]) -> b
 }
 
 // Reads the next case and compares it: where its last octets came, all of it did.
-pub fn compare_next(fd: i32) -> Verdict {
+pub fn compare_next<R: Read>(input: &mut R) -> io::Result<Verdict>
+    ensures verdict { IfOk result (λ v. Compares (R.remaining input.old) (R.remaining input.new) v) }
+    ensures loses { Loses (R.remaining input.old) (R.remaining input.new) }
+{
     let mut message = [0u8; 512];
-    let size = next_string(fd, &mut message);
+    let size = next_string(input, &mut message)?;
     let mut rules = [0u8; 255];
-    let length = next_string(fd, &mut rules);
+    let length = next_string(input, &mut rules)?;
     let mut orig = [0u8; 255];
-    let count = next_short_string(fd, &mut orig);
+    let count = next_short_string(input, &mut orig)?;
     let mut octets = [0u8; 13];
-    let got = io::read_full(fd, &mut octets);
+    let got = read_full(input, &mut octets)?;
     if got < 13 {
-        return Verdict::Ended;
+        return Ok(Verdict::Ended);
     }
     let expected = expected_of(&octets);
-    verdict_of(same_both(&message[..size], &rules[..length], expected, &orig[..count]))
+    let equal = same_both(&message[..size], &rules[..length], expected, &orig[..count]);
+    Ok(verdict_of(equal))
 }

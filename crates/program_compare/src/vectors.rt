@@ -1,15 +1,20 @@
 // Compares reading with the cases of read.bin. A case: message and listing, each after its length in two octets; the originating ID of a
 // refusal after its length in one, 0 for none; 0 or 1 for an invoke ID in the standard answer, and the ID in two's complement.
-ghost use Rattle.std.specs.Prelude.{◌≤◌, length};
+ghost use Rattle.std.specs.Prelude.{◌≤◌, length, IfOk};
 ghost use Rattle.program_parts.specs.Expected.{Tells};
-ghost use Rattle.program_compare.specs.Vectors.{AnswerIs, OutcomeIs, ReadingIs};
+ghost use Rattle.program_parts.specs.Strings.{Loses};
+ghost use Rattle.program_compare.specs.Vectors.{AnswerIs, OutcomeIs, ReadingIs, Compares};
 
 use program_parts::cases::{Verdict, next_short_string, next_string, verdict_of};
 use program_parts::ids::{same_id, same_orig};
+use program_parts::input::read_full;
 use program_parts::same_listing;
 use read::read;
+use std::io;
+use std::io::Read;
 use tcap::{Answer, Outcome, Reading, Refusal};
 
+#[tactic(auto, unfolding(crate::specs::Vectors::AnswerIs))]
 fn same_answer(answer: Answer, given: u8, octet: u8) -> bool
     ensures { Tells result (AnswerIs answer given octet) }
 {
@@ -23,6 +28,7 @@ fn same_answer(answer: Answer, given: u8, octet: u8) -> bool
     }
 }
 
+#[tactic(auto, unfolding(crate::specs::Vectors::OutcomeIs))]
 fn same_refusal(message: &[u8], refusal: Refusal, expected: &[u8], given: u8, octet: u8) -> bool
     ensures { Tells result (OutcomeIs message.now (Outcome.Refused refusal) expected.now given octet) }
 {
@@ -36,6 +42,7 @@ fn same_refusal(message: &[u8], refusal: Refusal, expected: &[u8], given: u8, oc
 }
 
 // A listing has neither of the two IDs that a refusal gives, so these are compared beside it.
+#[tactic(auto, unfolding(crate::specs::Vectors::ReadingIs, crate::specs::Vectors::OutcomeIs))]
 fn same_reading(
     message: &[u8],
     reading: Reading,
@@ -59,17 +66,20 @@ fn same_reading(
 }
 
 // Reads the next case and compares it: where its last two octets came, all of it did.
-pub fn compare_next(fd: i32) -> Verdict {
+pub fn compare_next<R: Read>(input: &mut R) -> io::Result<Verdict>
+    ensures verdict { IfOk result (λ v. Compares (R.remaining input.old) (R.remaining input.new) v) }
+    ensures loses { Loses (R.remaining input.old) (R.remaining input.new) }
+{
     let mut message = [0u8; 4096];
-    let size = next_string(fd, &mut message);
+    let size = next_string(input, &mut message)?;
     let mut text = [0u8; 4096];
-    let length = next_string(fd, &mut text);
+    let length = next_string(input, &mut text)?;
     let mut orig = [0u8; 255];
-    let count = next_short_string(fd, &mut orig);
+    let count = next_short_string(input, &mut orig)?;
     let mut id = [0u8; 2];
-    let got = io::read_full(fd, &mut id);
+    let got = read_full(input, &mut id)?;
     if got < 2 {
-        return Verdict::Ended;
+        return Ok(Verdict::Ended);
     }
     let reading = read(&message[..size]);
     let equal = same_reading(
@@ -80,5 +90,5 @@ pub fn compare_next(fd: i32) -> Verdict {
         id[0],
         id[1],
     );
-    verdict_of(equal)
+    Ok(verdict_of(equal))
 }

@@ -1,2 +1,4 @@
 pub mod Expected
+pub mod Front
+pub mod Strings
 pub mod Tallied

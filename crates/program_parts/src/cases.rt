@@ -1,11 +1,14 @@
 // The cases of a file, one after the other: their strings, what was found of each, and the tally of all.
-ghost use Rattle.std.specs.Prelude.{◌≡◌, ◌+◌, ◌*◌, ◌<◌};
-ghost use Rattle.io.specs.Counts.{IsPrefixLen};
+ghost use Rattle.std.specs.Prelude.{◌≡◌, ◌+◌, ◌*◌, ◌<◌, ◌≤◌, List, ℕ, length, take, IfOk};
+ghost use Rattle.program_parts.specs.Front.{IsPrefixLen};
+ghost use Rattle.program_parts.specs.Strings.{string_octets, short_string_octets, Comes, Loses};
 ghost use Rattle.program_parts.specs.Tallied.{verdict_on, tallied_by};
 
+use crate::input::read_full;
 use crate::{Tally, counted};
 use base::wide;
-use libc::STDOUT_FILENO;
+use std::io;
+use std::io::Read;
 
 // A proved loop has to end, and nothing says that a file does.
 pub const MOST_CASES: u64 = 100000;
@@ -13,7 +16,7 @@ pub const MOST_CASES: u64 = 100000;
 // How many cases that differ are named.
 const MOST_NAMED: u64 = 10;
 
-#[derive(Drop)]
+#[derive(Clone, Copy)]
 pub enum Verdict {
     Same,
     Differs,
@@ -28,44 +31,56 @@ pub fn pair_of(high: u8, low: u8) -> usize
 }
 
 // How many octets came to the front of a buffer: all that were asked for, or none.
-fn next_octets(fd: i32, count: usize, buffer: &mut [u8]) -> usize
-    ensures { IsPrefixLen result buffer.new }
+fn next_octets<R: Read>(input: &mut R, count: usize, buffer: &mut [u8]) -> io::Result<usize>
+    ensures ok { IfOk result (λ n. IsPrefixLen n buffer.new) }
+    ensures octets { IfOk result (λ n. (s : List ℕ) → length s ≡ count → length s ≤ length buffer.old → Comes (R.remaining input.old) (R.remaining input.new) s s (take n buffer.new)) }
+    ensures loses { Loses (R.remaining input.old) (R.remaining input.new) }
+    ensures room { length buffer.new ≡ length buffer.old }
 {
     if buffer.len() < count {
-        return 0;
+        return Ok(0);
     }
-    let got = io::read_full(fd, &mut buffer[..count]);
+    let got = read_full(input, &mut buffer[..count])?;
     if got < count {
-        return 0;
+        return Ok(0);
     }
-    count
+    Ok(count)
 }
 
-pub fn next_string(fd: i32, buffer: &mut [u8]) -> usize
-    ensures { IsPrefixLen result buffer.new }
+// A string after its length in two octets.
+pub fn next_string<R: Read>(input: &mut R, buffer: &mut [u8]) -> io::Result<usize>
+    ensures ok { IfOk result (λ n. IsPrefixLen n buffer.new) }
+    ensures string { IfOk result (λ n. (s : List ℕ) → length s < 65536 → length s ≤ length buffer.old → Comes (R.remaining input.old) (R.remaining input.new) (string_octets s) s (take n buffer.new)) }
+    ensures loses { Loses (R.remaining input.old) (R.remaining input.new) }
+    ensures room { length buffer.new ≡ length buffer.old }
 {
     let mut head = [0u8; 2];
-    let got = io::read_full(fd, &mut head);
+    let got = read_full(input, &mut head)?;
     if got < 2 {
-        return 0;
+        return Ok(0);
     }
     let count = pair_of(head[0], head[1]);
-    next_octets(fd, count, buffer)
+    next_octets(input, count, buffer)
 }
 
-pub fn next_short_string(fd: i32, buffer: &mut [u8]) -> usize
-    ensures { IsPrefixLen result buffer.new }
+// A string after its length in one octet.
+pub fn next_short_string<R: Read>(input: &mut R, buffer: &mut [u8]) -> io::Result<usize>
+    ensures ok { IfOk result (λ n. IsPrefixLen n buffer.new) }
+    ensures string { IfOk result (λ n. (s : List ℕ) → length s < 256 → length s ≤ length buffer.old → Comes (R.remaining input.old) (R.remaining input.new) (short_string_octets s) s (take n buffer.new)) }
+    ensures loses { Loses (R.remaining input.old) (R.remaining input.new) }
+    ensures room { length buffer.new ≡ length buffer.old }
 {
     let mut head = [0u8; 1];
-    let got = io::read_full(fd, &mut head);
+    let got = read_full(input, &mut head)?;
     if got < 1 {
-        return 0;
+        return Ok(0);
     }
     let count = wide(head[0]);
-    next_octets(fd, count, buffer)
+    next_octets(input, count, buffer)
 }
 
 // The verdict on a case.
+#[tactic(auto, unfolding(crate::specs::Tallied::verdict_on))]
 pub fn verdict_of(equal: bool) -> Verdict
     ensures { result ≡ verdict_on equal }
 {
@@ -76,24 +91,28 @@ pub fn verdict_of(equal: bool) -> Verdict
     }
 }
 
-fn name_case(tally: Tally) {
-    if tally.differ < MOST_NAMED {
-        io::write_all(STDOUT_FILENO, b"case ");
-        io::print_decimal(STDOUT_FILENO, tally.compared);
-        io::write_all(STDOUT_FILENO, b" differs\n");
+// Names a case that differs, where `tally` is that of the cases before it.
+pub fn name_case(rt: &impl Print, tally: Tally, verdict: Verdict) -> io::Result<()> {
+    match verdict {
+        Verdict::Differs => {
+            if tally.differ < MOST_NAMED {
+                println!(rt; "case {} differs", tally.compared)?;
+            }
+            Ok(())
+        }
+        Verdict::Same => Ok(()),
+        Verdict::Ended => Ok(()),
     }
 }
 
-// The tally after a verdict; a case that differs is named.
+// The tally after a verdict.
+#[tactic(auto, unfolding(crate::specs::Tallied::tallied_by))]
 pub fn told(tally: Tally, verdict: Verdict) -> Tally
     ensures { result ≡ tallied_by tally verdict }
 {
     match verdict {
         Verdict::Same => counted(tally, true),
-        Verdict::Differs => {
-            name_case(tally);
-            counted(tally, false)
-        }
+        Verdict::Differs => counted(tally, false),
         Verdict::Ended => tally,
     }
 }

@@ -2,10 +2,10 @@
 ghost use Rattle.program_parts.specs.Expected.{Tells, StringIs, OrigIs, IdIs};
 
 use base::piece;
-use check::same;
 use primitive::signed_octet;
 use tcap::{InvokeId, OptionalOrig, Span};
 
+#[tactic(auto, unfolding(crate::specs::Expected::StringIs))]
 fn same_string(message: &[u8], string: Span, expected: &[u8]) -> bool
     ensures { Tells result (StringIs message.now string expected.now) }
 {
@@ -17,9 +17,10 @@ fn same_string(message: &[u8], string: Span, expected: &[u8]) -> bool
     if message.len() - place < len {
         return false;
     }
-    same(piece(message, place, len), expected)
+    piece(message, place, len) == expected
 }
 
+#[tactic(auto, unfolding(crate::specs::Expected::OrigIs))]
 pub fn same_orig(message: &[u8], orig: OptionalOrig, expected: &[u8]) -> bool
     ensures { Tells result (OrigIs message.now orig expected.now) }
 {
@@ -36,6 +37,7 @@ pub fn same_orig(message: &[u8], orig: OptionalOrig, expected: &[u8]) -> bool
     }
 }
 
+#[tactic(auto, unfolding(crate::specs::Expected::IdIs))]
 pub fn same_id(id: InvokeId, given: u8, octet: u8) -> bool
     ensures { Tells result (IdIs id given octet) }
 {

@@ -1,15 +1,17 @@
 // What the programs do with a reading: list it into a buffer, compare its listing with a text, and count the cases.
+#![tactic(auto)]
+
 pub mod cases;
 pub mod ids;
+pub mod input;
 
 ghost use Rattle.std.specs.Prelude.{◌≡◌, true, cond, ◌≤◌, length, leb};
-ghost use Rattle.io.specs.Counts.{IsPrefixLen};
+ghost use Rattle.program_parts.specs.Front.{IsPrefixLen};
 ghost use Rattle.listing.specs.Listing.{listing_of, buffer_after};
 ghost use Rattle.program_parts.specs.Tallied.{one_more, tallied};
 
-use check::same;
-use libc::STDOUT_FILENO;
 use listing::{Listed, list_reading};
+use std::io;
 use tcap::Reading;
 
 // How many octets at the front of the buffer are the listing: none where it has too little room.
@@ -33,12 +35,12 @@ pub fn same_listing(message: &[u8], reading: Reading, expected: &[u8]) -> bool
     let mut text = [0u8; 4096];
     let listed = list_reading(message, reading, &mut text);
     match listed {
-        Listed::Length(size) => same(&text[..size], expected),
+        Listed::Length(size) => &text[..size] == expected,
         Listed::TooLong => false,
     }
 }
 
-#[derive(Drop)]
+#[derive(Clone, Copy)]
 pub struct Tally {
     pub compared: u64,
     pub differ: u64,
@@ -52,6 +54,7 @@ fn more(count: u64) -> u64
 }
 
 // The tally after one more case.
+#[tactic(auto, unfolding(crate::specs::Tallied::tallied))]
 pub fn counted(tally: Tally, equal: bool) -> Tally
     ensures { result ≡ tallied tally equal }
 {
@@ -67,9 +70,6 @@ pub fn counted(tally: Tally, equal: bool) -> Tally
     }
 }
 
-pub fn print_tally(tally: Tally) {
-    io::print_decimal(STDOUT_FILENO, tally.compared);
-    io::write_all(STDOUT_FILENO, b" compared, ");
-    io::print_decimal(STDOUT_FILENO, tally.differ);
-    io::write_all(STDOUT_FILENO, b" differ\n");
+pub fn print_tally(rt: &impl Print, tally: Tally) -> io::Result<()> {
+    println!(rt; "{} compared, {} differ", tally.compared, tally.differ)
 }

@@ -1,7 +1,9 @@
 // Lists the messages of messages.bin, each after its length in two octets, and what the record of one that was read is written as. Each is read once more for
 // every octet of the first argument, and written once more for every octet of the second: by what a run with one octet more costs, bench/ tells what a call costs.
+#![tactic(auto)]
+
 ghost use Rattle.std.specs.Prelude.{◌≡◌, ◌≤◌, length, take};
-ghost use Rattle.io.specs.Counts.{IsPrefixLen};
+ghost use Rattle.program_parts.specs.Front.{IsPrefixLen};
 ghost use Rattle.base.specs.inner.Put.{Put};
 ghost use Rattle.tcap.specs.Reading.{reading};
 ghost use Rattle.writing.specs.Writing.{Writes};
@@ -9,10 +11,13 @@ ghost use Rattle.program_readings.specs.Rewritten.{rewritten, line_of};
 
 use base::{put_octet, put_part};
 use digits::put_hex;
-use libc::STDOUT_FILENO;
 use program_parts::cases::{MOST_CASES, next_string};
 use program_parts::list_into;
 use read::read;
+use std::fs::File;
+use std::io;
+use std::io::Read;
+use std::rt::{Env, Files};
 use tcap::{Outcome, Reading, Record};
 use writer::write;
 use writing::Written;
@@ -72,53 +77,74 @@ fn put_line(out: &mut [u8], octets: &[u8]) -> usize
     put_octet(out, b, b'\n')
 }
 
-fn print_written(octets: &[u8])
+fn print_written(rt: &impl Print, octets: &[u8]) -> io::Result<()>
     requires { length octets.now ≤ 255 }
 {
-    let mut text = io::buffer();
+    let mut text = [0u8; 4096];
     let size = put_line(&mut text, octets);
-    io::write_all(STDOUT_FILENO, &text[..size]);
+    rt.write_all(&text[..size])
 }
 
 // The next message, listed and written: whether there was one.
-fn list_next(fd: i32, reads: usize, writes: usize) -> bool {
+fn list_next<R: Read>(
+    rt: &impl Print,
+    input: &mut R,
+    reads: usize,
+    writes: usize,
+) -> io::Result<bool> {
     let mut message = [0u8; 512];
-    let size = next_string(fd, &mut message);
+    let size = next_string(input, &mut message)?;
     if size == 0 {
-        return false;
+        return Ok(false);
     }
     let found = read_again(&message[..size], reads);
-    let mut text = io::buffer();
+    let mut text = [0u8; 4096];
     let length = list_into(&message[..size], found, &mut text);
-    io::write_all(STDOUT_FILENO, &text[..length]);
+    rt.write_all(&text[..length])?;
     let mut out = [0u8; 255];
     let written = rewrite(&message[..size], found, &mut out, writes);
     if written > 0 {
-        print_written(&out[..written]);
+        print_written(rt, &out[..written])?;
     }
-    true
+    Ok(true)
 }
 
-fn list_all(fd: i32, reads: usize, writes: usize) {
+fn list_all<R: Read>(
+    rt: &impl Print,
+    input: &mut R,
+    reads: usize,
+    writes: usize,
+) -> io::Result<()> {
     let mut left = MOST_CASES;
     while left > 0 {
-        let listed = list_next(fd, reads, writes);
+        let listed = list_next(rt, input, reads, writes)?;
         if !listed {
-            return;
+            return Ok(());
         }
         left -= 1;
     }
+    Ok(())
 }
 
-fn main() {
+// How many octets an argument has: none where it is missing, or longer than 64.
+fn argument_length(rt: &impl Env, i: usize) -> usize {
     let mut word = [0u8; 64];
-    let reads = os::arg(1, &mut word);
-    let writes = os::arg(2, &mut word);
-    let fd = os::open_read(b"messages.bin");
-    if fd < 0 {
-        os::fail(b"messages.bin");
-        return;
+    match rt.arg(i, &mut word) {
+        Ok(size) => size,
+        Err(_) => 0,
     }
-    list_all(fd, reads, writes);
-    libc::close(fd);
+}
+
+// A file that cannot be opened is told on standard error.
+fn list_file<R: Env + Files + Print + Eprint>(rt: &R, name: &str) -> io::Result<()> {
+    let reads = argument_length(rt, 1);
+    let writes = argument_length(rt, 2);
+    match File::open(rt, name) {
+        Ok(mut file) => list_all(rt, &mut file, reads, writes),
+        Err(error) => eprintln!(rt; "{name}: {error}"),
+    }
+}
+
+fn main(rt: HostRuntime) -> io::Result<()> {
+    list_file(&rt, "messages.bin")
 }
