@@ -21,7 +21,7 @@ GROUPS = [
     ("The table of open transactions", ["open_transactions::empty", "open_transactions::step", "table_octets::step_octets",
                                         "table_number::step_number", "c_calls::goldenskep_transaction"]),
 ]
-# crates whose specs/ are inner as a whole: parts of the reader and the writer; beside them the programs, which stand over io
+# crates whose specs/ are inner as a whole: parts of the reader and the writer; beside them the programs, and what these share
 INNER = r"read_\w+|write_\w+|walk|pack|unpack"
 PAGE, PROMISES = "docs/BELIEVED.md", "docs/PROMISES.md"
 TABLES = re.compile(r"(?<=<!-- tools/believed.py --write -->\n).*(?=<!-- end -->)", re.S)
@@ -58,13 +58,13 @@ class File:
         (self.rust if path.endswith(".rt") else self.antt)()
 
     def use(self, line):
-        found = re.match(r"(?:ghost )?(?:unfoldable )?(?:pub )?use Rattle·(\w+)(?:·\w+)?\.(\S+?)\.?\{(.*)\}", line)
+        found = re.match(r"(?:ghost )?(?:unfoldable )?(?:pub )?use Rattle\.(\w+)\.(\S+?)\.?\{(.*)\}", line)
         for each in found.group(3).split(",") if found else ():
             path, _, name = each.strip().partition(" as ")
             place, *module, last = (found.group(2) + "." + path).split(".")
             if module[:1] == ["declared"]:
                 place, module, last = "src", [], [word for word in module + [last] if word[0].isupper()][0]
-            self.brought[(name or path.split(".")[-1]).strip("_")] = found.group(1), place, "/".join(module), last.strip("_")
+            self.brought[(name or path.split(".")[-1]).strip("◌")] = found.group(1), place, "/".join(module), last.strip("◌")
 
     def add(self, *what):
         self.all.append(Definition(self.path, *what))
@@ -89,7 +89,7 @@ class File:
                     now.statement.append(words)
                     made = re.match(r"([^:(){}]+) : ", words)
                     for name in made.group(1).split() if made and now.kind == "data" else ():
-                        self.names.setdefault(name.strip("_"), now)
+                        self.names.setdefault(name.strip("◌"), now)
             elif words.startswith(("use ", "pub use ", "unfoldable pub use ")):
                 self.use(words)
             elif re.match(r"module _|mutual\b", words):
@@ -97,10 +97,10 @@ class File:
                 now = None
             elif found:
                 kind = re.match(r"(?:pub )?(data|record) ", words)
-                now = self.add((found.group(1) or found.group(2)).strip("_"), i, depth, comment, kind and kind.group(1) or "", blocks[-1][1])
+                now = self.add((found.group(1) or found.group(2)).strip("◌"), i, depth, comment, kind and kind.group(1) or "", blocks[-1][1])
                 now.statement.append(words)
                 for name in now.name.split(" "):
-                    self.names.setdefault(name.strip("_"), now)
+                    self.names.setdefault(name.strip("◌"), now)
             elif now is not None and not words.startswith("infix"):
                 now.last = i
                 now.clauses.append("" if words.startswith("unfolding") else words)
@@ -108,7 +108,9 @@ class File:
 
     def rust(self):
         now, comment = None, 0
-        self.types = {name: crate for crate, name in re.findall(r"^use (\w+)::(?:\w+::)*(\w+);", "\n".join(self.text), re.M)}
+        self.types = {}
+        for crate, path in re.findall(r"^(?:pub )?use (\w+)::([^;]*);", "\n".join(self.text), re.M):
+            self.types.update({word: crate for word in re.findall(r"\b[A-Z]\w*", path)})
         for i, line in enumerate(self.text):
             words = line.strip()
             if words.startswith("ghost use"):
@@ -134,8 +136,8 @@ class Tree:
         sources = [file for path, file in self.files.items() if "/src/" in path]
         self.types = {(file.crate, name): each for file in sources for name, each in file.names.items()}
         with open("crates.txt", encoding="utf-8") as source:
-            below = dict(line.split(":") for line in source if ":" in line and not line.startswith("#"))
-        self.crates, self.programs = list(below), [crate for crate, names in below.items() if "io" in names.split()]
+            self.crates = [line.split(":")[0].split()[0] for line in source if ":" in line and not line.startswith("#")]
+        self.programs = ["program_parts"] + [crate for crate in self.crates if f"crates/{crate}/src/main.rt" in self.files]
 
     def find(self, crate, place, module, name):
         if place == "src":
@@ -151,7 +153,7 @@ class Tree:
             bound |= set(WORD.findall(text.split(" = ")[0])[1:]) if " = " in text else set()
             for word in WORD.findall(text):
                 known = file.names if "/src/" not in each.path else {}
-                word = word if word in known or word in file.brought else word.split(".")[0].strip("_")
+                word = word if word in known or word in file.brought else word.split(".")[0].strip("◌")
                 made = known.get(word) or word in file.brought and self.find(*file.brought[word])
                 if made and made.defines() and (made.kind or word[0].isupper() or word not in bound):
                     found.add(made)

@@ -89,13 +89,13 @@ for name in ("read.txt", "05-unknown/read.txt"):
 
 SUMMARY = """-- A reading as a list of numbers. Assumes nothing.
 use Prim.Native.Nat.{ℕ}
-use mathlib.Core.List.{List, [], _∷_, _++_, map}
+use mathlib.Core.List.{List, [], ◌∷◌, ◌++◌}
 use mathlib.Core.Option.{Option, none, some}
-use lib.ListN.{length, take, drop}
+use lib.ListN.{take, drop}
 use lib.IntN.{ℤ, pos, negsuc}
-use Rattle·element.specs.Fault.{numberOf}
-use Rattle·tcap.specs.declared.{Span.Span, OptionalSpan.OptionalSpan, OptionalOrig.OptionalOrig, OptionalDest.OptionalDest, InvokeId.InvokeId, LinkedId.LinkedId, Code.Code, Problem.Problem, Returned.Returned, ComponentKind.ComponentKind, Row.Row, Diagnostic.Diagnostic, Dialogue.Dialogue, MessageKind.MessageKind, Record.Record, Answer.Answer, Refusal.Refusal, Outcome.Outcome, Reading.Reading}
-use Rattle·tcap.proofs.Computing.{outcomeOf}
+use Rattle.element.specs.Fault.{number_of}
+use Rattle.tcap.specs.declared.{Span.Span, OptionalSpan.OptionalSpan, OptionalOrig.OptionalOrig, OptionalDest.OptionalDest, InvokeId.InvokeId, LinkedId.LinkedId, Code.Code, Problem.Problem, Returned.Returned, ComponentKind.ComponentKind, Row.Row, Diagnostic.Diagnostic, Dialogue.Dialogue, MessageKind.MessageKind, Record.Record, Answer.Answer, Refusal.Refusal, Outcome.Outcome}
+use Rattle.tcap.proofs.Computing.{outcome_of}
 
 abbrev pub kind : MessageKind → ℕ
 kind MessageKind.Unidirectional = 0
@@ -108,13 +108,13 @@ abbrev pub signed : ℤ → List ℕ
 signed (pos n) = 0 ∷ n ∷ []
 signed (negsuc n) = 1 ∷ n ∷ []
 
-abbrev pub invokeId : InvokeId → List ℕ
-invokeId InvokeId.Null = 0 ∷ []
-invokeId (InvokeId.Id i) = 1 ∷ signed i
+abbrev pub invoke_id : InvokeId → List ℕ
+invoke_id InvokeId.Null = 0 ∷ []
+invoke_id (InvokeId.Id i) = 1 ∷ signed i
 
-abbrev pub linkedId : LinkedId → List ℕ
-linkedId LinkedId.Unlinked = 0 ∷ []
-linkedId (LinkedId.Linked i) = 1 ∷ signed i
+abbrev pub linked_id : LinkedId → List ℕ
+linked_id LinkedId.Unlinked = 0 ∷ []
+linked_id (LinkedId.Linked i) = 1 ∷ signed i
 
 abbrev pub problem : Problem → List ℕ
 problem (Problem.General n) = 3 ∷ 0 ∷ n ∷ []
@@ -128,14 +128,14 @@ source (Diagnostic.ByProvider n) = 1 ∷ n ∷ []
 
 module _ (m : List ℕ) where
   abbrev pub string : Span → List ℕ
-  string s = s .len ∷ take (s .len) (drop (s .place) m)
+  string s = s.len ∷ take s.len (drop s.place m)
 
   abbrev pub optional : OptionalSpan → List ℕ
   optional OptionalSpan.Absent = 0 ∷ []
   optional (OptionalSpan.Present s) = 1 ∷ string s
 
   abbrev pub parameter : Span → List ℕ
-  parameter s = 1 ∷ s .place ∷ s .len ∷ string s
+  parameter s = 1 ∷ s.place ∷ s.len ∷ string s
 
   abbrev pub parameter? : OptionalSpan → List ℕ
   parameter? OptionalSpan.Absent = 0 ∷ []
@@ -150,15 +150,15 @@ module _ (m : List ℕ) where
   returned (Returned.Both c p) = 0 ∷ (code c ++ parameter p)
 
   abbrev pub row : InvokeId → ComponentKind → List ℕ
-  row i (ComponentKind.Invoke l c p) = 1 ∷ (invokeId i ++ (linkedId l ++ (code c ++ parameter? p)))
-  row i (ComponentKind.ResultLast r) = 2 ∷ (invokeId i ++ returned r)
-  row i (ComponentKind.ResultNotLast r) = 3 ∷ (invokeId i ++ returned r)
-  row i (ComponentKind.ReturnError c p) = 4 ∷ (invokeId i ++ (0 ∷ (code c ++ parameter? p)))
-  row i (ComponentKind.Reject q) = 5 ∷ (invokeId i ++ (0 ∷ (problem q ++ (0 ∷ []))))
+  row i (ComponentKind.Invoke l c p) = 1 ∷ (invoke_id i ++ (linked_id l ++ (code c ++ parameter? p)))
+  row i (ComponentKind.ResultLast r) = 2 ∷ (invoke_id i ++ returned r)
+  row i (ComponentKind.ResultNotLast r) = 3 ∷ (invoke_id i ++ returned r)
+  row i (ComponentKind.ReturnError c p) = 4 ∷ (invoke_id i ++ (0 ∷ (code c ++ parameter? p)))
+  row i (ComponentKind.Reject q) = 5 ∷ (invoke_id i ++ (0 ∷ (problem q ++ (0 ∷ []))))
 
   unfoldable pub rows : List Row → List ℕ
   rows [] = []
-  rows (r ∷ rs) = row (r .id) (r .kind) ++ rows rs
+  rows (r ∷ rs) = row r.id r.kind ++ rows rs
 
   abbrev pub dialogue : Dialogue → List ℕ
   dialogue Dialogue.NoDialogue = 0 ∷ []
@@ -172,23 +172,23 @@ module _ (m : List ℕ) where
 
   abbrev pub orig : OptionalOrig → List ℕ
   orig OptionalOrig.NoOrig = 0 ∷ []
-  orig (OptionalOrig.Orig o) = 1 ∷ string (o .0 .octets)
+  orig (OptionalOrig.Orig o) = 1 ∷ string o.0.octets
 
   abbrev pub dest : OptionalDest → List ℕ
   dest OptionalDest.NoDest = 0 ∷ []
-  dest (OptionalDest.Dest e) = 1 ∷ string (e .0 .octets)
+  dest (OptionalDest.Dest e) = 1 ∷ string e.0.octets
 
   abbrev pub answer : Answer → List ℕ
   answer (Answer.AbortCause n) = 0 ∷ n ∷ []
-  answer (Answer.RejectProblem n k i) = 1 ∷ n ∷ k ∷ invokeId i
+  answer (Answer.RejectProblem n k i) = 1 ∷ n ∷ k ∷ invoke_id i
 
   abbrev pub outcome : Outcome → Record → List ℕ
-  outcome Outcome.Accepted r = 1 ∷ kind (r .kind) ∷ (orig (r .orig) ++ (dest (r .dest) ++ (dialogue (r .dialogue) ++ (r .count ∷ rows (take (r .count) (r .rows))))))
-  outcome (Outcome.Refused f) r = 0 ∷ numberOf (f .kind) ∷ f .place ∷ (answer (f .answer) ++ orig (f .orig))
+  outcome Outcome.Accepted r = 1 ∷ kind r.kind ∷ (orig r.orig ++ (dest r.dest ++ (dialogue r.dialogue ++ (r.count ∷ rows (take r.count r.rows)))))
+  outcome (Outcome.Refused f) r = 0 ∷ number_of f.kind ∷ f.place ∷ (answer f.answer ++ orig f.orig)
 
 unfoldable pub summary : List ℕ → List ℕ
-unfolding outcomeOf rows
-summary m = let r = outcomeOf m in outcome m (r .outcome) (r .message)
+unfolding outcome_of rows
+summary m = let r = outcome_of m in outcome m r.outcome r.message
 """
 
 
@@ -220,21 +220,21 @@ try:
         text = [
             "-- Messages of the vectors, each read as they say. Assumes nothing.",
             "use Prim.Native.Nat.{ℕ}",
-            "use mathlib.Core.Path.{_≡_, refl}",
-            "use mathlib.Core.List.{List, [], _∷_, map}",
-            "use Rattle·bydefinition·proofs.proofs.Summary.{summary}",
+            "use mathlib.Core.Path.{◌≡◌, refl}",
+            "use mathlib.Core.List.{List, [], ◌∷◌, map}",
+            "use Rattle.bydefinition.proofs.Summary.{summary}",
         ]
         for j in range(i, min(i + per * 10, len(rows)), per):
             some = rows[j : j + per]
             text += ["", "abbrev table%d : List (List ℕ × List ℕ)" % j, "table%d =" % j]
             text += ["    %s%s" % ("∷ " if k else "", r) for k, r in enumerate(some)] + ["    ∷ []"]
-            text += ["", "pub read%d : map (λ (r : List ℕ × List ℕ). summary (r .0)) table%d ≡ map (λ (r : List ℕ × List ℕ). r .1) table%d" % (j, j, j)]
+            text += ["", "pub read%d : map (λ (r : List ℕ × List ℕ). summary r.0) table%d ≡ map (λ (r : List ℕ × List ℕ). r.1) table%d" % (j, j, j)]
             text += ["unfolding summary", "read%d = refl" % j]
         open(os.path.join(d, "proofs", name + ".antt"), "w").write("\n".join(text) + "\n")
         files.append(name)
     open(os.path.join(d, "proofs", "Lib.antt"), "w").write("pub mod Summary\n" + "".join("pub mod %s\n" % f for f in files))
     open(os.path.join(top, "crates.txt"), "w").write(listed + "bydefinition: tcap element base\n")
-    done = subprocess.run(["rt", "check", "bydefinition"], cwd=top, env=dict(os.environ, RT_CUT="600"))
+    done = subprocess.run(["rt", "check"], cwd=d)
     print("%d messages, %d of them refused: %s" % (len(rows), told, "all as the vectors say" if done.returncode == 0 else "NOT all as the vectors say"))
     sys.exit(done.returncode)
 finally:

@@ -34,6 +34,11 @@ module _ (r : Record) (m out : List ℕ) where
   pub writes_length : {w : Written} {new : List ℕ} → Writes r m out w new → length new ≡ length out
   writes_length x = ap length x.holds ∙ (kept (writing r m (length out)) refl).0
 
+  pub writes_same : {w : Written} {new : List ℕ} → Writes r m out w new → Writes r m new w new
+  writes_same x =
+      let (l, k) = kept (writing r m (length out)) refl in
+      record { answers = x.answers ∙ ap (writing r m) (sym (ap length x.holds ∙ l)); holds = x.holds ∙ sym k ∙ ap (leaves r m) (sym x.holds) }
+
   pub writes_again : {v w : Written} {mid new : List ℕ} → Writes r m out v mid → Writes r m mid w new → Writes r m out w new
   writes_again x y =
       let (l, k) = kept (writing r m (length out)) refl in

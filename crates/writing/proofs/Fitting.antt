@@ -1,7 +1,5 @@
 -- By their types the code's records have 16 rows, and each number the width of its type: so a function knows it of a parameter. Assumes nothing.
-use mathlib.Core.Path.{sym, ◌∙◌}
 use mathlib.Core.List.{List, [], ◌∷◌}
-use lib.ListN.{length-map}
 use mir.Val.{Val}
 use denote.Laws.{Is}
 use Rattle.base.specs.Value.{Every}

@@ -14,7 +14,7 @@ use Rattle.base.specs.Value.{same}
 use Rattle.primitive.specs.Primitive.{identifier_ok, most_identifier_octets}
 use Rattle.tcap.specs.Meaning.{structured, unstructured}
 use Rattle.tcap.specs.WellFormed.{most_transaction_id_octets, the93, left_at}
-use Rattle.tcap.specs.Verdict.{every, ranges, lies, is_element, is_series, string_octets}
+use Rattle.tcap.specs.Verdict.{ranges, lies, is_element, is_series, string_octets}
 use Rattle.writing.specs.Reasons.{must, may, never, Wanted, transaction, identifier, outside, series, anything, element, Part, there, number, signed, string, Misfit, LengthOff, RangeOff, Shaped, EndOff, ShapeOff, Any}
 use Rattle.writing.proofs.Testing.{element_is, series_is}
 

@@ -1,26 +1,23 @@
 -- The record that octets stand for: the rows that count are those that are looked at, and the judgment of the rows tells their size.
 -- Assumes nothing.
-use Prim.Native.Nat.{ℕ, zero, suc, ◌+◌, ◌-◌, ◌≤◌, ◌<◌, min}
+use Prim.Native.Nat.{ℕ, zero, suc, ◌-◌, ◌≤◌, ◌<◌, min}
 use native.Mathlib.Omega.{arith}
 use mathlib.Core.Path.{◌≡◌, refl, sym, ap, ◌∙◌}
 use mathlib.Core.Bool.{Bool, true, false, cond, false≢true}
-use mathlib.Core.List.{List, [], ◌∷◌, ◌++◌, append-nil}
+use mathlib.Core.List.{List, ◌++◌, append-nil}
 use lib.ListN.{length, drop, replicate, length-append, length-replicate}
 use lib.Seq.{take_at, take_all}
 use lib.Dec.{leb, eqb}
-use borrow.Author.Tests.{le-leb, lt-leb, leb-true, leb-false, eqb-true, ne_eqb}
+use borrow.Author.Tests.{le-leb, lt-leb, leb-true, leb-false, ne_eqb}
 use Rattle.base.specs.Number.{top_of, signed_at, holds}
 use Rattle.base.specs.Value.{Every}
 use Rattle.base.proofs.Numbers.{signed_small, small_holds}
-use Rattle.element.specs.Form.{series_form}
-use Rattle.tcap.specs.declared.{Span.Span, InvokeId.InvokeId, LinkedId.LinkedId, Code.Code, Returned.Returned, Row.Row, Record.Record}
-use Rattle.tcap.specs.WellFormed.{most_octets}
+use Rattle.tcap.specs.declared.{Span.Span, InvokeId.InvokeId, LinkedId.LinkedId, Code.Code, Returned.Returned, Row.Row}
 use Rattle.tcap.specs.Record.{blank_row}
 use Rattle.write_check_row.specs.declared.Judged.{Judged}
-use Rattle.tcap.specs.Verdict.{every, counted, row_lies, all_parts, all_ranges, all_lie, all_shaped}
-use Rattle.write_check_row.specs.Forms.{row_form, record_form}
-use Rattle.write_check_row.specs.Judged.{rank_of, size_cap, judged, listed, joined, whole_size, wrapped, size_of, rows_rank, rows_judged}
-use Rattle.write_check_row.proofs.Rows.{rows_none}
+use Rattle.tcap.specs.Verdict.{counted, all_parts, all_ranges, all_lie, all_shaped}
+use Rattle.write_check_row.specs.Forms.{record_form}
+use Rattle.write_check_row.specs.Judged.{rank_of, judged, listed, wrapped, size_of, rows_judged}
 use Rattle.write_check.specs.Judgements.{portion_of, message_judged}
 use Rattle.write_check.proofs.Messages.{portion_law, record_law, message_bad}
 use Rattle.layout.specs.Layout.{head_size, row_size, most_rows, record_size, octet, number_at, span_at, id_in, linked_in, code_in, returned_in, kind_in, row_in, rows_in, rows_held, rows_looked, are_rows, is_head, is_record, record_in}
@@ -31,7 +28,7 @@ use Rattle.writing.specs.Writing.{Writes, CodeTyped, ReturnedTyped, KindTyped, R
 use Rattle.writing.specs.inner.Ranks.{fault_at}
 use Rattle.writing.specs.Octets.{writing_octets, leaves_octets}
 use Rattle.writing.proofs.Answers.{bad_writes}
-use Rattle.writing.proofs.Judgements.{fine_tells, bad_tells}
+use Rattle.writing.proofs.Judgements.{bad_tells}
 
 -- Of enough octets, a head and rows are a record
 module _ (l : List ℕ) (long : record_size ≤ length l) where
