@@ -1,4 +1,6 @@
 // The calls for C, on octets and numbers: docs/LAYOUT.md. Each is one call, of the function that is proved in the crate it names.
+#![tactic(auto)]
+
 ghost use Rattle.std.specs.Prelude.{◌≡◌};
 ghost use Rattle.c_read.specs.Read.{read_answer, read_room};
 ghost use Rattle.c_write.specs.Write.{write_answer};

@@ -1,4 +1,6 @@
 // The version of the layout for C, and the sizes of a rule and a record: docs/LAYOUT.md.
+#![tactic(auto)]
+
 ghost use Rattle.std.specs.Prelude.{◌≡◌};
 ghost use Rattle.c_layout.specs.Sizes.{layout_bits};
 

@@ -1,4 +1,6 @@
 // A listing for C: docs/LAYOUT.md.
+#![tactic(auto)]
+
 ghost use Rattle.std.specs.Prelude.{◌≡◌};
 ghost use Rattle.c_list.specs.List.{listed_bits, list_answer, list_room};
 

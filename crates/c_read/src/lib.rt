@@ -1,4 +1,6 @@
 // A reading for C: docs/LAYOUT.md.
+#![tactic(auto)]
+
 ghost use Rattle.std.specs.Prelude.{◌≡◌};
 ghost use Rattle.c_read.specs.Read.{read_answer, read_room};
 

@@ -1,4 +1,6 @@
 // A steering for C: docs/LAYOUT.md.
+#![tactic(auto)]
+
 ghost use Rattle.std.specs.Prelude.{◌≡◌};
 ghost use Rattle.c_steer.specs.Steer.{steered_bits, steer_answer};
 

@@ -1,4 +1,6 @@
 // A writing for C: docs/LAYOUT.md.
+#![tactic(auto)]
+
 ghost use Rattle.std.specs.Prelude.{◌≡◌};
 ghost use Rattle.writing.specs.Octets.{leaves_octets};
 ghost use Rattle.writing.specs.Writing.{write_number};

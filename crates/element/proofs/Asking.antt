@@ -14,10 +14,10 @@ use Rattle.element.specs.declared.FaultKind.{FaultKind}
 use Rattle.element.specs.Fault.{Fault, at}
 use Rattle.element.specs.declared.FaultKind.TheVariants.{CutOff, Missing, CodeZero, TooDeep, Seventeenth}
 use Rattle.element.specs.declared.TagRead.{TagRead}
-use Rattle.element.specs.declared.TagRead.TheVariants.{Fault as tagFault, Tag as tag}
+use Rattle.element.specs.declared.TagRead.TheVariants.{Fault as tag_fault, Tag as tag}
 use Rattle.element.specs.Head.{tag_of, length_of, end_of}
 use Rattle.element.specs.declared.LengthRead.{LengthRead}
-use Rattle.element.specs.declared.LengthRead.TheVariants.{Fault as lengthFault, Definite as known, Indefinite as endless}
+use Rattle.element.specs.declared.LengthRead.TheVariants.{Fault as length_fault, Definite as known, Indefinite as endless}
 use Rattle.element.specs.declared.EndRead.{EndRead}
 use Rattle.element.specs.declared.EndRead.TheVariants.{Ended as ended, Unfinished as unfinished, More as more}
 use Rattle.element.specs.Ask.{Got, got, bad, next, check, blamed, definite, indefinite, Head, head, Body, ask_length, ask_tag, at_end, ask_end, ask}
@@ -109,7 +109,7 @@ module _ {A : Type 0} (b : Body A) (d : Bool) (p : ℕ) (part : List ℕ) where
     ask_full f = rw (m, f)
 
     module _ (f : b.full ≡ false) where
-      pub ask_tag_lem : (k : FaultKind) → tag_of part ≡ tagFault k → ask b d p part ≡ bad (b.owner (at k p))
+      pub ask_tag_lem : (k : FaultKind) → tag_of part ≡ tag_fault k → ask b d p part ≡ bad (b.owner (at k p))
       unfolding ask ask_end ask_tag check
       ask_tag_lem k t = rw (m, f, t)
 
@@ -127,7 +127,7 @@ module _ {A : Type 0} (b : Body A) (d : Bool) (p : ℕ) (part : List ℕ) where
           unfolding ask ask_end ask_tag check
           ask_other v o = rw (m, f, t, z, v, o)
 
-          pub ask_length_lem : (k : FaultKind) → ltb 0 b.left ≡ true → b.mine a ≡ true → length_of (drop s part) (constructor_of a) ≡ lengthFault k → ask b d p part ≡ bad (b.owner (at k p))
+          pub ask_length_lem : (k : FaultKind) → ltb 0 b.left ≡ true → b.mine a ≡ true → length_of (drop s part) (constructor_of a) ≡ length_fault k → ask b d p part ≡ bad (b.owner (at k p))
           unfolding ask ask_end ask_tag ask_length check
           ask_length_lem k v o l = rw (m, f, t, z, v, o, l)
 
@@ -140,13 +140,13 @@ module _ {A : Type 0} (P : A → ℕ → Type 0) (b : Body A) (d : Bool) (p : �
     (goes : (h : Head) → HeadOf part h → b.mine (first_of h) ≡ true → Then P (b.goes d h p part)) where
   length_asked : (a s : ℕ) → tag_of part ≡ tag a s → code_zero a ≡ false → b.mine a ≡ true → (l : LengthRead) → length_of (drop s part) (constructor_of a) ≡ l → Then P (ask_length b d p part a s l)
   unfolding ask_length
-  length_asked a s t z m (lengthFault k) e = void
+  length_asked a s t z m (length_fault k) e = void
   length_asked a s t z m (known k n) e = goes (head a (s + k) (definite n)) (finite a s k n t z e) m
   length_asked a s t z m endless e = goes (head a (s + 1) indefinite) (unended a s t z e) m
 
   pub tag_asked : (t : TagRead) → tag_of part ≡ t → Then P (ask_tag b d p part t)
   unfolding ask_tag
-  tag_asked (tagFault k) e = void
+  tag_asked (tag_fault k) e = void
   tag_asked (tag a s) e =
       then_check (not (code_zero a)) _ λ z. then_check (ltb 0 b.left) _ λ v. then_check (b.mine a) _ λ m.
       length_asked a s e (not_true (code_zero a) z) m (length_of (drop s part) (constructor_of a)) refl

@@ -14,9 +14,9 @@ use Rattle.element.specs.Fault.{number_of, Fault, at}
 use Rattle.element.specs.declared.FaultKind.{FaultKind}
 use Rattle.element.specs.declared.FaultKind.TheVariants.{CutOff, CodeZero, TooDeep, Missing, Seventeenth}
 use Rattle.element.specs.declared.TagRead.{TagRead}
-use Rattle.element.specs.declared.TagRead.TheVariants.{Fault as tagFault, Tag as tag}
+use Rattle.element.specs.declared.TagRead.TheVariants.{Fault as tag_fault, Tag as tag}
 use Rattle.element.specs.declared.LengthRead.{LengthRead}
-use Rattle.element.specs.declared.LengthRead.TheVariants.{Fault as lengthFault, Definite as known, Indefinite as endless}
+use Rattle.element.specs.declared.LengthRead.TheVariants.{Fault as length_fault, Definite as known, Indefinite as endless}
 use Rattle.element.specs.declared.EndRead.{EndRead}
 use Rattle.element.specs.declared.EndRead.TheVariants.{Ended as ended, Unfinished as unfinished, More as more}
 use Rattle.element.specs.Head.{first, second, third, tag_of, within, long_of, length_of, end_of}
@@ -64,7 +64,7 @@ abbrev pub Plain : FaultKind → Type 0
 Plain k = outer (number_of k) ≡ false
 
 abbrev TagPlain : TagRead → Type 0
-TagPlain (tagFault k) = Plain k
+TagPlain (tag_fault k) = Plain k
 TagPlain (tag a s) = Unit {0}
 
 tag_plain : (part : List ℕ) → TagPlain (tag_of part)
@@ -82,7 +82,7 @@ tag_plain part =
     cond_all TagPlain (ltb (get_or part 3 0) 128) _ _ (λ _. tt) (λ _. refl)) (λ _. tt)
 
 abbrev LengthPlain : LengthRead → Type 0
-LengthPlain (lengthFault k) = Plain k
+LengthPlain (length_fault k) = Plain k
 LengthPlain (known k n) = Unit {0}
 LengthPlain endless = Unit {0}
 
@@ -108,13 +108,13 @@ module _ {A : Type 0} {P : A → ℕ → Type 0} {Q : Fault → Type 0} (b : Bod
     (goes : (h : Head) → HeadOf part h → b.full ≡ false → b.mine (first_of h) ≡ true → Ends P Q (b.goes d h p part)) where
   length_ends : (a s : ℕ) → tag_of part ≡ tag a s → code_zero a ≡ false → b.full ≡ false → b.mine a ≡ true → (l : LengthRead) → length_of (drop s part) (constructor_of a) ≡ l → Ends P Q (ask_length b d p part a s l)
   unfolding ask_length
-  length_ends a s t z f m (lengthFault k) e = let g : LengthPlain (lengthFault k) = rw e at (length_plain (drop s part) (constructor_of a)) in failed (owned f _ (found k g))
+  length_ends a s t z f m (length_fault k) e = let g : LengthPlain (length_fault k) = rw e at (length_plain (drop s part) (constructor_of a)) in failed (owned f _ (found k g))
   length_ends a s t z f m (known k n) e = goes (head a (s + k) (definite n)) (finite a s k n t z e) f m
   length_ends a s t z f m endless e = goes (head a (s + 1) indefinite) (unended a s t z e) f m
 
   tag_ends : b.full ≡ false → (t : TagRead) → tag_of part ≡ t → Ends P Q (ask_tag b d p part t)
   unfolding ask_tag number_of
-  tag_ends f (tagFault k) e = let g : TagPlain (tagFault k) = rw e at (tag_plain part) in failed (owned f _ (found k g))
+  tag_ends f (tag_fault k) e = let g : TagPlain (tag_fault k) = rw e at (tag_plain part) in failed (owned f _ (found k g))
   tag_ends f (tag a s) e =
       ends_check (not (code_zero a)) _ (λ _. owned f _ (found CodeZero refl)) λ z.
       ends_check (ltb 0 b.left) _ (λ _. owned f _ (found TooDeep refl)) λ v.

@@ -14,10 +14,10 @@ use Rattle.base.specs.Number.{number_from}
 use Rattle.element.specs.Element.{IsTag, extended_of}
 use Rattle.element.specs.declared.FaultKind.TheVariants.{CutOff, BadTag, BadLength}
 use Rattle.element.specs.declared.TagRead.{TagRead}
-use Rattle.element.specs.declared.TagRead.TheVariants.{Fault as tagFault, Tag as tag}
+use Rattle.element.specs.declared.TagRead.TheVariants.{Fault as tag_fault, Tag as tag}
 use Rattle.element.specs.Head.{third, second, first, tag_of, within, long_of, length_of}
 use Rattle.element.specs.declared.LengthRead.{LengthRead}
-use Rattle.element.specs.declared.LengthRead.TheVariants.{Fault as lengthFault, Definite as known, Indefinite as endless}
+use Rattle.element.specs.declared.LengthRead.TheVariants.{Fault as length_fault, Definite as known, Indefinite as endless}
 
 -- by cases on a test, with what the test says
 pub cond_all {ℓ} : {A : Type ℓ} (P : A → Type 0) (b : Bool) (x y : A) → (b ≡ true → P x) → (b ≡ false → P y) → P (cond b x y)
@@ -31,7 +31,7 @@ pub tag_plain : (a : ℕ) (r : List ℕ) → tag_of (a ∷ r) ≡ cond (extended
 unfolding tag_of
 tag_plain a r = rw (ne_eqb (length (a ∷ r)) 0 (λ q. omega arith))
 
-pub tag_first : (a x : ℕ) (r : List ℕ) → first (a ∷ x ∷ r) ≡ cond (eqb x 128) (tagFault BadTag) (cond (ltb x 31) (tagFault BadTag) (cond (ltb x 128) (tag a 2) (second (a ∷ x ∷ r))))
+pub tag_first : (a x : ℕ) (r : List ℕ) → first (a ∷ x ∷ r) ≡ cond (eqb x 128) (tag_fault BadTag) (cond (ltb x 31) (tag_fault BadTag) (cond (ltb x 128) (tag a 2) (second (a ∷ x ∷ r))))
 unfolding first
 tag_first a x r = rw (lt-leb (length (a ∷ x ∷ r)) 1 (omega arith))
 
@@ -39,7 +39,7 @@ pub tag_second : (a x y : ℕ) (r : List ℕ) → second (a ∷ x ∷ y ∷ r) �
 unfolding second
 tag_second a x y r = rw (lt-leb (length (a ∷ x ∷ y ∷ r)) 2 (omega arith))
 
-pub tag_third : (a x y z : ℕ) (r : List ℕ) → third (a ∷ x ∷ y ∷ z ∷ r) ≡ cond (ltb z 128) (tag a 4) (tagFault BadTag)
+pub tag_third : (a x y z : ℕ) (r : List ℕ) → third (a ∷ x ∷ y ∷ z ∷ r) ≡ cond (ltb z 128) (tag a 4) (tag_fault BadTag)
 unfolding third
 tag_third a x y z r = rw (lt-leb (length (a ∷ x ∷ y ∷ z ∷ r)) 3 (omega arith))
 
@@ -56,7 +56,7 @@ tag_complete a (x ∷ y ∷ z ∷ w ∷ r) rest h = absurd h
 
 -- what a tag says of the octets it was read from
 unfoldable pub TagIs : List ℕ → TagRead → Type 0
-TagIs part (tagFault k) = Unit {0}
+TagIs part (tag_fault k) = Unit {0}
 TagIs part (tag a s) = (x : List ℕ) × (r : List ℕ) × (part ≡ a ∷ (x ++ r)) × IsTag a x × (s ≡ suc (length x))
 
 third_is : (a x y : ℕ) (r : List ℕ) → extended_of a ≡ true → 129 ≤ x → 128 ≤ y → TagIs (a ∷ x ∷ y ∷ r) (third (a ∷ x ∷ y ∷ r))
@@ -94,14 +94,14 @@ within_known size n room h = rw (le-leb n room h)
 
 -- what `length_of` gives, by its first octet
 pub length_cons : (b : ℕ) (r : List ℕ) (c : Bool) → length_of (b ∷ r) c
-    ≡ cond (ltb b 128) (within 1 b (length r)) (cond (leb 255 b) (lengthFault BadLength) (cond (eqb b 128) (cond c endless (lengthFault BadLength)) (long_of (b ∷ r) (b - 128))))
+    ≡ cond (ltb b 128) (within 1 b (length r)) (cond (leb 255 b) (length_fault BadLength) (cond (eqb b 128) (cond c endless (length_fault BadLength)) (long_of (b ∷ r) (b - 128))))
 unfolding length_of
 length_cons b r c =
     let e : length (b ∷ r) - 1 ≡ length r = omega arith in
     rw (ne_eqb (length (b ∷ r)) 0 (λ q. omega arith), e)
 
 pub long_cons : (b : ℕ) (r : List ℕ) (k : ℕ) → long_of (b ∷ r) k
-    ≡ cond (ltb (length r) k) (lengthFault CutOff) (cond (fewest_of (get_or r 0 0) k) (within (suc k) (number_from 0 (take k r)) (length r - k)) (lengthFault BadLength))
+    ≡ cond (ltb (length r) k) (length_fault CutOff) (cond (fewest_of (get_or r 0 0) k) (within (suc k) (number_from 0 (take k r)) (length r - k)) (length_fault BadLength))
 unfolding long_of
 long_cons b r k = let e : length (b ∷ r) - 1 ≡ length r = omega arith in rw e
 
@@ -128,7 +128,7 @@ pub length_endless : (rest : List ℕ) → length_of (0x80 ∷ rest) true ≡ en
 length_endless rest = length_cons 0x80 rest true
 
 unfoldable pub LengthIs : List ℕ → Bool → LengthRead → Type 0
-LengthIs p c (lengthFault k) = Unit {0}
+LengthIs p c (length_fault k) = Unit {0}
 LengthIs p c (known k n) = StandsFor (take k p) n × (k + n ≤ length p)
 LengthIs p c endless = (c ≡ true) × ((r : List ℕ) × (p ≡ 0x80 ∷ r))
 

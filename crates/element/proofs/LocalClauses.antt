@@ -16,9 +16,9 @@ use Rattle.element.specs.Fault.{Fault, fault, at}
 use Rattle.element.specs.declared.FaultKind.{FaultKind}
 use Rattle.element.specs.declared.FaultKind.TheVariants.{CutOff, TooDeep, CodeZero, NoMessage, OctetsAfter, Overlong, Missing, Another, TooMany, BadContents, Seventeenth, UnknownComponent}
 use Rattle.element.specs.declared.TagRead.{TagRead}
-use Rattle.element.specs.declared.TagRead.TheVariants.{Fault as tagFault, Tag as tag}
+use Rattle.element.specs.declared.TagRead.TheVariants.{Fault as tag_fault, Tag as tag}
 use Rattle.element.specs.declared.LengthRead.{LengthRead}
-use Rattle.element.specs.declared.LengthRead.TheVariants.{Fault as lengthFault, Definite as known, Indefinite as endless}
+use Rattle.element.specs.declared.LengthRead.TheVariants.{Fault as length_fault, Definite as known, Indefinite as endless}
 use Rattle.element.specs.declared.EndRead.{EndRead}
 use Rattle.element.specs.declared.EndRead.TheVariants.{Ended as ended, Unfinished as unfinished, More as more}
 use Rattle.element.specs.Head.{tag_of, length_of, end_of}
@@ -46,13 +46,13 @@ pub data Looked : FaultKind → List ℕ → Type 0 where
   -- 1: no end pair, or 00 alone
   no_pair : {w : List ℕ} → (w ≡ []) ⊎ (w ≡ 0 ∷ []) → Looked CutOff w
   -- 1, 2: a tag that is a fault
-  in_tag : {k : FaultKind} {w : List ℕ} → tag_of w ≡ tagFault k → length w ≤ 4 → Looked k w
+  in_tag : {k : FaultKind} {w : List ℕ} → tag_of w ≡ tag_fault k → length w ≤ 4 → Looked k w
   -- 6: code 0, and the octet that could make it an end pair
   zero_tag : {w : List ℕ} → length w ≤ 2 → Looked CodeZero w
   -- 5, 13, 15, 16: the tag
   at_tag : {k : FaultKind} {w : List ℕ} (a : ℕ) → OfTag k → tag_of w ≡ tag a (length w) → Looked k w
   -- 1, 3, 4: the tag and a length that is a fault
-  in_length : {k : FaultKind} {w : List ℕ} (a s : ℕ) → tag_of w ≡ tag a s → length_of (drop s w) (constructor_of a) ≡ lengthFault k → length (drop s w) ≤ length_reach (get_or (drop s w) 0 0) → Looked k w
+  in_length : {k : FaultKind} {w : List ℕ} (a s : ℕ) → tag_of w ≡ tag a s → length_of (drop s w) (constructor_of a) ≡ length_fault k → length (drop s w) ≤ length_reach (get_or (drop s w) 0 0) → Looked k w
   -- 11: the whole element
   in_contents : {w : List ℕ} (a u n : ℕ) → HeadOf w (head a u (definite n)) → u + n ≡ length w → Looked BadContents w
   -- 7, 9: the number of octets, the end of the message
@@ -226,7 +226,7 @@ module _ {A : Type 0} (b : Body A) (d : Bool) (p : ℕ) (part : List ℕ) (e : �
 
   at_length : (a s : ℕ) → tag_of part ≡ tag a s → code_zero a ≡ false → b.full ≡ false → ltb 0 b.left ≡ true → b.mine a ≡ true → (l : LengthRead) → length_of (drop s part) (constructor_of a) ≡ l → Asks 1 (ask_length b d p part a s l)
   unfolding ask_length
-  at_length a s h z f v o (lengthFault k) e =
+  at_length a s h z f v o (length_fault k) e =
       let y : LengthFaulty (drop s part) (constructor_of a) k = length_faulty (drop s part) (constructor_of a) k e in
       let q : ℕ = y.looks in
       let g : drop s (take (s + q) part) ≡ take q (drop s part) = sym (take_behind s q part) in
@@ -240,7 +240,7 @@ module _ {A : Type 0} (b : Body A) (d : Bool) (p : ℕ) (part : List ℕ) (e : �
 
   at_tag_lem : end_of d part ≡ more → b.full ≡ false → (t : TagRead) → tag_of part ≡ t → Asks 1 (ask_tag b d p part t)
   unfolding ask_tag
-  at_tag_lem m f (tagFault k) h =
+  at_tag_lem m f (tag_fault k) h =
       let y : TagFaulty d part k = tag_faulty d part k m h in
       owned k y.looks f (in_tag y.shown (omega (arith, y.most, length-take y.looks part))) y.least y.there (λ t r i. let n = y.alike t r i in ask_tag_lem b d p t n.0 f k n.1)
   at_tag_lem m f (tag a s) h =

@@ -17,9 +17,9 @@ use Rattle.element.specs.Element.{extended_of}
 use Rattle.element.specs.declared.FaultKind.{FaultKind}
 use Rattle.element.specs.declared.FaultKind.TheVariants.{CutOff, BadTag, BadLength, PassesEnd}
 use Rattle.element.specs.declared.TagRead.{TagRead}
-use Rattle.element.specs.declared.TagRead.TheVariants.{Fault as tagFault, Tag as tag}
+use Rattle.element.specs.declared.TagRead.TheVariants.{Fault as tag_fault, Tag as tag}
 use Rattle.element.specs.declared.LengthRead.{LengthRead}
-use Rattle.element.specs.declared.LengthRead.TheVariants.{Fault as lengthFault, Definite as known, Indefinite as endless}
+use Rattle.element.specs.declared.LengthRead.TheVariants.{Fault as length_fault, Definite as known, Indefinite as endless}
 use Rattle.element.specs.declared.EndRead.TheVariants.{Ended as ended, More as more}
 use Rattle.element.specs.Head.{third, second, first, tag_of, within, length_of, end_of}
 use Rattle.element.proofs.Heads.{tag_plain, tag_first, tag_second, tag_third, tag_complete, TagIs, tag_sound, length_cons, long_cons, take_first, length_complete, length_endless, LengthIs, length_sound}
@@ -112,17 +112,17 @@ more_alike false (x ∷ y ∷ r) h = by_first (eqb x 0) refl
 
 -- why a tag is a fault: it is cut off within 4 octets, or its first octets are bad, whatever follows them
 unfoldable pub TagWrong : List ℕ → TagRead → Type 0
-TagWrong s (tagFault k) = (length s ≤ 3) ⊎ ((a : ℕ) × (w : List ℕ) × (rest : List ℕ) × (s ≡ (a ∷ w) ++ rest) × (extended_of a ≡ true) × (length w ≤ 3) × ((r : List ℕ) → tag_of ((a ∷ w) ++ r) ≡ tagFault k))
+TagWrong s (tag_fault k) = (length s ≤ 3) ⊎ ((a : ℕ) × (w : List ℕ) × (rest : List ℕ) × (s ≡ (a ∷ w) ++ rest) × (extended_of a ≡ true) × (length w ≤ 3) × ((r : List ℕ) → tag_of ((a ∷ w) ++ r) ≡ tag_fault k))
 TagWrong s (tag a n) = Unit {0}
 
 module _ (a : ℕ) (e : extended_of a ≡ true) where
-  bad_80 : (x : ℕ) (r : List ℕ) → eqb x 128 ≡ true → tag_of (a ∷ x ∷ r) ≡ tagFault BadTag
+  bad_80 : (x : ℕ) (r : List ℕ) → eqb x 128 ≡ true → tag_of (a ∷ x ∷ r) ≡ tag_fault BadTag
   bad_80 x r h = tag_plain a (x ∷ r) ∙ rw (e, tag_first a x r, h)
 
-  bad_low : (x : ℕ) (r : List ℕ) → eqb x 128 ≡ false → ltb x 31 ≡ true → tag_of (a ∷ x ∷ r) ≡ tagFault BadTag
+  bad_low : (x : ℕ) (r : List ℕ) → eqb x 128 ≡ false → ltb x 31 ≡ true → tag_of (a ∷ x ∷ r) ≡ tag_fault BadTag
   bad_low x r h i = tag_plain a (x ∷ r) ∙ rw (e, tag_first a x r, h, i)
 
-  bad_long : (x y z : ℕ) (r : List ℕ) → eqb x 128 ≡ false → ltb x 31 ≡ false → ltb x 128 ≡ false → ltb y 128 ≡ false → ltb z 128 ≡ false → tag_of (a ∷ x ∷ y ∷ z ∷ r) ≡ tagFault BadTag
+  bad_long : (x y z : ℕ) (r : List ℕ) → eqb x 128 ≡ false → ltb x 31 ≡ false → ltb x 128 ≡ false → ltb y 128 ≡ false → ltb z 128 ≡ false → tag_of (a ∷ x ∷ y ∷ z ∷ r) ≡ tag_fault BadTag
   bad_long x y z r h i j k l = tag_plain a (x ∷ y ∷ z ∷ r) ∙ rw (e, tag_first a x (y ∷ z ∷ r), h, i, j, tag_second a x y (z ∷ r), k, tag_third a x y z r, l)
 
   third_wrong : (x y : ℕ) (r : List ℕ) → eqb x 128 ≡ false → ltb x 31 ≡ false → ltb x 128 ≡ false → ltb y 128 ≡ false → TagWrong (a ∷ x ∷ y ∷ r) (third (a ∷ x ∷ y ∷ r))
@@ -173,14 +173,14 @@ pub record TagFaulty (d : Bool) (s : List ℕ) (k : FaultKind) : Type 0 where
   pub least : 1 ≤ looks
   pub most : looks ≤ 4
   pub there : looks ≤ length s
-  pub shown : tag_of (take looks s) ≡ tagFault k
-  pub alike : (t : List ℕ) → length t ≡ length s → Alike looks s t → (end_of d t ≡ more) × (tag_of t ≡ tagFault k)
+  pub shown : tag_of (take looks s) ≡ tag_fault k
+  pub alike : (t : List ℕ) → length t ≡ length s → Alike looks s t → (end_of d t ≡ more) × (tag_of t ≡ tag_fault k)
 
-pub tag_faulty : (d : Bool) (s : List ℕ) (k : FaultKind) → end_of d s ≡ more → tag_of s ≡ tagFault k → TagFaulty d s k
+pub tag_faulty : (d : Bool) (s : List ℕ) (k : FaultKind) → end_of d s ≡ more → tag_of s ≡ tag_fault k → TagFaulty d s k
 unfolding TagWrong
 tag_faulty d s k m h = by_cause (rw h at (tag_wrong s))
   where
-    by_cause : TagWrong s (tagFault k) → TagFaulty d s k
+    by_cause : TagWrong s (tag_fault k) → TagFaulty d s k
     by_cause (inl l) =
         record {
           looks = length s;
@@ -199,7 +199,7 @@ tag_faulty d s k m h = by_cause (rw h at (tag_wrong s))
           there = n;
           shown = rw (q, take-append_seam (a ∷ w) rest) (rw append-nil at (f []));
           alike = λ t i g. let y : t ≡ (a ∷ w) ++ drop (length (a ∷ w)) t = alike_front (a ∷ w) rest t (rw q at g) in
-              (more_same d _ t y (more_first d a (w ++ drop (length (a ∷ w)) t) (extended_not_zero a e)), tag_same (tagFault k) _ t y (f (drop (length (a ∷ w)) t)));
+              (more_same d _ t y (more_first d a (w ++ drop (length (a ∷ w)) t) (extended_not_zero a e)), tag_same (tag_fault k) _ t y (f (drop (length (a ∷ w)) t)));
         }
 
 -- a tag that is read looks at its own octets alone
@@ -220,11 +220,11 @@ pub record LengthFaulty (s : List ℕ) (c : Bool) (k : FaultKind) : Type 0 where
   pub looks : ℕ
   pub most : looks ≤ length_reach (get_or s 0 0)
   pub there : looks ≤ length s
-  pub shown : length_of (take looks s) c ≡ lengthFault k
-  pub alike : (t : List ℕ) → length t ≡ length s → Alike looks s t → length_of t c ≡ lengthFault k
+  pub shown : length_of (take looks s) c ≡ length_fault k
+  pub alike : (t : List ℕ) → length t ≡ length s → Alike looks s t → length_of t c ≡ length_fault k
 
 unfoldable LengthWrong : List ℕ → Bool → LengthRead → Type 0
-LengthWrong s c (lengthFault k) = LengthFaulty s c k
+LengthWrong s c (length_fault k) = LengthFaulty s c k
 LengthWrong s c (known k n) = Unit {0}
 LengthWrong s c endless = Unit {0}
 
@@ -241,29 +241,29 @@ size_long b h i = let z : b - 127 ≡ suc (b - 128) = omega arith in rw (lt-leb 
 
 -- one octet tells it, with how many octets follow
 module _ (b : ℕ) (r : List ℕ) (c : Bool) (k : FaultKind) where
-  by_one : length_of (b ∷ []) c ≡ lengthFault k → ((v : List ℕ) → length v ≡ length r → length_of (b ∷ v) c ≡ lengthFault k) → LengthFaulty (b ∷ r) c k
+  by_one : length_of (b ∷ []) c ≡ length_fault k → ((v : List ℕ) → length v ≡ length r → length_of (b ∷ v) c ≡ length_fault k) → LengthFaulty (b ∷ r) c k
   by_one h f =
       record {
         looks = 1;
         most = size_least b;
         there = omega arith;
         shown = h;
-        alike = λ t l e. length_same c (lengthFault k) (b ∷ drop 1 t) t (alike_cons b r t e) (f (drop 1 t) (omega (arith, length-drop 1 t)));
+        alike = λ t l e. length_same c (length_fault k) (b ∷ drop 1 t) t (alike_cons b r t e) (f (drop 1 t) (omega (arith, length-drop 1 t)));
       }
 
   -- all that is there
-  by_all : length (b ∷ r) ≤ length_reach b → length_of (b ∷ r) c ≡ lengthFault k → LengthFaulty (b ∷ r) c k
+  by_all : length (b ∷ r) ≤ length_reach b → length_of (b ∷ r) c ≡ length_fault k → LengthFaulty (b ∷ r) c k
   by_all i h =
       record {
         looks = length (b ∷ r);
         most = i;
         there = omega arith;
         shown = rw (take-length (b ∷ r)) h;
-        alike = λ t l e. length_same c (lengthFault k) (b ∷ r) t (alike_all (length (b ∷ r)) (b ∷ r) t l (omega arith) e) h;
+        alike = λ t l e. length_same c (length_fault k) (b ∷ r) t (alike_all (length (b ∷ r)) (b ∷ r) t l (omega arith) e) h;
       }
 
   -- the octets that the first one names
-  by_named : 129 ≤ b → b < 255 → b - 128 ≤ length r → ((v : List ℕ) → length v ≡ length r → take (b - 128) v ≡ take (b - 128) r → length_of (b ∷ v) c ≡ lengthFault k) → length_of (b ∷ take (b - 128) r) c ≡ lengthFault k → LengthFaulty (b ∷ r) c k
+  by_named : 129 ≤ b → b < 255 → b - 128 ≤ length r → ((v : List ℕ) → length v ≡ length r → take (b - 128) v ≡ take (b - 128) r → length_of (b ∷ v) c ≡ length_fault k) → length_of (b ∷ take (b - 128) r) c ≡ length_fault k → LengthFaulty (b ∷ r) c k
   by_named g i j f h =
       record {
         looks = suc (b - 128);
@@ -271,7 +271,7 @@ module _ (b : ℕ) (r : List ℕ) (c : Bool) (k : FaultKind) where
         there = omega arith;
         shown = h;
         alike = λ t l e. let y : t ≡ b ∷ drop 1 t = alike_cons b r t (alike_less 1 (suc (b - 128)) (b ∷ r) t (omega arith) e) in
-            length_same c (lengthFault k) (b ∷ drop 1 t) t y (f (drop 1 t) (omega (arith, length-drop 1 t)) (tails (b - 128) r t e));
+            length_same c (length_fault k) (b ∷ drop 1 t) t y (f (drop 1 t) (omega (arith, length-drop 1 t)) (tails (b - 128) r t e));
       }
     where
       tails : (n : ℕ) (r t : List ℕ) → take (suc n) t ≡ take (suc n) (b ∷ r) → take n (drop 1 t) ≡ take n r
@@ -280,23 +280,23 @@ module _ (b : ℕ) (r : List ℕ) (c : Bool) (k : FaultKind) where
 -- and with more octets than one
 module _ (b : ℕ) (c : Bool) (e : ltb b 128 ≡ false) (f : leb 255 b ≡ false) (g : eqb b 128 ≡ false) where
   long_is : (v : List ℕ) → length_of (b ∷ v) c
-      ≡ cond (ltb (length v) (b - 128)) (lengthFault CutOff) (cond (fewest_of (get_or v 0 0) (b - 128)) (within (suc (b - 128)) (number_from 0 (take (b - 128) v)) (length v - (b - 128))) (lengthFault BadLength))
+      ≡ cond (ltb (length v) (b - 128)) (length_fault CutOff) (cond (fewest_of (get_or v 0 0) (b - 128)) (within (suc (b - 128)) (number_from 0 (take (b - 128) v)) (length v - (b - 128))) (length_fault BadLength))
   long_is v = length_cons b v c ∙ rw (e, f, g, long_cons b v (b - 128))
 
   module _ (r v : List ℕ) (some : 1 ≤ b - 128) (there : b - 128 ≤ length v) (same : take (b - 128) v ≡ take (b - 128) r) where
     head_same : get_or v 0 0 ≡ get_or r 0 0
     head_same = sym (take_first (b - 128) v some) ∙ ap (λ (x : List ℕ). get_or x 0 0) same ∙ take_first (b - 128) r some
 
-    not_few : fewest_of (get_or r 0 0) (b - 128) ≡ false → length_of (b ∷ v) c ≡ lengthFault BadLength
+    not_few : fewest_of (get_or r 0 0) (b - 128) ≡ false → length_of (b ∷ v) c ≡ length_fault BadLength
     not_few j = long_is v ∙ rw (le-ltb (length v) (b - 128) there, head_same, j)
 
-    too_far : fewest_of (get_or r 0 0) (b - 128) ≡ true → length v - (b - 128) < number_from 0 (take (b - 128) r) → length_of (b ∷ v) c ≡ lengthFault PassesEnd
+    too_far : fewest_of (get_or r 0 0) (b - 128) ≡ true → length v - (b - 128) < number_from 0 (take (b - 128) r) → length_of (b ∷ v) c ≡ length_fault PassesEnd
     unfolding within
     too_far j h = long_is v ∙ rw (le-ltb (length v) (b - 128) there, head_same, j, same, lt-leb (number_from 0 (take (b - 128) r)) (length v - (b - 128)) h)
 
 length_wrong_lem : (s : List ℕ) (c : Bool) → LengthWrong s c (length_of s c)
 unfolding LengthWrong length_of within
-length_wrong_lem [] c = record { looks = 0; most = omega arith; there = omega arith; shown = refl; alike = λ t l e. length_same c (lengthFault CutOff) [] t (alike_all 0 [] t l (omega arith) e) refl }
+length_wrong_lem [] c = record { looks = 0; most = omega arith; there = omega arith; shown = refl; alike = λ t l e. length_same c (length_fault CutOff) [] t (alike_all 0 [] t l (omega arith) e) refl }
 length_wrong_lem (b ∷ r) c =
     rw (length_cons b r c)
     (cond_all (LengthWrong (b ∷ r) c) (ltb b 128) _ _ (λ e.
@@ -319,7 +319,7 @@ length_wrong_lem (b ∷ r) c =
     by_named b r c PassesEnd low high j (λ v q k. too_far b c e f g r v (omega arith) (omega arith) k n (omega arith)) (too_far b c e f g r (take (b - 128) r) (omega arith) (omega arith) y n (omega arith)))
     λ n. by_named b r c BadLength low high j (λ v q k. not_few b c e f g r v (omega arith) (omega arith) k n) (not_few b c e f g r (take (b - 128) r) (omega arith) (omega arith) y n)))
 
-pub length_faulty : (s : List ℕ) (c : Bool) (k : FaultKind) → length_of s c ≡ lengthFault k → LengthFaulty s c k
+pub length_faulty : (s : List ℕ) (c : Bool) (k : FaultKind) → length_of s c ≡ length_fault k → LengthFaulty s c k
 unfolding LengthWrong
 length_faulty s c k h = rw h at (length_wrong_lem s c)
 

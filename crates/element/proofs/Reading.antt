@@ -25,9 +25,9 @@ use Rattle.element.specs.declared.FaultKind.TheVariants.{PassesEnd, CodeZero, To
 use Rattle.element.specs.declared.EndRead.{EndRead}
 use Rattle.element.specs.declared.EndRead.TheVariants.{Ended, Unfinished, More}
 use Rattle.element.specs.declared.TagRead.{TagRead}
-use Rattle.element.specs.declared.TagRead.TheVariants.{Fault as tagFault, Tag}
+use Rattle.element.specs.declared.TagRead.TheVariants.{Fault as tag_fault, Tag}
 use Rattle.element.specs.declared.LengthRead.{LengthRead}
-use Rattle.element.specs.declared.LengthRead.TheVariants.{Fault as lengthFault, Definite, Indefinite}
+use Rattle.element.specs.declared.LengthRead.TheVariants.{Fault as length_fault, Definite, Indefinite}
 use Rattle.element.proofs.Heads.{TagIs, tag_sound, LengthIs, length_sound}
 
 -- The end, by the code's tests
@@ -59,7 +59,7 @@ module _ (xs : List ℕ) (v i : ℕ) where
   number_next r h e n = rw (add-one, e) (rw (drop-cons xs i 0 h) at n)
 
   module _ (size room : ℕ) (n : number_from 0 xs ≡ number_from v (drop i xs)) where
-    pub count_early : i < length xs → room / 256 < v → lengthFault PassesEnd ≡ within size (number_from 0 xs) room
+    pub count_early : i < length xs → room / 256 < v → length_fault PassesEnd ≡ within size (number_from 0 xs) room
     unfolding within
     count_early h g =
         let l : number_from 0 xs ≡ number_from (v * 256 + get_or xs i 0) (drop (i + 1) xs) = number_next (get_or xs i 0) h refl n in
@@ -74,18 +74,18 @@ module _ (xs : List ℕ) (v i : ℕ) where
     unfolding within
     count_within h g = rw (number_end h, le-leb v room g)
 
-    pub count_past : length xs ≤ i → room < v → lengthFault PassesEnd ≡ within size (number_from 0 xs) room
+    pub count_past : length xs ≤ i → room < v → length_fault PassesEnd ≡ within size (number_from 0 xs) room
     unfolding within
     count_past h g = rw (number_end h, lt-leb v room g)
 
 -- Tag, code 0 and level: what a front that is no fault says
 unfoldable pub FrontIs : ℕ → List ℕ → TagRead → Type 0
-FrontIs left p (tagFault k) = Unit {0}
+FrontIs left p (tag_fault k) = Unit {0}
 FrontIs left p (Tag a s) = (tag_of p ≡ Tag a s) × (code_zero a ≡ false) × (ltb 0 left ≡ true)
 
 fronted_is : (left : ℕ) (p : List ℕ) (t : TagRead) → tag_of p ≡ t → FrontIs left p (fronted left t)
 unfolding FrontIs fronted
-fronted_is left p (tagFault k) e = tt
+fronted_is left p (tag_fault k) e = tt
 fronted_is left p (Tag a s) e =
     cond_all (FrontIs left p) (code_zero a) _ _ (λ _. tt) λ z. cond_all (FrontIs left p) (ltb 0 left) _ _ (λ d. (e, z, d)) (λ _. tt)
 
@@ -94,18 +94,18 @@ unfolding front_of
 front_says left p a s t is e = rw (← is, e) at (fronted_is left p (tag_of p) refl)
 
 -- a front that is a fault is what is answered, whatever else is asked there
-pub front_refused : {A : Type 0} (b : Body A) (d : Bool) (p : ℕ) (part : List ℕ) (k : FaultKind) → front_of b.left part ≡ tagFault k → ask_tag b d p part (tag_of part) ≡ bad (b.owner (at k p))
+pub front_refused : {A : Type 0} (b : Body A) (d : Bool) (p : ℕ) (part : List ℕ) (k : FaultKind) → front_of b.left part ≡ tag_fault k → ask_tag b d p part (tag_of part) ≡ bad (b.owner (at k p))
 unfolding front_of fronted ask_tag check
 front_refused {A} b d p part k e = by_tag (tag_of part) e
   where
-    by_tests : (a s : ℕ) (z v : Bool) (x : Got A) → cond z (tagFault CodeZero) (cond v (Tag a s) (tagFault TooDeep)) ≡ tagFault k
+    by_tests : (a s : ℕ) (z v : Bool) (x : Got A) → cond z (tag_fault CodeZero) (cond v (Tag a s) (tag_fault TooDeep)) ≡ tag_fault k
         → check (not z) (b.owner (at CodeZero p)) (check v (b.owner (at TooDeep p)) x) ≡ bad (b.owner (at k p))
     by_tests a s true v x e = let q : CodeZero ≡ k = cc in rw (← q)
     by_tests a s false true x e = let z : ◌≡◌ {A = ℕ} 0 1 = cc in absurd (omega arith)
     by_tests a s false false x e = let q : TooDeep ≡ k = cc in rw (← q)
 
-    by_tag : (t : TagRead) → fronted b.left t ≡ tagFault k → ask_tag b d p part t ≡ bad (b.owner (at k p))
-    by_tag (tagFault j) e = let q : j ≡ k = cc in rw q
+    by_tag : (t : TagRead) → fronted b.left t ≡ tag_fault k → ask_tag b d p part t ≡ bad (b.owner (at k p))
+    by_tag (tag_fault j) e = let q : j ≡ k = cc in rw q
     by_tag (Tag a s) e = by_tests a s (code_zero a) (ltb 0 b.left) _ e
 
 -- How many octets each takes

@@ -24,27 +24,27 @@ use Rattle.element.specs.declared.FaultKind.TheVariants.{CutOff, BadLength, TooD
 use Rattle.element.specs.declared.EndRead.{EndRead}
 use Rattle.element.specs.declared.EndRead.TheVariants.{Ended, Unfinished, More}
 use Rattle.element.specs.declared.TagRead.{TagRead}
-use Rattle.element.specs.declared.TagRead.TheVariants.{Fault as tagFault, Tag}
+use Rattle.element.specs.declared.TagRead.TheVariants.{Fault as tag_fault, Tag}
 use Rattle.element.specs.declared.LengthRead.{LengthRead}
-use Rattle.element.specs.declared.LengthRead.TheVariants.{Fault as lengthFault, Definite, Indefinite}
+use Rattle.element.specs.declared.LengthRead.TheVariants.{Fault as length_fault, Definite, Indefinite}
 use Rattle.element.specs.declared.Walk.{Walk}
-use Rattle.element.specs.declared.Walk.TheVariants.{Fault as walkFault, Whole}
+use Rattle.element.specs.declared.Walk.TheVariants.{Fault as walk_fault, Whole}
 use Rattle.element.proofs.Asking.{ask_ends, ask_unfinished}
 use Rattle.element.proofs.Reading.{FrontIs, front_says, front_refused, indefinite_size}
 use Rattle.element.proofs.WalkedWhole.{wanted_tag, wanted_is, wanted_body, wanted_bodies, element_size}
 
 -- a walk that goes on after its octets; a walk after n octets
 unfoldable pub then_walk : Walk → (ℕ → Walk) → Walk
-then_walk (walkFault k p) f = walkFault k p
+then_walk (walk_fault k p) f = walk_fault k p
 then_walk (Whole n) f = f n
 
 unfoldable pub grown : ℕ → Walk → Walk
-grown n (walkFault k p) = walkFault k p
+grown n (walk_fault k p) = walk_fault k p
 grown n (Whole m) = Whole (n + m)
 
 pub then_same : (w : Walk) (f g : ℕ → Walk) → ((n : ℕ) → w ≡ Whole n → f n ≡ g n) → then_walk w f ≡ then_walk w g
 unfolding then_walk
-then_same (walkFault k p) f g h = refl
+then_same (walk_fault k p) f g h = refl
 then_same (Whole n) f g h = h n refl
 
 -- the walk of what is got step by step
@@ -77,10 +77,10 @@ walk_onward x y f d p part =
 
 -- Two bodies that ask the same of an element: if what they then do is the same but for F, so are their walks
 module _ {A B : Type 0} (F : Walk → Walk) (l : ℕ) (mine : ℕ → Bool) (x : Option A) (y : Option B) (f : Bool → Head → ℕ → List ℕ → Got A) (g : Bool → Head → ℕ → List ℕ → Got B)
-    (d e : Bool) (p q : ℕ) (part : List ℕ) (faults : (k : FaultKind) → walkFault k p ≡ F (walkFault k q)) (goes : (h : Head) → walk_of (f d h p part) ≡ F (walk_of (g e h q part))) where
+    (d e : Bool) (p q : ℕ) (part : List ℕ) (faults : (k : FaultKind) → walk_fault k p ≡ F (walk_fault k q)) (goes : (h : Head) → walk_of (f d h p part) ≡ F (walk_of (g e h q part))) where
   length_by_lem : (a s : ℕ) (r : LengthRead) → walk_of (ask_length (place (level l) x mine Another f) d p part a s r) ≡ F (walk_of (ask_length (place (level l) y mine Another g) e q part a s r))
   unfolding ask_length walk_of
-  length_by_lem a s (lengthFault k) = faults k
+  length_by_lem a s (length_fault k) = faults k
   length_by_lem a s (Definite k n) = goes (head a (s + k) (definite n))
   length_by_lem a s Indefinite = goes (head a (s + 1) indefinite)
 
@@ -91,7 +91,7 @@ module _ {A B : Type 0} (F : Walk → Walk) (l : ℕ) (mine : ℕ → Bool) (x :
 
   pub tag_by_lem : (t : TagRead) → walk_of (ask_tag (place (level l) x mine Another f) d p part t) ≡ F (walk_of (ask_tag (place (level l) y mine Another g) e q part t))
   unfolding ask_tag walk_of
-  tag_by_lem (tagFault k) = faults k
+  tag_by_lem (tag_fault k) = faults k
   tag_by_lem (Tag a s) =
       check_by (not (code_zero a)) CodeZero _ _ (check_by (ltb 0 l) TooDeep _ _ (check_by (mine a) Another _ _ (length_by_lem a s (length_of (drop s part) (constructor_of a)))))
 
@@ -109,7 +109,7 @@ module _ (t l : ℕ) where
   room_ended zero k d p part e = ap walk_of (ask_ends (wanted_bodies t l zero k) d p part [] e refl)
   room_ended (suc room) k d p part e = ap walk_of (ask_ends (wanted_bodies t l (suc room) k) d p part [] e refl)
 
-  room_unfinished : (room k : ℕ) (d : Bool) (p : ℕ) (part : List ℕ) → end_of d part ≡ Unfinished → walk_of (ask (wanted_bodies t l room k) d p part) ≡ walkFault CutOff p
+  room_unfinished : (room k : ℕ) (d : Bool) (p : ℕ) (part : List ℕ) → end_of d part ≡ Unfinished → walk_of (ask (wanted_bodies t l room k) d p part) ≡ walk_fault CutOff p
   unfolding walk_of
   room_unfinished room k d p part e = ap walk_of (ask_unfinished (wanted_bodies t l room k) d p part e)
 
@@ -140,7 +140,7 @@ module _ (t l : ℕ) where
   unfolding series_walk
   series_ended d p part e = room_ended (length part) 0 d p part e
 
-  pub series_unfinished : (d : Bool) (p : ℕ) (part : List ℕ) → end_of d part ≡ Unfinished → series_walk t l d p part ≡ walkFault CutOff p
+  pub series_unfinished : (d : Bool) (p : ℕ) (part : List ℕ) → end_of d part ≡ Unfinished → series_walk t l d p part ≡ walk_fault CutOff p
   unfolding series_walk
   series_unfinished d p part e = room_unfinished (length part) 0 d p part e
 
@@ -157,7 +157,7 @@ unfoldable pub contents_walk : Bool → (Bool → ℕ → List ℕ → Walk) →
 contents_walk true inner u (definite n) p part = then_walk (inner true (p + u) (take n (drop u part))) (λ k. Whole (u + n))
 contents_walk true inner u indefinite p part = then_walk (inner false (p + u) (drop u part)) (λ k. Whole (u + (k + 2)))
 contents_walk false inner u (definite n) p part = Whole (u + n)
-contents_walk false inner u indefinite p part = walkFault BadLength p
+contents_walk false inner u indefinite p part = walk_fault BadLength p
 
 abbrev Walked : (ℕ → Body (List Text)) → (Bool → ℕ → List ℕ → Walk) → Type 0
 Walked b inner = (n : ℕ) (d : Bool) (p : ℕ) (part : List ℕ) → length part ≤ n → walk_of (ask (b n) d p part) ≡ inner d p part
@@ -180,7 +180,7 @@ contents_walk_lem (suc l) h a u z p part =
 
 -- One element of any tag
 
-pub element_fault : (l p : ℕ) (part : List ℕ) (k : FaultKind) → tagFault k ≡ front_of l part → walkFault k p ≡ element_walk 0 l p part
+pub element_fault : (l p : ℕ) (part : List ℕ) (k : FaultKind) → tag_fault k ≡ front_of l part → walk_fault k p ≡ element_walk 0 l p part
 unfolding element_walk walk_of
 element_fault l p part k e = rw (front_refused (wanted_body 0 l) true p part k (sym e))
 
@@ -194,9 +194,9 @@ module _ (l p : ℕ) (part : List ℕ) (a s : ℕ) (tag : Tag a s ≡ front_of l
   unfolding FrontIs
   contents_of_lem u z = let (e, y, d) : FrontIs l part (Tag a s) = front_says l part a s (Tag a s) tag refl in rw (wanted_is 0 l, is_c) (contents_walk_lem l d a u z p part)
 
-  pub element_length : (k : FaultKind) → lengthFault k ≡ length_of q c → walkFault k p ≡ element_walk 0 l p part
+  pub element_length : (k : FaultKind) → length_fault k ≡ length_of q c → walk_fault k p ≡ element_walk 0 l p part
   unfolding ask_length walk_of
-  element_length k e = rw (opened (lengthFault k) e)
+  element_length k e = rw (opened (length_fault k) e)
 
   module _ (k n : ℕ) (len : Definite k n ≡ length_of q c) where
     definite_is : element_walk 0 l p part ≡ contents_walk c (series_walk 0 (l - 1)) (s + k) (definite n) p part
@@ -219,12 +219,12 @@ module _ (l p : ℕ) (part : List ℕ) (a s : ℕ) (tag : Tag a s ≡ front_of l
 
 pub grown_zero : (w : Walk) → grown 0 w ≡ w
 unfolding grown
-grown_zero (walkFault k p) = refl
+grown_zero (walk_fault k p) = refl
 grown_zero (Whole m) = ap (λ (k : ℕ). Whole k) (zero-add m)
 
 pub grown_grown : (j k : ℕ) (w : Walk) → grown j (grown k w) ≡ grown (j + k) w
 unfolding grown
-grown_grown j k (walkFault n p) = refl
+grown_grown j k (walk_fault n p) = refl
 grown_grown j k (Whole m) = ap (λ (k : ℕ). Whole k) (sym (add_assoc j k m))
 
 unfoldable pub Left : ℕ → ℕ → Bool → ℕ → List ℕ → ℕ → Type 0
@@ -244,7 +244,7 @@ module _ (t l : ℕ) (d : Bool) (p : ℕ) (part : List ℕ) (at : ℕ) (q : List
     unfolding Left
     one_more = rw (inv, is-first, is-again, ← is-rest, series_more t l d (p + at) q (sym is ∙ more))
 
-    pub loop_fault : (k : FaultKind) (found : ℕ) → w ≡ walkFault k found → walkFault k found ≡ series_walk t l d p part
+    pub loop_fault : (k : FaultKind) (found : ℕ) → w ≡ walk_fault k found → walk_fault k found ≡ series_walk t l d p part
     unfolding then_walk grown
     loop_fault k found f = rw (one_more, f)
 

@@ -16,7 +16,7 @@ use Rattle.tcap.specs.declared.{MessageKind.MessageKind, Refusal.Refusal, Outcom
 use Rattle.tcap.specs.Meaning.{local, global, Component, invoke, last, not_last, error, reject, Message, unidirectional, begin, finish, continue, abort, Meaning}
 use Rattle.tcap.specs.WellFormed.{the93, Reads}
 use Rattle.tcap.specs.Record.{row_of, blank_row, record_of, message_tag}
-use Rattle.tcap.specs.Reading.{located_up_to, answered as answeredAs, reading_up_to, reading}
+use Rattle.tcap.specs.Reading.{located_up_to, answered as answered_as, reading_up_to, reading}
 use Rattle.tcap.proofs.Strings.{octets_of, component_as, forget}
 use Rattle.tcap.proofs.Promises.{reads_located}
 use Rattle.steering.specs.declared.{Rule.Rule, FirstCode.FirstCode, Key.Key, Choice.Choice, Steered.Steered}
@@ -182,7 +182,7 @@ first_kept (continue o e d cs) = codes_kept cs
 first_kept (abort e s) = refl
 
 read_is : (m : List ℕ) (v : Message Text) (n : ℕ) → located_up_to the93 m ≡ got v n → reading m ≡ read_as v
-unfolding reading reading_up_to answeredAs
+unfolding reading reading_up_to answered_as
 read_is m v n e = rw e
 
 pub steered_by_meaning : (m : List ℕ) (μ : Meaning) → Reads m μ → (rules : List Rule) → steering m rules ≡ chosen (first_fit rules (tag_meant μ) (first_meant μ))

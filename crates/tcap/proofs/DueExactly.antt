@@ -65,7 +65,7 @@ pub record StrangeAt (rules : Rules) (m : List ℕ) (p : ℕ) (w : Owner) (i : O
   -- whether some other may, mandatory or optional
   pub others : some_may left ≡ other
 
--- `someMay` says so: where it is true some element may stand, where it is false none
+-- `some_may` says so: where it is true some element may stand, where it is false none
 choice_some : (x : Choice) → (a : ℕ) × (h : Holds) × (find x a ≡ some h)
 unfolding code_zero constructor_of
 choice_some (tag t h) = (t, h, rw (eq-eqb t t refl))

@@ -15,9 +15,9 @@ use Rattle.element.specs.Element.{constructor_of, code_zero, Definitely, Endless
 use Rattle.element.specs.Fault.{Text, Owner, Fault, fault, at}
 use Rattle.element.specs.declared.FaultKind.{FaultKind}
 use Rattle.element.specs.declared.TagRead.{TagRead}
-use Rattle.element.specs.declared.TagRead.TheVariants.{Fault as tagFault, Tag as tag}
+use Rattle.element.specs.declared.TagRead.TheVariants.{Fault as tag_fault, Tag as tag}
 use Rattle.element.specs.declared.LengthRead.{LengthRead}
-use Rattle.element.specs.declared.LengthRead.TheVariants.{Fault as lengthFault, Definite as sized, Indefinite as unsized}
+use Rattle.element.specs.declared.LengthRead.TheVariants.{Fault as length_fault, Definite as sized, Indefinite as unsized}
 use Rattle.element.specs.declared.EndRead.{EndRead}
 use Rattle.element.specs.declared.EndRead.TheVariants.{Ended as ended, Unfinished as unfinished, More as more}
 use Rattle.element.specs.Head.{tag_of, length_of, end_of}
@@ -180,14 +180,14 @@ module _ (rules : Rules) (m : List ℕ) where
     length_finds : (a s' : ℕ) → end_of d part ≡ more → tag_of part ≡ tag a s' → code_zero a ≡ false → b.full ≡ false → b.mine a ≡ true → l ≤ rules.limit → (g : LengthRead) → length_of (drop s' part) (constructor_of a) ≡ g → LengthSays (constructor_of a) (drop s' part) g
         → Ends Good (λ f. Found rules m (W f)) (ask_length b d p part a s' g)
     unfolding ask_length
-    length_finds a s' e t z f q j (lengthFault k) g (wrong w) = failed (here f k e (length_wrong (tagged part a s' t z) j (there_some (due r a) (sym (s.mine f a) ∙ q)).1 w))
+    length_finds a s' e t z f q j (length_fault k) g (wrong w) = failed (here f k e (length_wrong (tagged part a s' t z) j (there_some (due r a) (sym (s.mine f a) ∙ q)).1 w))
     length_finds a s' e t z f q j (sized k n) g w = s.goes d r p part (head a (s' + k) (definite n)) big way (like_same r a) j (finite a s' k n t z g) f q
     length_finds a s' e t z f q j unsized g w = s.goes d r p part (head a (s' + 1) indefinite) big way (like_same r a) j (unended a s' t z g) f q
 
     tag_finds : b.full ≡ false → end_of d part ≡ more → (g : TagRead) → tag_of part ≡ g → TagSays part g → Ends Good (λ f. Found rules m (W f)) (ask_tag b d p part g)
     unfolding ask_tag TagIs
-    tag_finds f e (tagFault k) g (cut_off w) = failed (here f FaultKind.CutOff e (tag_cut w))
-    tag_finds f e (tagFault k) g (badly w) = failed (here f FaultKind.BadTag e (tag_bad w))
+    tag_finds f e (tag_fault k) g (cut_off w) = failed (here f FaultKind.CutOff e (tag_cut w))
+    tag_finds f e (tag_fault k) g (badly w) = failed (here f FaultKind.BadTag e (tag_bad w))
     tag_finds f e (tag a s') g w =
         let (x, r', q, j, y) : TagIs part (tag a s') = rw g at (tag_sound part) in
         ends_check (not (code_zero a)) _ (λ z. here f FaultKind.CodeZero e (zero_code q (is_true (code_zero a) z))) λ z.

@@ -19,7 +19,7 @@ use Rattle.element.specs.Parts.{integer_item, silently, bind_body, only_body, la
 use Rattle.element.proofs.StringPlaces.{nothing_ends}
 use Rattle.tcap.specs.Meaning.{Code, Component, invoke, last, not_last, error, reject}
 use Rattle.tcap.specs.Productions.{id_item, problem_item, id_or_null_item, noted, level_at, code_body, invoke_body, both_item, result_body, error_body, reject_body, component_item, component_at, components_item, inside6_b, dialogue_item}
-use Rattle.tcap.specs.Due.{Parts, end, must, may, components, tag, either, any, Holds, octets, invoke_id, parts, dialogue as dialogues, invoke as invokes, result as results, error as errors, reject as rejects, component as aComponent, code, problem, component_portion, external, dialogue_portion}
+use Rattle.tcap.specs.Due.{Parts, end, must, may, components, tag, either, any, Holds, octets, invoke_id, parts, dialogue as dialogues, invoke as invokes, result as results, error as errors, reject as rejects, component as a_component, code, problem, component_portion, external, dialogue_portion}
 use Rattle.tcap.specs.Refused.{known, told, another, unknown}
 use Rattle.tcap.proofs.Found.{BodyFinds, ItemFinds, Said, Silent, leaf_finds, around_tells, map_finds, quietly, silence, or_finds}
 use Rattle.tcap.proofs.FoundContents.{At, Rest, quiet_rest, bind_tells, place_tells, only_finds, opt_finds, map_body_finds}
@@ -98,7 +98,7 @@ module _ (rules : Rules) (m : List ℕ) (t : Option Text) (W : Fault → Fault) 
         map_body_finds rules m (omega arith) (λ v. reject v.0 v.1)
         (bind_tells rules m (omega arith) (level_at rules 4) with_invoke_id _ rejects room refl refl (another refl refl) (λ a. refl) at4 null_ids (λ a g v x f e. reject_rest room v g x e) (λ v b d q a g p part n x way free is f u k. tt))
 
-    component_finds : ItemFinds rules m (component_item rules) 3 aComponent (component n) none t Mine (Silent rules m)
+    component_finds : ItemFinds rules m (component_item rules) 3 a_component (component n) none t Mine (Silent rules m)
     component_finds =
         or_finds rules m (silence rules m (around_tells rules m 0xA1 (parts invokes) refl invoke_finds))
         (or_finds rules m (silence rules m (around_tells rules m 0xA2 (parts results) refl (result_finds last)))
@@ -114,7 +114,7 @@ module _ (rules : Rules) (m : List ℕ) (t : Option Text) (W : Fault → Fault) 
 
   -- the n-th component, with so many more to come
   rows_find : (room n size : ℕ) (e : Option (List (Component Text))) → n + room ≡ 16 → (e ≡ none → ltb 0 n ≡ false) → ((v : List (Component Text)) → e ≡ some v → ltb 0 n ≡ true)
-      → BodyFinds rules m (series_body (component_at rules) FaultKind.UnknownComponent (component_item rules) e room n) 3 size (components aComponent n) portion portion none t W
+      → BodyFinds rules m (series_body (component_at rules) FaultKind.UnknownComponent (component_item rules) e room n) 3 size (components a_component n) portion portion none t W
   unfolding series_body
   rows_find zero n size e sum lacks void =
       let y : n ≡ 16 = omega arith in
@@ -131,13 +131,13 @@ module _ (rules : Rules) (m : List ℕ) (t : Option Text) (W : Fault → Fault) 
         goes = λ d q p part h big way like deep g f. absurd (false≢true (sym f));
       }
   rows_find (suc room) n size e sum lacks void =
-      place_tells rules m (omega arith) (component_at rules n) e FaultKind.UnknownComponent aComponent (components aComponent n) silently (λ a. series_body (component_at rules) FaultKind.UnknownComponent (component_item rules) (some []) room (suc n)) (λ a ws. a ∷ ws) size size (omega arith)
+      place_tells rules m (omega arith) (component_at rules n) e FaultKind.UnknownComponent a_component (components a_component n) silently (λ a. series_body (component_at rules) FaultKind.UnknownComponent (component_item rules) (some []) room (suc n)) (λ a ws. a ∷ ws) size size (omega arith)
       (at3 n) (λ a. refl) (not_sixteen n (omega arith)) (unknown refl) lacks (λ v q. (void v q, λ x. tt)) (component_finds n)
-      (λ a g v x f _. quiet_rest rules m aComponent a g x refl f (rows_find room (suc n) size (some []) (omega arith) (λ q. let z : ◌≡◌ {A = ℕ} 0 1 = cc in absurd (omega arith)) (λ v q. lt-ltb 0 (suc n) (omega arith))))
+      (λ a g v x f _. quiet_rest rules m a_component a g x refl f (rows_find room (suc n) size (some []) (omega arith) (λ q. let z : ◌≡◌ {A = ℕ} 0 1 = cc in absurd (omega arith)) (λ v q. lt-ltb 0 (suc n) (omega arith))))
       (λ v b d q a g p part n x way free is f u k. tt)
 
   pub components_find : ItemFinds rules m (components_item rules) 2 component_portion portion none t W (Silent rules m)
-  components_find = silence rules m (around_tells rules m 0x6C (parts (components aComponent 0)) refl (λ size. rows_find 16 0 size none refl (λ _. refl) (λ v q. nothing_ends q)))
+  components_find = silence rules m (around_tells rules m 0x6C (parts (components a_component 0)) refl (λ size. rows_find 16 0 size none refl (λ _. refl) (λ v q. nothing_ends q)))
 
   -- The dialogue portion
 

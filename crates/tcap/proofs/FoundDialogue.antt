@@ -20,7 +20,7 @@ use Rattle.tcap.specs.declared.{Problem.Problem, Diagnostic.Diagnostic}
 use Rattle.tcap.specs.Meaning.{local, global, Dialogue, request, unidialogue, response, aborted, single, octets as kept, structured, unstructured, version}
 use Rattle.tcap.specs.WellFormed.{Rules, left_at, most_user_diagnostic, most_provider_diagnostic}
 use Rattle.tcap.specs.Productions.{single?, octet_item, name_item, code_item, problem_item, version_body, level_at, parameter_item, info_body, context_item, asked_item, number_item, source_item, answered_item, aborted_item, held_item, external_body}
-use Rattle.tcap.specs.Due.{Parts, end, must, may, many, Choice, tag, either, any, Holds, octets, parts, code, problem, information, version as versionOne, context, number, asked, answered, aborted as stopped, named, external, find, position}
+use Rattle.tcap.specs.Due.{Parts, end, must, may, many, Choice, tag, either, any, Holds, octets, parts, code, problem, information, version as version_one, context, number, asked, answered, aborted as stopped, named, external, find, position}
 use Rattle.tcap.specs.Refused.{another}
 use Rattle.tcap.proofs.Found.{tag_mine, tag_held, quiet, BodyFinds, ItemFinds, Said, Silent, leaf_finds, around_tells, kept_finds, quietly, silence, or_finds}
 use Rattle.tcap.proofs.FoundContents.{At, quiet_rest, bind_tells, then_finds, only_finds, last_finds, opt_finds, map_body_finds, series_finds, walk_finds}
@@ -109,7 +109,7 @@ module _ (rules : Rules) (m : List ℕ) {w : Owner} {i : Option ℤ} {t : Option
   context_z : ItemZ (context_item rules) 6 context
   context_z = around_z 6 0xA1 (only_z 7 (omega arith) refl name_z)
 
-  version_z : {L : Type 0} {b : Body L} {r : Parts} → b.owner ≡ (λ f. f) → b.other ≡ FaultKind.Another → position r ≡ none → BodyZ b 6 r → BodyZ (version_body b) 6 (may versionOne r)
+  version_z : {L : Type 0} {b : Body L} {r : Parts} → b.owner ≡ (λ f. f) → b.other ≡ FaultKind.Another → position r ≡ none → BodyZ b 6 r → BodyZ (version_body b) 6 (may version_one r)
   unfolding constructor_of
   version_z e others k s room = map_body_finds rules m (omega arith) (λ v. v.1) (opt_finds rules m (omega arith) {x = leaf_item 0x80 (same version)} {S = Silent rules m} room refl k others (rw e (leaf_z 0x80 (same version) refl)) (s room))
 

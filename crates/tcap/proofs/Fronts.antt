@@ -16,9 +16,9 @@ use Rattle.element.specs.Element.{code_zero, extended_of, Definitely, Endlessly}
 use Rattle.element.specs.Fault.{Text, Fault}
 use Rattle.element.specs.declared.FaultKind.{FaultKind}
 use Rattle.element.specs.declared.TagRead.{TagRead}
-use Rattle.element.specs.declared.TagRead.TheVariants.{Fault as tagFault, Tag as tag}
+use Rattle.element.specs.declared.TagRead.TheVariants.{Fault as tag_fault, Tag as tag}
 use Rattle.element.specs.declared.LengthRead.{LengthRead}
-use Rattle.element.specs.declared.LengthRead.TheVariants.{Fault as lengthFault, Definite as sized, Indefinite as unsized}
+use Rattle.element.specs.declared.LengthRead.TheVariants.{Fault as length_fault, Definite as sized, Indefinite as unsized}
 use Rattle.element.specs.declared.EndRead.TheVariants.{More as more}
 use Rattle.element.specs.Head.{tag_of, first, second, third, within, long_of, length_of, end_of}
 use Rattle.element.specs.Ask.{Got, blamed, definite, indefinite, Head, head}
@@ -33,8 +33,8 @@ use Rattle.tcap.specs.WellFormed.{Rules}
 -- The tag and the length: what their readers call a fault is one
 
 pub data TagSays (part : List ℕ) : TagRead → Type 0 where
-  cut_off : TagCut part → TagSays part (tagFault FaultKind.CutOff)
-  badly : TagBad part → TagSays part (tagFault FaultKind.BadTag)
+  cut_off : TagCut part → TagSays part (tag_fault FaultKind.CutOff)
+  badly : TagBad part → TagSays part (tag_fault FaultKind.BadTag)
   good : {a s : ℕ} → TagSays part (tag a s)
 
 third_says : (a x y : ℕ) (r : List ℕ) → extended_of a ≡ true → 129 ≤ x → 128 ≤ y → TagSays (a ∷ x ∷ y ∷ r) (third (a ∷ x ∷ y ∷ r))
@@ -65,7 +65,7 @@ tag_says [] = cut_off empty
 tag_says (a ∷ r) = rw (ne_eqb (length (a ∷ r)) 0 (λ q. omega arith)) (cond_all (TagSays (a ∷ r)) (extended_of a) _ _ (λ e. first_says a r e) (λ _. good))
 
 pub data LengthSays (c : Bool) (part : List ℕ) : LengthRead → Type 0 where
-  wrong : {k : FaultKind} → LengthWrong c part k → LengthSays c part (lengthFault k)
+  wrong : {k : FaultKind} → LengthWrong c part k → LengthSays c part (length_fault k)
   fine : {k n : ℕ} → LengthSays c part (sized k n)
   without : LengthSays c part unsized
 

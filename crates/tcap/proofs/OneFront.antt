@@ -12,8 +12,8 @@ use borrow.Author.Tests.{eqb-true, lt-ltb, le-ltb, le-leb, lt-leb, eq-eqb, ne_eq
 use Rattle.base.specs.Number.{number_from}
 use Rattle.element.specs.Element.{constructor_of, code_zero, extended_of, Definitely, Endlessly}
 use Rattle.element.specs.declared.FaultKind.{FaultKind}
-use Rattle.element.specs.declared.TagRead.TheVariants.{Fault as tagFault, Tag as tag}
-use Rattle.element.specs.declared.LengthRead.TheVariants.{Fault as lengthFault, Definite as sized, Indefinite as unsized}
+use Rattle.element.specs.declared.TagRead.TheVariants.{Fault as tag_fault, Tag as tag}
+use Rattle.element.specs.declared.LengthRead.TheVariants.{Fault as length_fault, Definite as sized, Indefinite as unsized}
 use Rattle.element.specs.Head.{tag_of, first, second, third, within, long_of, length_of}
 use Rattle.element.specs.Ask.{definite, indefinite, head}
 use Rattle.element.proofs.Heads.{tag_complete, length_complete, length_endless}
@@ -22,14 +22,14 @@ use Rattle.tcap.specs.Refused.{TagCut, empty, one, two, three, TagBad, small, lo
 
 -- Tags
 
-pub cut_tag : {part : List ℕ} → TagCut part → tag_of part ≡ tagFault FaultKind.CutOff
+pub cut_tag : {part : List ℕ} → TagCut part → tag_of part ≡ tag_fault FaultKind.CutOff
 unfolding tag_of first second third
 cut_tag empty = refl
 cut_tag (one e) = rw e
 cut_tag (two {x = x} e h) = rw (e, ne_eqb x 128 (λ q. omega arith), le-ltb x 31 (omega arith), le-ltb x 128 (omega arith))
 cut_tag (three {x = x} {y = y} e h k) = rw (e, ne_eqb x 128 (λ q. omega arith), le-ltb x 31 (omega arith), le-ltb x 128 (omega arith), le-ltb y 128 k)
 
-pub bad_tag_lem : {part : List ℕ} → TagBad part → tag_of part ≡ tagFault FaultKind.BadTag
+pub bad_tag_lem : {part : List ℕ} → TagBad part → tag_of part ≡ tag_fault FaultKind.BadTag
 unfolding tag_of first second third
 bad_tag_lem (small {a = a} {x = x} {r = r} e (inl h)) = rw (ne_eqb (length (a ∷ x ∷ r)) 0 (λ q. omega arith), e, lt-leb (length (a ∷ x ∷ r)) 1 (omega arith), eq-eqb x 128 h)
 bad_tag_lem (small {a = a} {x = x} {r = r} e (inr h)) = rw (ne_eqb (length (a ∷ x ∷ r)) 0 (λ q. omega arith), e, lt-leb (length (a ∷ x ∷ r)) 1 (omega arith), ne_eqb x 128 (λ q. omega arith), lt-ltb x 31 h)
@@ -56,7 +56,7 @@ zero_tag_lem {a = a} {q = q} e z = rw (e, ne_eqb (length (a ∷ q)) 0 (λ q. ome
 length_one : (b : ℕ) (r : List ℕ) → length (b ∷ r) - 1 ≡ length r
 length_one b r = omega arith
 
-pub wrong_length : {c : Bool} {q : List ℕ} {k : FaultKind} → LengthWrong c q k → length_of q c ≡ lengthFault k
+pub wrong_length : {c : Bool} {q : List ℕ} {k : FaultKind} → LengthWrong c q k → length_of q c ≡ length_fault k
 unfolding length_of long_of within
 wrong_length gone = refl
 wrong_length (cut {b = b} {r = r} h k l) =

@@ -43,7 +43,7 @@ text_of (bad f) = none
 unfoldable pub unknown_orig : Rules → List ℕ → Option Text
 unknown_orig rules m = text_of (ask (unknown_body rules) true 0 m)
 
--- 8 goes by the first octet alone, before tag and level; `aloneBody` asks for the same tags, so its own 8 never answers
+-- 8 goes by the first octet alone, before tag and level; `alone_body` asks for the same tags, so its own 8 never answers
 unfoldable pub read_first : Rules → Item (Message Text) → List ℕ → Got (Message Text)
 read_first rules x [] = bad (at FaultKind.CutOff 0)
 read_first rules x (a ∷ r) = check (x.mine a) (fault FaultKind.NoMessage 0 portion none (unknown_orig rules (a ∷ r))) (ask (alone_body rules x) true 0 (a ∷ r))

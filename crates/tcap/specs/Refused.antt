@@ -6,7 +6,7 @@ use mathlib.Core.{Path.◌≡◌, Logic.◌⊎◌, Bool.Bool, Bool.true, Bool.fa
 use lib.{ListN.length, ListN.take, ListN.drop, ListN.get_or, IntN.ℤ}
 use Rattle.base.specs.{Number.number_from}
 use Rattle.primitive.specs.{Primitive.signed_of}
-use Rattle.element.specs.{Form.fewest_of, Element.IsTag, Element.constructor_of, Element.code_zero, Element.extended_of, Element.Definitely, Element.Endlessly, Fault.Text, Fault.Owner, Fault.portion, Fault.dialogue as theDialogue, Fault.component as theComponent, Fault.Fault, Fault.fault, Fault.number_of, Head.end_of, declared.FaultKind.FaultKind, declared.EndRead.EndRead}
+use Rattle.element.specs.{Form.fewest_of, Element.IsTag, Element.constructor_of, Element.code_zero, Element.extended_of, Element.Definitely, Element.Endlessly, Fault.Text, Fault.Owner, Fault.portion, Fault.dialogue as the_dialogue, Fault.component as the_component, Fault.Fault, Fault.fault, Fault.number_of, Head.end_of, declared.FaultKind.FaultKind, declared.EndRead.EndRead}
 use Rattle.tcap.specs.{declared.OptionalOrig.OptionalOrig, declared.Refusal.Refusal, Meaning.orig, Record.orig_field, Standard.Standard, Due.Parts, Due.end, Due.must, Due.Holds, Due.octets, Due.orig_id, Due.invoke_id, Due.parts, Due.dialogue, Due.message, Due.find, Due.due, Due.behind, Due.may_end, Due.some_may, Due.position, Due.passes, Due.contents_of}
 use Rattle.tcap.specs.WellFormed.{Rules}
 
@@ -44,7 +44,7 @@ pub data Known : Type 0 where
 -- whom an element here belongs to: at a component's position that component
 abbrev pub whose : Option ℕ → Owner → Owner
 whose none o = o
-whose (some k) o = theComponent k
+whose (some k) o = the_component k
 
 -- whom the contents of an element belong to
 abbrev pub inside : Holds → Owner → Owner
@@ -52,7 +52,7 @@ inside (octets fits) o = o
 inside orig_id o = o
 inside invoke_id o = o
 inside (parts r) o = o
-inside (dialogue r) o = theDialogue
+inside (dialogue r) o = the_dialogue
 
 -- what an element tells that was read whole
 abbrev pub told : Holds → Text → Known → Known

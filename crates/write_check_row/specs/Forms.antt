@@ -1,4 +1,4 @@
--- The form of each part of a record over the material beside it, line by line as `messageForm` has it for a meaning; cited by inner contracts.
+-- The form of each part of a record over the material beside it, line by line as `message_form` has it for a meaning; cited by inner contracts.
 -- Assumes nothing: these are definitions.
 use Rattle.std.specs.Prelude.{ℕ}
 use mathlib.Core.{List.List, List.[], List.◌∷◌}

@@ -1,5 +1,7 @@
 // Elements of a record, put into a lent buffer from the back: what an element holds is there before its length is put.
 // Each function takes the place where its octets end and answers the place where they begin.
+#![tactic(auto)]
+
 pub mod integer;
 
 ghost use Rattle.std.specs.Prelude.{◌≡◌, true, ◌∷◌, ◌<◌, length};

@@ -1,4 +1,6 @@
 // The dialogue portion, 6B, or the P-Abort cause in its place, put from the back: what a constructor holds is there before its length is put.
+#![tactic(auto)]
+
 pub mod transaction;
 
 ghost use Rattle.std.specs.Prelude.{◌≡◌, true, length};

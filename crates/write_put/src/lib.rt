@@ -1,4 +1,6 @@
 // The whole message, put from the back into a lent buffer that has room for it.
+#![tactic(auto)]
+
 ghost use Rattle.std.specs.Prelude.{◌≡◌, true, ◌≤◌, length, drop};
 ghost use Rattle.base.specs.inner.Back.{Room, PutBack};
 ghost use Rattle.tcap.specs.Verdict.{every, orig_lies, dest_lies, row_lies, dialogue_lies};

@@ -1,4 +1,6 @@
 // Components put from the octets of their rows, from the last to the first: each field is taken where it is put, and no row is made.
+#![tactic(auto)]
+
 ghost use Rattle.std.specs.Prelude.{◌≡◌, true, ◌≤◌, length, drop};
 ghost use Rattle.base.specs.inner.Back.{Room, PutBack};
 ghost use Rattle.element.specs.Form.{then, series_form};

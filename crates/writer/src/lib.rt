@@ -1,4 +1,6 @@
 // The writer: a record over the material beside it, into the shortest message, or the refusal.
+#![tactic(auto)]
+
 pub mod octets;
 
 ghost use Rattle.std.specs.Prelude.{◌≡◌};

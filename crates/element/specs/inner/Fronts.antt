@@ -4,7 +4,7 @@ use mathlib.Core.{Bool.cond, List.List}
 use lib.{ListN.drop, ListN.take, Dec.ltb, Dec.leb}
 use Rattle.element.specs.{declared.FaultKind.FaultKind, declared.TagRead.TagRead, declared.LengthRead.LengthRead, Element.code_zero, Head.tag_of, Head.long_of}
 
--- The first three answers of `askTag` as the code has them: the tag (1, 2), code 0 (6), the level (5).
+-- The first three answers of `ask_tag` as the code has them: the tag (1, 2), code 0 (6), the level (5).
 unfoldable pub fronted : ℕ → TagRead → TagRead
 fronted left (TagRead.Fault k) = TagRead.Fault k
 fronted left (TagRead.Tag a s) = cond (code_zero a) (TagRead.Fault FaultKind.CodeZero) (cond (ltb 0 left) (TagRead.Tag a s) (TagRead.Fault FaultKind.TooDeep))

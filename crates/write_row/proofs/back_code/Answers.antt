@@ -23,6 +23,7 @@ back_string-requires-clause-string_value c = rw c.span_at-string.ensures (rw (ne
 pub back_string-requires-clause-room : goal.back_string-requires-clause-room
 unfolding code_lies code_form code_in
 back_string-requires-clause-room c = rw c.span_at-string.ensures (rw (ne_eqb _ _ c.if-part-eq2.false) at c.requires.room)
+
 pub returns : goal.returns
 unfolding code_form code_in
 returns c = rw (ne_eqb _ _ c.if-part-eq2.false, ← c.span_at-string.ensures) c.back_string.ensures

@@ -18,6 +18,7 @@ back_span-requires-clause-string_value c = rw c.span_at-string.ensures (rw (ne_e
 pub back_span-requires-clause-room : goal.back_span-requires-clause-room
 unfolding option_lies parameter_form optional_in shortest
 back_span-requires-clause-room c = rw c.span_at-string.ensures (rw (ne_eqb _ _ c.if-part-eq0.false) at c.requires.room)
+
 pub returns : goal.returns
 unfolding parameter_form optional_in shortest
 returns c = rw (ne_eqb _ _ c.if-part-eq0.false, ← c.span_at-string.ensures) c.back_span.ensures

@@ -23,6 +23,7 @@ unfolding returned_in
 back_span-next-requires-clause-room c =
     let room = rw (ne_eqb _ _ c.if-part-eq0.false) at c.requires.room in
     rw c.span_at-string.ensures (room_last (octets_of (code_form c.args.material.now (code_at c.args.part.now))) (both_inside _ _ _ room))
+
 pub back_code-start-requires-clause-part_value : goal.back_code-start-requires-clause-part_value
 unfolding returned_in
 back_code-start-requires-clause-part_value c =
@@ -34,6 +35,7 @@ unfolding returned_in
 back_code-start-requires-clause-room c =
     let room = rw (ne_eqb _ _ c.if-part-eq0.false) at c.requires.room in
     room_next (rw c.span_at-string.ensures at c.back_span-next.ensures) _ (both_inside _ _ _ room)
+
 pub back_head-requires : goal.back_head-requires
 unfolding returned_in returned_form shortest
 back_head-requires c = let both = room_head (back_then (rw c.span_at-string.ensures at c.back_span-next.ensures) c.back_code-start.ensures) _ (rw (ne_eqb _ _ c.if-part-eq0.false) at c.requires.room) in record { room = both.0; n_bound = both.1 }
