@@ -1,4 +1,4 @@
--- The strings of a file of cases, each after its length, and when one that comes next is what came to the front of a buffer.
+-- The strings of a file of cases, each after its length; when one that comes next is what came to the front of a buffer; what an input lost.
 -- Assumes nothing: these are definitions.
 use Rattle.std.specs.Prelude.{ℕ, ◌/◌, ◌%◌, ◌≡◌, List, ◌∷◌, ◌++◌, length, Some}
 use Rattle.std.specs.declared.option.Option.{Option}

@@ -1,5 +1,5 @@
 // The cases of a file, one after the other: their strings, what was found of each, and the tally of all.
-ghost use Rattle.std.specs.Prelude.{◌≡◌, ◌+◌, ◌*◌, ◌<◌, ◌≤◌, List, ℕ, length, take, IfOk};
+ghost use Rattle.std.specs.Prelude.{◌≡◌, ◌≢◌, ◌+◌, ◌*◌, ◌<◌, ◌≤◌, List, ℕ, length, take, IfOk};
 ghost use Rattle.program_parts.specs.Front.{IsPrefixLen};
 ghost use Rattle.program_parts.specs.Strings.{string_octets, short_string_octets, Comes, Loses};
 ghost use Rattle.program_parts.specs.Tallied.{verdict_on, tallied_by};
@@ -120,11 +120,66 @@ pub fn told(tally: Tally, verdict: Verdict) -> Tally
 // How many cases may still come after one, where `left` might before it.
 pub fn left_after(left: u64, verdict: Verdict) -> u64
     requires { 0 < left }
-    ensures { result < left }
+    ensures less { result < left }
+    ensures goes_on { verdict ≢ Verdict.Ended → result + 1 ≡ left }
 {
     match verdict {
         Verdict::Same => left - 1,
         Verdict::Differs => left - 1,
         Verdict::Ended => 0,
+    }
+}
+
+#[cfg(test)]
+mod tests {
+    use super::*;
+    use std::io::{Error, ErrorKind};
+    use std::test::Fail;
+
+    // Gives one octet at a time, and fails where no more are left.
+    #[derive(Drop)]
+    struct Slow<'a> {
+        rest: &'a [u8],
+    }
+
+    impl Read for Slow<'_> {
+        fn read(&mut self, buf: &mut [u8]) -> io::Result<usize> {
+            if self.rest.is_empty() {
+                return Err(Error::from(ErrorKind::ConnectionReset));
+            }
+            if buf.is_empty() {
+                return Ok(0);
+            }
+            buf[0] = self.rest[0];
+            self.rest = &self.rest[1..];
+            Ok(1)
+        }
+    }
+
+    #[test]
+    fn strings_come_one_after_the_other(rt: HostRuntime) -> Result<(), Fail> {
+        let mut input = Slow {
+            rest: b"\x00\x03abc\x01z\x00\x02y",
+        };
+        let mut buffer = [0u8; 8];
+        let size = next_string(&mut input, &mut buffer)?;
+        assert_eq!(rt; &buffer[..size], b"abc".as_slice());
+        let size = next_short_string(&mut input, &mut buffer)?;
+        assert_eq!(rt; &buffer[..size], b"z".as_slice());
+        assert!(rt;
+            next_string(&mut input, &mut buffer).is_err(),
+            "cut off by an error"
+        );
+        Ok(())
+    }
+
+    #[test]
+    fn one_that_is_too_long_is_none(rt: HostRuntime) -> Result<(), Fail> {
+        let mut input = Slow {
+            rest: b"\x01\x00abc",
+        };
+        let mut buffer = [0u8; 255];
+        assert_eq!(rt; next_string(&mut input, &mut buffer)?, 0);
+        Ok(())
     }
 }
