@@ -1,7 +1,5 @@
 -- The layout's choices are the tags of the grammar: of the components and the problems; those of the messages have one definition. Assumes nothing.
-use Prim.Native.Nat.{ℕ}
 use mathlib.Core.Path.{◌≡◌, refl}
-use mathlib.Core.List.{List}
 use lib.ListN.{get_or}
 use Rattle.tcap.specs.declared.{InvokeId.InvokeId, ComponentKind.ComponentKind, Problem.Problem}
 use Rattle.tcap.specs.Meaning.{octet, problem_form}
