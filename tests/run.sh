@@ -63,7 +63,7 @@ ended() {
 listed() {
     for d in crates/*/; do
         crate=$(basename "$d")
-        grep -q "^$crate:" crates.txt || {
+        grep -qE "^$crate( [a-z]+)?:" crates.txt || {
             echo "crates.txt does not list $crate"
             return 1
         }

@@ -53,7 +53,7 @@ shown() {
                 echo "[$crate of $crates] ${name:-} is proved"
             }
             ;;
-        'rt: '*' proved' | 'rt: '*' proved ('* | 'rt: '*' proved:'*)
+        'rt: '*' proved' | 'rt: '*' is kept: an earlier run on this machine proved '*)
             crate=$((crate + 1))
             name=${line#rt: }
             echo "[$crate of $crates] ${name%% *} is proved"
@@ -61,6 +61,7 @@ shown() {
         'logic '* | 'library '* | 'statements '* | 'axioms '* | '== '* | 'empty contracts: 0 found'* | 'checked '* | 'rt: chose '*) ;;
         'fn '*': proved' | 'struct '*': proved' | 'enum '*': proved' | 'const '*': proved' | 'impl '*': proved' | 'trait '*': proved') ;;
         'note: '* | *': note: '* | 'rt: '*': begins with '* | 'rt: rt check --fix-imports '* | 'rt: waiting for '*) ;;
+        'rt: '*': trying its must-fail edits '* | 'rt: '*' must-fail edits were tried by an earlier run '*) ;;
         *) echo "$line" ;;
         esac
     done
