@@ -22,9 +22,9 @@ told : (o m : List ℕ) → record_size ≤ length o → is_head o ≡ true → 
     → (dialogue : Dialogue) → dialogue ≡ (record_in o).dialogue → (count : ℕ) → count ≡ (record_in o).count → (looked : ℕ) → looked ≡ rows_looked o
     → (components : Judged) → components ≡ listed (are_rows looked (drop 44 o)) (rows_judged m (rows_in looked (drop 44 o)))
     → (portion : Judged) → portion ≡ portion_of count components → (message : Judged) → message ≡ message_judged m kind orig dest dialogue count portion → message ≡ listed (is_record o) (judgment o m)
-told o m long head kind k orig g dest d dialogue l count n looked w components c portion p message e =
-    let rows : components ≡ listed (are o m) (rows_judged m (rows_of o)) = c ∙ ap (λ (n : ℕ). listed (are_rows n (drop 44 o)) (rows_judged m (rows_in n (drop 44 o)))) w in
-    e ∙ rw (p, k, g, d, l, n) (octets_judged_lem o m components rows) ∙ ap (λ b. listed b (judgment o m)) (sym (head_record o long head))
+told o m long head kind k from g to d talk l count n looked w rows c around p whole e =
+    let judged : rows ≡ listed (are o m) (rows_judged m (rows_of o)) = c ∙ ap (λ (n : ℕ). listed (are_rows n (drop 44 o)) (rows_judged m (rows_in n (drop 44 o)))) w in
+    e ∙ rw (p, k, g, d, l, n) (octets_judged_lem o m rows judged) ∙ ap (λ b. listed b (judgment o m)) (sym (head_record o long head))
 
 pub returns-then-size-gt-MOST_OCTETS : goal.returns-then-size-gt-MOST_OCTETS
 unfolding rank_of record_in
