@@ -112,7 +112,10 @@ program)
     crates=$(counted "$2")
     said "$2" inside "$2" rt check || exit
     # rt builds a program by running it
-    (cd "crates/$2" && rt run <"$root/crates/$2/stdin" >"$root/target/log/$2.run" 2>&1)
+    input=$root/crates/$2/stdin
+    [ -f "$input" ] || input=/dev/null
+    rm -f "crates/$2/out/$2"
+    (inside "$2" rt run <"$input") >"target/log/$2.run" 2>&1
     code=$?
     [ -x "crates/$2/out/$2" ] || exit $code
     mkdir -p "$(dirname "$3")"

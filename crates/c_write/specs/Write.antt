@@ -5,7 +5,7 @@ use lib.{ListN.length}
 use Rattle.writing.specs.{declared.Written.Written, Writing.write_number, Octets.writing_octets}
 use Rattle.c_answer.specs.Answer.{length_bits}
 
--- Writing: the octets o of a record, the material m, and the room for the message, which is then `leavesOctets o m out`
+-- Writing: the octets o of a record, the material m, and the room for the message, which is then `leaves_octets o m out`
 
 unfoldable pub written_bits : Written → ℕ
 written_bits (Written.Length n) = length_bits n

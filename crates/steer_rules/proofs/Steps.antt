@@ -1,7 +1,7 @@
 -- Steps for a walk by hand of a loop, beside those of `types.Run`; they are of no function. Assumes nothing.
 --     tests        `while test { .. }`: the turn goes on where the test holds, and the loop is left where it fails
---     unless-ends  `if test { .. }` whose body ends in a `return`, and then the rest
---     says-one     a number x of which φ holds is put under `some` and `given`, as an invariant has it
+--     unless_ends  `if test { .. }` whose body ends in a `return`, and then the rest
+--     says_one     a number x of which φ holds is put under `some` and `given`, as an invariant has it
 use Prim.Native.Nat.{ℕ}
 use mathlib.Core.Path.{◌≡◌, refl}
 use mathlib.Core.Bool.{Bool, true, false, not}

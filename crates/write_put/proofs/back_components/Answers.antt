@@ -1,4 +1,5 @@
 -- The head has the length of what it stands before. Assumes nothing.
+use native.Mathlib.Omega.{arith}
 use lib.ListN.{drop}
 use Rattle.base.proofs.Backs.{back_none}
 use Rattle.element.specs.Form.{series_form, shortest}
@@ -10,7 +11,7 @@ use Rattle.write_put.proofs.back_components.Goals as goal
 
 pub returns-then-count-eq0 : goal.returns-then-count-eq0
 unfolding shortest
-returns-then-count-eq0 c = rw (no_rows _ _ _ c.if-count-eq0.true) (back_none _ _ c.requires.room.within)
+returns-then-count-eq0 c = rw (no_rows c.args.material.now c.args.count (drop 44 c.args.octets.now) (omega arith)) (back_none _ _ c.requires.room.within)
 
 pub back_rows-next-requires-clause-in_bounds : goal.back_rows-next-requires-clause-in_bounds
 unfolding shortest
@@ -26,12 +27,12 @@ back_rows-next-requires-clause-octets_value_2 c = c.requires.octets_value_2
 
 pub back_rows-next-requires-clause-room : goal.back_rows-next-requires-clause-room
 unfolding shortest
-back_rows-next-requires-clause-room c = room_inside 0x6C (octets_of (series_form (row_form c.args.material.now) (rows_in c.args.count (drop 44 c.args.octets.now)))) (rw (some_rows _ _ _ c.if-count-eq0.false) at c.requires.room)
+back_rows-next-requires-clause-room c = room_inside 0x6C (octets_of (series_form (row_form c.args.material.now) (rows_in c.args.count (drop 44 c.args.octets.now)))) (rw (some_rows c.args.material.now c.args.count (drop 44 c.args.octets.now) (omega arith)) at c.requires.room)
 
 pub back_head-requires : goal.back_head-requires
 unfolding shortest
-back_head-requires c = let both = room_head c.back_rows-next.ensures 0x6C (rw (some_rows _ _ _ c.if-count-eq0.false) at c.requires.room) in record { room = both.0; n_bound = both.1 }
+back_head-requires c = let both = room_head c.back_rows-next.ensures 0x6C (rw (some_rows c.args.material.now c.args.count (drop 44 c.args.octets.now) (omega arith)) at c.requires.room) in record { room = both.0; n_bound = both.1 }
 
 pub returns : goal.returns
 unfolding shortest
-returns c = rw (some_rows _ _ _ c.if-count-eq0.false) (back_around c.back_rows-next.ensures 0x6C c.back_head.ensures)
+returns c = rw (some_rows c.args.material.now c.args.count (drop 44 c.args.octets.now) (omega arith)) (back_around c.back_rows-next.ensures 0x6C c.back_head.ensures)
