@@ -88,14 +88,14 @@ for name in ("read.txt", "05-unknown/read.txt"):
             current[1].append(line)
 
 SUMMARY = """-- A reading as a list of numbers. Assumes nothing.
+use Rattle.std.specs.Prelude.{Option as Optional, Some, None, Result, Ok, Err}
 use Prim.Native.Nat.{ℕ}
 use mathlib.Core.List.{List, [], ◌∷◌, ◌++◌}
-use mathlib.Core.Option.{Option, none, some}
 use lib.ListN.{take, drop}
 use lib.IntN.{ℤ, pos, negsuc}
 use Rattle.element.specs.Fault.{number_of}
-use Rattle.tcap.specs.declared.{Span.Span, OptionalSpan.OptionalSpan, OptionalOrig.OptionalOrig, OptionalDest.OptionalDest, InvokeId.InvokeId, LinkedId.LinkedId, Code.Code, Problem.Problem, Returned.Returned, ComponentKind.ComponentKind, Row.Row, Diagnostic.Diagnostic, Dialogue.Dialogue, MessageKind.MessageKind, Record.Record, Answer.Answer, Refusal.Refusal, Outcome.Outcome}
-use Rattle.tcap.proofs.Computing.{outcome_of}
+use Rattle.tcap.specs.declared.{Span.Span, OrigTransactionId.OrigTransactionId, DestTransactionId.DestTransactionId, Code.Code, Problem.Problem, ComponentKind.ComponentKind, Row.Row, Diagnostic.Diagnostic, Dialogue.Dialogue, MessageKind.MessageKind, Record.Record, Answer.Answer, Refusal.Refusal}
+use Rattle.tcap.proofs.Computing.{reading_of}
 
 abbrev pub kind : MessageKind → ℕ
 kind MessageKind.Unidirectional = 0
@@ -108,13 +108,9 @@ abbrev pub signed : ℤ → List ℕ
 signed (pos n) = 0 ∷ n ∷ []
 signed (negsuc n) = 1 ∷ n ∷ []
 
-abbrev pub invoke_id : InvokeId → List ℕ
-invoke_id InvokeId.Null = 0 ∷ []
-invoke_id (InvokeId.Id i) = 1 ∷ signed i
-
-abbrev pub linked_id : LinkedId → List ℕ
-linked_id LinkedId.Unlinked = 0 ∷ []
-linked_id (LinkedId.Linked i) = 1 ∷ signed i
+abbrev pub invoke_id : Optional ℤ → List ℕ
+invoke_id None = 0 ∷ []
+invoke_id (Some i) = 1 ∷ signed i
 
 abbrev pub problem : Problem → List ℕ
 problem (Problem.General n) = 3 ∷ 0 ∷ n ∷ []
@@ -130,27 +126,27 @@ module _ (m : List ℕ) where
   abbrev pub string : Span → List ℕ
   string s = s.len ∷ take s.len (drop s.place m)
 
-  abbrev pub optional : OptionalSpan → List ℕ
-  optional OptionalSpan.Absent = 0 ∷ []
-  optional (OptionalSpan.Present s) = 1 ∷ string s
+  abbrev pub optional : Optional Span → List ℕ
+  optional None = 0 ∷ []
+  optional (Some s) = 1 ∷ string s
 
   abbrev pub parameter : Span → List ℕ
   parameter s = 1 ∷ s.place ∷ s.len ∷ string s
 
-  abbrev pub parameter? : OptionalSpan → List ℕ
-  parameter? OptionalSpan.Absent = 0 ∷ []
-  parameter? (OptionalSpan.Present s) = parameter s
+  abbrev pub parameter? : Optional Span → List ℕ
+  parameter? None = 0 ∷ []
+  parameter? (Some s) = parameter s
 
   abbrev pub code : Code → List ℕ
   code (Code.Local z) = 1 ∷ signed z
   code (Code.Global s) = 2 ∷ string s
 
-  abbrev pub returned : Returned → List ℕ
-  returned Returned.Bare = 0 ∷ 0 ∷ 0 ∷ []
-  returned (Returned.Both c p) = 0 ∷ (code c ++ parameter p)
+  abbrev pub returned : Optional (Code × Span) → List ℕ
+  returned None = 0 ∷ 0 ∷ 0 ∷ []
+  returned (Some (c, p)) = 0 ∷ (code c ++ parameter p)
 
-  abbrev pub row : InvokeId → ComponentKind → List ℕ
-  row i (ComponentKind.Invoke l c p) = 1 ∷ (invoke_id i ++ (linked_id l ++ (code c ++ parameter? p)))
+  abbrev pub row : Optional ℤ → ComponentKind → List ℕ
+  row i (ComponentKind.Invoke l c p) = 1 ∷ (invoke_id i ++ (invoke_id l ++ (code c ++ parameter? p)))
   row i (ComponentKind.ResultLast r) = 2 ∷ (invoke_id i ++ returned r)
   row i (ComponentKind.ResultNotLast r) = 3 ∷ (invoke_id i ++ returned r)
   row i (ComponentKind.ReturnError c p) = 4 ∷ (invoke_id i ++ (0 ∷ (code c ++ parameter? p)))
@@ -170,25 +166,25 @@ module _ (m : List ℕ) where
   dialogue (Dialogue.OutsideElement n e) = 6 ∷ (string n ++ string e)
   dialogue (Dialogue.OutsideOctets n c) = 7 ∷ (string n ++ string c)
 
-  abbrev pub orig : OptionalOrig → List ℕ
-  orig OptionalOrig.NoOrig = 0 ∷ []
-  orig (OptionalOrig.Orig o) = 1 ∷ string o.0.octets
+  abbrev pub orig : Optional OrigTransactionId → List ℕ
+  orig None = 0 ∷ []
+  orig (Some o) = 1 ∷ string o.0.octets
 
-  abbrev pub dest : OptionalDest → List ℕ
-  dest OptionalDest.NoDest = 0 ∷ []
-  dest (OptionalDest.Dest e) = 1 ∷ string e.0.octets
+  abbrev pub dest : Optional DestTransactionId → List ℕ
+  dest None = 0 ∷ []
+  dest (Some e) = 1 ∷ string e.0.octets
 
   abbrev pub answer : Answer → List ℕ
   answer (Answer.AbortCause n) = 0 ∷ n ∷ []
   answer (Answer.RejectProblem n k i) = 1 ∷ n ∷ k ∷ invoke_id i
 
-  abbrev pub outcome : Outcome → Record → List ℕ
-  outcome Outcome.Accepted r = 1 ∷ kind r.kind ∷ (orig r.orig ++ (dest r.dest ++ (dialogue r.dialogue ++ (r.count ∷ rows (take r.count r.rows)))))
-  outcome (Outcome.Refused f) r = 0 ∷ number_of f.kind ∷ f.place ∷ (answer f.answer ++ orig f.orig)
+  abbrev pub outcome : Result Record Refusal → List ℕ
+  outcome (Ok r) = 1 ∷ kind r.kind ∷ (orig r.orig ++ (dest r.dest ++ (dialogue r.dialogue ++ (r.count ∷ rows (take r.count r.rows)))))
+  outcome (Err f) = 0 ∷ number_of f.kind ∷ f.place ∷ (answer f.answer ++ orig f.orig)
 
 unfoldable pub summary : List ℕ → List ℕ
-unfolding outcome_of rows
-summary m = let r = outcome_of m in outcome m r.outcome r.message
+unfolding reading_of rows
+summary m = outcome m (reading_of m)
 """
 
 

@@ -1,13 +1,14 @@
 -- Laws of puts: a put after a put is one put, and what a buffer holds that was written from its front. Assumes nothing.
-use Prim.Native.Nat.{ℕ, suc, ◌+◌, ◌≤◌, ◌<◌, min}
+use Prim.Native.Nat.{ℕ, suc, ◌+◌, ◌-◌, ◌≤◌, ◌<◌}
 use native.Mathlib.Omega.{arith}
 use native.Mathlib.Numerals.{add-one}
 use native.Mathlib.Nat.{add-zero, zero-add, add-suc, suc-add}
 use mathlib.Core.Path.{◌≡◌, refl, sym, ap, ◌∙◌}
 use mathlib.Core.Bool.{Bool, true, false}
-use mathlib.Core.List.{List, [], ◌∷◌, ◌++◌}
+use mathlib.Core.List.{List, [], ◌∷◌, ◌++◌, append_assoc}
 use lib.ListN.{length, drop, take, set, get_or, length-append}
-use lib.Seq.{sets, sets-eq, length-sets, set_out, take-suc}
+use borrow.Rule.Slice.PartMut.{put_mid}
+use lib.Seq.{sets, sets-eq, length-sets, set_out, take-suc, drop-drop}
 use lib.Dec.{leb}
 use borrow.Author.Tests.{leb-true, leb-false}
 use Rattle.base.specs.inner.Put.{farthest, Put}
@@ -59,12 +60,15 @@ put_nowhere {at} {s} p = p.holds ∙ sets_out [] at s (omega arith)
 pub put_none : (d : List ℕ) (at : ℕ) → length d ≤ farthest → at ≤ farthest → Put d at [] at d
 put_none d at w h = record { within = w; ends = omega arith; holds = refl }
 
--- one octet within the buffer, and one outside it
-pub put_in : (d : List ℕ) (at x r : ℕ) → length d ≤ farthest → at < length d → r ≡ at + 1 → Put d at (x ∷ []) r (set d at x)
-put_in d at x r w h k = record { within = w; ends = omega arith; holds = refl }
-
-pub put_out : (d : List ℕ) (at x r : ℕ) → length d ≤ farthest → length d ≤ at → r ≡ min (at + 1) farthest → Put d at (x ∷ []) r d
-put_out d at x r w h k = record { within = w; ends = k; holds = sym (set_out d at x h) }
+-- a part within the buffer
+pub put_all : (d s : List ℕ) (at : ℕ) → length d ≤ farthest → at + length s ≤ length d → Put d at s (at + length s) (put_mid at (at + length s - at) d s)
+put_all d s at w h =
+    let z : at + length s - at ≡ length s = omega arith in
+    record {
+      within = w;
+      ends = omega arith;
+      holds = rw (z, drop-drop (length s) at d) (sym (sets-eq s d at h ∙ append_assoc (take at d) s (drop (at + length s) d)));
+    }
 
 -- a turn of a loop that copies
 pub put_more : (s : List ℕ) (i : ℕ) {d : List ℕ} {at : ℕ} {o : ℕ} {e : List ℕ} {q : ℕ} {f : List ℕ} → i < length s → Put d at (take i s) o e → Put e o (get_or s i 0 ∷ []) q f → Put d at (take (i + 1) s) q f

@@ -5,9 +5,6 @@ ghost use Rattle.std.specs.Prelude.{◌≡◌, ◌+◌, ◌<◌, ◌≤◌, [], 
 ghost use Rattle.base.specs.inner.Put.{Put};
 ghost use Rattle.base.specs.inner.Back.{Room, PutBack};
 
-// The largest place.
-const FARTHEST: usize = 18446744073709551615;
-
 // The part from `at` on.
 pub fn after(part: &[u8], at: usize) -> &[u8]
     requires { at ≤ length part.now }
@@ -39,128 +36,53 @@ pub fn put_octet(out: &mut [u8], at: usize, octet: u8) -> usize
         out[at] = octet;
         return at + 1;
     }
-    if at < FARTHEST {
-        return at + 1;
-    }
-    at
-}
-
-// Two octets, and three, one after the other.
-fn put_pair(out: &mut [u8], at: usize, one: u8, two: u8) -> usize
-    ensures { Put out.old at (one ∷ two ∷ []) result out.new }
-{
-    let next = put_octet(out, at, one);
-    put_octet(out, next, two)
-}
-
-fn put_triple(out: &mut [u8], at: usize, one: u8, two: u8, three: u8) -> usize
-    ensures { Put out.old at (one ∷ two ∷ three ∷ []) result out.new }
-{
-    let next = put_octet(out, at, one);
-    put_pair(out, next, two, three)
-}
-
-// The same, with the room asked for once.
-pub fn put_two(out: &mut [u8], at: usize, one: u8, two: u8) -> usize
-    ensures { Put out.old at (one ∷ two ∷ []) result out.new }
-{
-    if out.len() <= at {
-        return put_pair(out, at, one, two);
-    }
-    if out.len() - at < 2 {
-        return put_pair(out, at, one, two);
-    }
-    out[at] = one;
-    out[at + 1] = two;
-    at + 2
-}
-
-pub fn put_three(out: &mut [u8], at: usize, one: u8, two: u8, three: u8) -> usize
-    ensures { Put out.old at (one ∷ two ∷ three ∷ []) result out.new }
-{
-    if out.len() <= at {
-        return put_triple(out, at, one, two, three);
-    }
-    if out.len() - at < 3 {
-        return put_triple(out, at, one, two, three);
-    }
-    out[at] = one;
-    out[at + 1] = two;
-    out[at + 2] = three;
-    at + 3
+    at.saturating_add(1)
 }
 
 // All octets of a part, one after the other.
+#[tactic(auto, using(crate::proofs::Puts::put_none, crate::proofs::Puts::put_length))]
 fn put_each(out: &mut [u8], at: usize, part: &[u8]) -> usize
     ensures { Put out.old at part.now result out.new }
 {
-    let mut i = 0;
-    let mut o = at;
-    while i < part.len() {
-        o = put_octet(out, o, part[i]);
-        i += 1;
+    let mut next = at;
+    for octet in part {
+        next = put_octet(out, next, *octet);
     }
-    o
-}
-
-// All octets of a part where there is room for them.
-fn copy_part(out: &mut [u8], at: usize, part: &[u8]) -> usize
-    requires { at + length part.now ≤ length out.old }
-    ensures { Put out.old at part.now result out.new }
-{
-    let mut i = 0;
-    while i < part.len() {
-        out[at + i] = part[i];
-        i += 1;
-    }
-    at + i
+    next
 }
 
 // All octets of a part, with the room asked for once.
 pub fn put_part(out: &mut [u8], at: usize, part: &[u8]) -> usize
     ensures { Put out.old at part.now result out.new }
 {
-    if out.len() < at {
-        return put_each(out, at, part);
+    if at <= out.len() && part.len() <= out.len() - at {
+        out[at..at + part.len()].copy_from_slice(part);
+        return at + part.len();
     }
-    if out.len() - at < part.len() {
-        return put_each(out, at, part);
-    }
-    copy_part(out, at, part)
+    put_each(out, at, part)
 }
 
-// Two octets, and three, that end where `at` is; the place where they begin.
-pub fn back_two(out: &mut [u8], at: usize, one: u8, two: u8) -> usize
-    requires { Room out.old at (one ∷ two ∷ []) }
-    ensures { PutBack out.old at (one ∷ two ∷ []) result out.new }
+// The octets of an array, one after the other, with the room asked for once.
+pub fn put_octets<const N: usize>(out: &mut [u8], at: usize, octets: [u8; N]) -> usize
+    ensures { Put out.old at octets.entry result out.new }
 {
-    let start = at - 2;
-    out[start] = one;
-    out[start + 1] = two;
-    start
+    put_part(out, at, &octets)
 }
 
-pub fn back_three(out: &mut [u8], at: usize, one: u8, two: u8, three: u8) -> usize
-    requires { Room out.old at (one ∷ two ∷ three ∷ []) }
-    ensures { PutBack out.old at (one ∷ two ∷ three ∷ []) result out.new }
-{
-    let start = at - 3;
-    out[start] = one;
-    out[start + 1] = two;
-    out[start + 2] = three;
-    start
-}
-
-// All octets of a part.
+// All octets of a part that end where `at` is; the place where they begin.
 pub fn back_part(out: &mut [u8], at: usize, part: &[u8]) -> usize
     requires { Room out.old at part.now }
     ensures { PutBack out.old at part.now result out.new }
 {
     let start = at - part.len();
-    let mut i = 0;
-    while i < part.len() {
-        out[start + i] = part[i];
-        i += 1;
-    }
+    out[start..at].copy_from_slice(part);
     start
+}
+
+// The octets of an array that end where `at` is.
+pub fn back_octets<const N: usize>(out: &mut [u8], at: usize, octets: [u8; N]) -> usize
+    requires { Room out.old at octets }
+    ensures { PutBack out.old at octets.entry result out.new }
+{
+    back_part(out, at, &octets)
 }

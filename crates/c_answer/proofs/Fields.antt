@@ -1,9 +1,10 @@
 -- The fields of a refusal's answer, read back by division and remainder. Assumes nothing.
+use Rattle.std.specs.Prelude.{ℤ, Option as Optional, None}
 use Prim.Native.Nat.{ℕ, ◌+◌, ◌*◌, ◌/◌, ◌%◌, ◌^◌, ◌<◌}
 use native.Mathlib.Omega.{arith}
 use mathlib.Core.Path.{◌≡◌}
 use Rattle.element.specs.Fault.{number_of}
-use Rattle.tcap.specs.declared.{InvokeId.InvokeId, Answer.Answer, Refusal.Refusal}
+use Rattle.tcap.specs.declared.{Answer.Answer, Refusal.Refusal}
 use Rattle.layout.specs.Layout.{orig_span, id_flag, id_octet}
 use Rattle.c_answer.specs.Answer.{orig_bits, send_bits, refusal_bits, length_bits}
 use Rattle.c_answer.proofs.Bits.{flag_small, number_small}
@@ -21,8 +22,8 @@ abbrev pub component_of : Answer → ℕ
 component_of (Answer.AbortCause n) = 0
 component_of (Answer.RejectProblem n k i) = k
 
-abbrev pub id_of : Answer → InvokeId
-id_of (Answer.AbortCause n) = InvokeId.Null
+abbrev pub id_of : Answer → Optional ℤ
+id_of (Answer.AbortCause n) = None
 id_of (Answer.RejectProblem n k i) = i
 
 -- the upper 20 bits

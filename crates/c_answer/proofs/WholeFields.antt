@@ -1,4 +1,6 @@
 -- The answer to a refused message tells its place, its IDs, its cause or problem and its component whole: the fields are wide enough. Assumes nothing.
+use Rattle.tcap.specs.Reading.{outcome_of}
+use Rattle.std.specs.Prelude.{⊤, Option as Optional, Some, None, Result, Err}
 use Prim.Native.Nat.{ℕ, ◌+◌, ◌/◌, ◌%◌, ◌^◌, ◌≤◌, ◌<◌}
 use native.Mathlib.Omega.{arith}
 use mathlib.Core.Path.{◌≡◌, refl}
@@ -16,7 +18,7 @@ use Rattle.element.specs.declared.FaultKind.{FaultKind}
 use Rattle.element.specs.Fault.{Owner}
 use Rattle.element.specs.Ask.{check}
 use Rattle.element.proofs.StringPlaces.{stands_here, here_within}
-use Rattle.tcap.specs.declared.{OptionalOrig.OptionalOrig, InvokeId.InvokeId, Answer.Answer, Refusal.Refusal, Outcome.Outcome}
+use Rattle.tcap.specs.declared.{OrigTransactionId.OrigTransactionId, Answer.Answer, Refusal.Refusal}
 use Rattle.tcap.specs.WellFormed.{most_octets, most_components, most_transaction_id_octets, id_ok}
 use Rattle.tcap.specs.Reading.{located_up_to, refusal_of, answered, reading_up_to, reading}
 use Rattle.tcap.specs.Standard.{Standard, no_message, seventeenth, inside6_b, unknown_component, mistyped_component, bad_component, mistyped_elsewhere, bad_elsewhere, overlong, octets_after}
@@ -40,26 +42,26 @@ standard_small (bad_elsewhere s) = omega arith
 standard_small overlong = omega arith
 standard_small octets_after = omega arith
 
-orig_small : (m : List ℕ) (o : OptionalOrig) → OrigRead m o → ((orig_span o).place + (orig_span o).len ≤ length m) × ((orig_span o).len ≤ most_transaction_id_octets)
+orig_small : (m : List ℕ) (o : Optional OrigTransactionId) → OrigRead m o → ((orig_span o).place + (orig_span o).len ≤ length m) × ((orig_span o).len ≤ most_transaction_id_octets)
 unfolding orig_span id_ok
 orig_small m o (inl e) = rw e (omega arith, omega arith)
 orig_small m o (inr (t, e, s, k)) = rw e ((here_within (stands_here (some 0x48, t) s)).0, leb-true _ _ ((and-eq-true_iff (leb 1 (length t.1)) _).0 k).1)
 
 sent_fits : (a : Answer) → SendOk a → IdFits (id_of a)
 sent_fits (Answer.AbortCause n) h = tt
-sent_fits (Answer.RejectProblem n k InvokeId.Null) h = tt
-sent_fits (Answer.RejectProblem n k (InvokeId.Id i)) h = h
+sent_fits (Answer.RejectProblem n k None) h = tt
+sent_fits (Answer.RejectProblem n k (Some i)) h = h
 
-octet_small : (i : InvokeId) → IdFits i → id_octet i % 2 ^ 8 ≡ id_octet i
+octet_small : (i : Optional ℤ) → IdFits i → id_octet i % 2 ^ 8 ≡ id_octet i
 unfolding id_octet top_of
-octet_small InvokeId.Null h = omega arith
-octet_small (InvokeId.Id z) h = omega (arith, bits_within (top_of 1) z (holds_small 1 z h))
+octet_small None h = omega arith
+octet_small (Some z) h = omega (arith, bits_within (top_of 1) z (holds_small 1 z h))
 
-refusal_of_lem : (f g : Refusal) → Outcome.Refused f ≡ Outcome.Refused g → f ≡ g
+refusal_of_lem : (f g : Refusal) → ◌≡◌ {A = Result ⊤ Refusal} (Err f) (Err g) → f ≡ g
 refusal_of_lem f g e = cc
 
 -- a message over 255 octets is refused at 255, and no ID is sought
-module _ (m : List ℕ) (f : Refusal) (h : (reading m).outcome ≡ Outcome.Refused f) where
+module _ (m : List ℕ) (f : Refusal) (h : outcome_of (reading m) ≡ Err f) where
   by_length : (b : Bool) → leb (length m) most_octets ≡ b → (f.place ≤ most_octets) × ((orig_span f.orig).place ≤ most_octets)
   unfolding reading reading_up_to located_up_to answered refusal_of check orig_span
   by_length true e = let c = (refused_carries m f h).0 in (omega (arith, c.place, leb-true (length m) most_octets e), omega (arith, (orig_small m f.orig c.orig_id).0, leb-true (length m) most_octets e))

@@ -6,7 +6,6 @@ ghost use Rattle.c_read.specs.Read.{read_answer, read_room};
 
 use base::put_part;
 use c_answer::refusal_bits;
-use tcap::Outcome;
 
 // Reads a message into the room for a record: 0, or the refusal. Too little room is 25, before all else, and a refusal leaves the room alone.
 pub fn read_answer(message: &[u8], room: &mut [u8]) -> u64
@@ -16,14 +15,13 @@ pub fn read_answer(message: &[u8], room: &mut [u8]) -> u64
     if room.len() < 428 {
         return 25;
     }
-    let mut octets = [0u8; 428];
-    let outcome = read::read_octets(message, &mut octets);
-    match outcome {
-        Outcome::Accepted => {
+    let mut octets = [0; 428];
+    match read::read_octets(message, &mut octets) {
+        Ok(()) => {
             let count = octets[7] as usize;
             put_part(room, 0, &octets[..44 + count * 24]);
             0
         }
-        Outcome::Refused(refusal) => refusal_bits(refusal),
+        Err(refusal) => refusal_bits(refusal),
     }
 }

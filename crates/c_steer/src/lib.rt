@@ -5,22 +5,25 @@ ghost use Rattle.std.specs.Prelude.{◌≡◌};
 ghost use Rattle.c_steer.specs.Steer.{steered_bits, steer_answer};
 
 use c_answer::refusal_bits;
-use steering::Steered;
+use steer_octets::steer_octets;
+use tcap::Refusal;
 
-fn steered_bits(steered: Steered) -> u64
+// What is told of a steering: 64 for no rule, a link in the upper four octets, or the refusal.
+#[tactic(auto, unfolding(crate::specs::Steer::steered_bits))]
+fn steered_bits(steered: Result<Option<u32>, Refusal>) -> u64
     ensures { result ≡ steered_bits steered }
 {
     match steered {
-        Steered::NoRule => 64,
-        Steered::Link(link) => link as u64 * 4294967296,
-        Steered::Refused(refusal) => refusal_bits(refusal),
+        Ok(None) => 64,
+        Ok(Some(link)) => u64::from(link) << 32,
+        Err(refusal) => refusal_bits(refusal),
     }
 }
 
 // The link of the first rule that fits a message, 64 if none does, or the reader's refusal.
+#[tactic(auto, unfolding(crate::specs::Steer::steer_answer))]
 pub fn steer_answer(message: &[u8], rules: &[u8]) -> u64
     ensures { result ≡ steer_answer message.now rules.now }
 {
-    let steered = steer_octets::steer_octets(message, rules);
-    steered_bits(steered)
+    steered_bits(steer_octets(message, rules))
 }

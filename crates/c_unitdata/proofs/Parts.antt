@@ -1,11 +1,12 @@
 -- The fields of what C is told of a unitdata: they lie side by side in 64 bits, are wide enough, and are read back by division and remainder.
 -- Assumes nothing.
+use Rattle.std.specs.Prelude.{Result, Ok, Err}
 use Prim.Native.Nat.{ℕ, ◌+◌, ◌*◌, ◌/◌, ◌%◌, ◌^◌, ◌<◌}
 use native.Mathlib.Omega.{arith}
 use mathlib.Core.Path.{◌≡◌, refl}
 use mathlib.Core.List.{List}
 use lib.ListN.{length, get_or}
-use Rattle.sccp.specs.declared.{Part.Part, Unitdata.Unitdata, UnitdataFault.UnitdataFault, UnitdataRead.UnitdataRead, UnitdataWriteFault.UnitdataWriteFault, UnitdataWritten.UnitdataWritten}
+use Rattle.sccp.specs.declared.{Part.Part, Unitdata.Unitdata, UnitdataFault.UnitdataFault, UnitdataWriteFault.UnitdataWriteFault}
 use Rattle.sccp.specs.Unitdata.{read_unitdata, unitdata_number, unitdata_status}
 use Rattle.sccp.specs.Standing.{Stands}
 use Rattle.sccp.specs.Writing.{writing_unitdata, unitdata_write_number, unitdata_write_status}
@@ -29,7 +30,7 @@ fields : (a b d w : ℕ) → a < 2 ^ 17 → b < 2 ^ 17 → d < 2 ^ 17 → w ≡ 
 fields a b d w h i j e = (omega arith, omega arith, omega arith, omega arith)
 
 -- octets are below 256, so that no place is above 260 and no length above 255
-module _ (m : List ℕ) (u : Unitdata) (o : (i : ℕ) → get_or m i 0 < 256) (e : read_unitdata m ≡ UnitdataRead.Read u) where
+module _ (m : List ℕ) (u : Unitdata) (o : (i : ℕ) → get_or m i 0 < 256) (e : read_unitdata m ≡ Ok u) where
   s : Stands m u
   s = (read_exactly m u).0 e
 
@@ -54,23 +55,23 @@ module _ (m : List ℕ) (u : Unitdata) (o : (i : ℕ) → get_or m i 0 < 256) (e
       (n.0, omega arith, omega arith, omega arith, omega arith, omega arith, omega arith)
 
 -- and in both calls the status is the number of the answer
-read_status : (r : UnitdataRead) → unitdata_bits r % 2 ^ 8 ≡ unitdata_status r
+read_status : (r : Result Unitdata UnitdataFault) → unitdata_bits r % 2 ^ 8 ≡ unitdata_status r
 unfolding unitdata_bits unitdata_status unitdata_number
-read_status (UnitdataRead.Refused UnitdataFault.OtherType) = refl
-read_status (UnitdataRead.Refused UnitdataFault.PastEnd) = refl
-read_status (UnitdataRead.Refused UnitdataFault.Overlap) = refl
-read_status (UnitdataRead.Refused UnitdataFault.EmptyAddress) = refl
-read_status (UnitdataRead.Read u) = omega arith
+read_status (Err UnitdataFault.OtherType) = refl
+read_status (Err UnitdataFault.PastEnd) = refl
+read_status (Err UnitdataFault.Overlap) = refl
+read_status (Err UnitdataFault.EmptyAddress) = refl
+read_status (Ok u) = omega arith
 
 pub told_status : (m : List ℕ) → unitdata_answer m % 2 ^ 8 ≡ unitdata_status (read_unitdata m)
 unfolding unitdata_answer
 told_status m = read_status (read_unitdata m)
 
-written_status : (w : UnitdataWritten) → unitdata_written_bits w % 2 ^ 8 ≡ unitdata_write_status w
+written_status : (w : Result ℕ UnitdataWriteFault) → unitdata_written_bits w % 2 ^ 8 ≡ unitdata_write_status w
 unfolding unitdata_written_bits unitdata_write_status unitdata_write_number length_bits
-written_status (UnitdataWritten.Refused UnitdataWriteFault.OutOfRange) = refl
-written_status (UnitdataWritten.Refused UnitdataWriteFault.NoRoom) = refl
-written_status (UnitdataWritten.Length n) = omega arith
+written_status (Err UnitdataWriteFault.OutOfRange) = refl
+written_status (Err UnitdataWriteFault.NoRoom) = refl
+written_status (Ok n) = omega arith
 
 module _ (c : ℕ) (a b d out : List ℕ) where
   pub told_write_status : unitdata_write_answer c a b d out % 2 ^ 8 ≡ unitdata_write_status (writing_unitdata c a b d (length out))
@@ -78,7 +79,7 @@ module _ (c : ℕ) (a b d out : List ℕ) where
   told_write_status = written_status (writing_unitdata c a b d (length out))
 
   -- a unitdata has at most 515 octets, so that its length is told whole
-  pub told_length : (n : ℕ) → writing_unitdata c a b d (length out) ≡ UnitdataWritten.Length n → unitdata_write_answer c a b d out / 2 ^ 8 % 2 ^ 16 ≡ n
+  pub told_length : (n : ℕ) → writing_unitdata c a b d (length out) ≡ Ok n → unitdata_write_answer c a b d out / 2 ^ 8 % 2 ^ 16 ≡ n
   unfolding unitdata_write_answer unitdata_written_bits length_bits
   told_length n e =
       let w = (written_exactly c a b d out n).0 e in

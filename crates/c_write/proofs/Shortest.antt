@@ -1,4 +1,5 @@
 -- Demand 3 as C is told it: the statement of writing/specs/Shortest, with what 64 bits say. Assumes nothing.
+use Rattle.std.specs.Prelude.{Result, Ok, Err}
 use Prim.Native.Nat.{ℕ, ◌*◌, ◌%◌, ◌^◌, ◌≤◌}
 use native.Mathlib.Omega.{arith}
 use mathlib.Core.Path.{◌≡◌, refl, ap, ◌∙◌}
@@ -6,7 +7,7 @@ use mathlib.Core.Logic.{◌↔◌, ◌⊎◌, inl, inr}
 use mathlib.Core.Bool.{true, false}
 use mathlib.Core.List.{List}
 use lib.ListN.{length}
-use Rattle.writing.specs.declared.{WriteFault.WriteFault, Written.Written}
+use Rattle.writing.specs.declared.{WriteFault.WriteFault}
 use Rattle.writing.specs.Writing.{write_number, writing}
 use Rattle.writing.specs.Octets.{writing_octets, leaves_octets}
 use Rattle.writing.specs.Shortest.{WritesShortest, Says, Refuses}
@@ -32,21 +33,21 @@ numbers WriteFault.OutOfMaterial = (omega arith, omega arith)
 numbers WriteFault.Unshaped = (omega arith, omega arith)
 numbers WriteFault.NoRoom = (omega arith, omega arith)
 
-says_bits : (w : Written) → ((k : ℕ) → Says w k → k ≤ 255) → (n : ℕ) → Says w n ↔ SaysBits (written_bits w) n
+says_bits : (w : Result ℕ WriteFault) → ((k : ℕ) → Says w k → k ≤ 255) → (n : ℕ) → Says w n ↔ SaysBits (written_bits w) n
 unfolding written_bits length_bits
-says_bits (Written.Length k) small n =
+says_bits (Ok k) small n =
     let whole : k % 2 ^ 16 ≡ k = omega (arith, small k refl) in (
       λ e. let q : k ≡ n = cc in rw (whole, q),
-      λ e. let d : k * 2 ^ 8 ≡ n * 2 ^ 8 = rw whole at e in let q : k ≡ n = omega arith in ap Written.Length q,
+      λ e. let d : k * 2 ^ 8 ≡ n * 2 ^ 8 = rw whole at e in let q : k ≡ n = omega arith in ap Ok q,
     )
-says_bits (Written.Refused f) small n = (λ e. let z : ◌≡◌ {A = ℕ} 0 1 = cc in absurd (omega arith), λ e. absurd (omega (arith, e, (numbers f).0, (numbers f).1)))
+says_bits (Err f) small n = (λ e. let z : ◌≡◌ {A = ℕ} 0 1 = cc in absurd (omega arith), λ e. absurd (omega (arith, e, (numbers f).0, (numbers f).1)))
 
-refuses_bits : (w : Written) (n : ℕ) → Refuses w n ↔ RefusesBits (written_bits w) n
+refuses_bits : (w : Result ℕ WriteFault) (n : ℕ) → Refuses w n ↔ RefusesBits (written_bits w) n
 unfolding written_bits length_bits
-refuses_bits (Written.Length k) n = (λ (f, e, x). let z : ◌≡◌ {A = ℕ} 0 1 = cc in absurd (omega arith), λ (a, b, e). absurd (omega arith))
-refuses_bits (Written.Refused g) n = (λ (f, e, x). let q : g ≡ f = cc in (omega (arith, (numbers f).0), omega (arith, (numbers f).1), ap write_number q ∙ x), λ h. (g, refl, h.2))
+refuses_bits (Ok k) n = (λ (f, e, x). let z : ◌≡◌ {A = ℕ} 0 1 = cc in absurd (omega arith), λ (a, b, e). absurd (omega arith))
+refuses_bits (Err g) n = (λ (f, e, x). let q : g ≡ f = cc in (omega (arith, (numbers f).0), omega (arith, (numbers f).1), ap write_number q ∙ x), λ h. (g, refl, h.2))
 
-told_length : (k : ℕ) → (n : ℕ) × SaysBits (written_bits (Written.Length k)) n
+told_length : (k : ℕ) → (n : ℕ) × SaysBits (written_bits (Ok k)) n
 unfolding written_bits length_bits
 told_length k = (k % 2 ^ 16, refl)
 
@@ -68,9 +69,9 @@ module _ (o m out : List ℕ) {answer : ℕ} {new : List ℕ} (answers : answer 
   unfolding write_answer
   c_told = rw answers (by_answer (writing_octets o m (length out)))
     where
-      by_answer : (w : Written) → ((n : ℕ) × SaysBits (written_bits w) n) ⊎ ((n : ℕ) × RefusesBits (written_bits w) n)
-      by_answer (Written.Length k) = inl (told_length k)
-      by_answer (Written.Refused f) = inr (write_number f, (refuses_bits (Written.Refused f) (write_number f)).0 (f, refl, refl))
+      by_answer : (w : Result ℕ WriteFault) → ((n : ℕ) × SaysBits (written_bits w) n) ⊎ ((n : ℕ) × RefusesBits (written_bits w) n)
+      by_answer (Ok k) = inl (told_length k)
+      by_answer (Err f) = inr (write_number f, (refuses_bits (Err f) (write_number f)).0 (f, refl, refl))
 
   -- others: 24, and the buffer stays
   pub c_refused : is_record o ≡ false → (answer ≡ 24) × (new ≡ out)

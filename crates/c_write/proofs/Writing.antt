@@ -1,6 +1,8 @@
 -- Writing through the boundary: octets that are no record are refused with 24, and of all others the writer's promises hold.
 -- Assumes nothing.
-use Prim.Native.Nat.{ℕ, ◌+◌, ◌-◌, ◌/◌, ◌%◌, ◌^◌, ◌≤◌, ◌<◌}
+use Rattle.tcap.specs.Reading.{outcome_of, handed_back}
+use Rattle.std.specs.Prelude.{Result, Ok, Err}
+use Prim.Native.Nat.{ℕ, ◌-◌, ◌/◌, ◌%◌, ◌^◌, ◌≤◌, ◌<◌}
 use native.Mathlib.Omega.{arith}
 use mathlib.Core.Path.{◌≡◌, refl, sym, ap, ◌∙◌}
 use mathlib.Core.Logic.{◌↔◌}
@@ -10,11 +12,11 @@ use lib.ListN.{length, take, drop, replicate, length-take}
 use lib.Seq.{take_at, take_all}
 use lib.Dec.{leb}
 use borrow.Author.Tests.{leb-true, leb-false}
-use Rattle.tcap.specs.declared.{Record.Record, Outcome.Outcome}
+use Rattle.tcap.specs.declared.{Record.Record}
 use Rattle.tcap.specs.Record.{blank_row, meaning_of, Same}
 use Rattle.tcap.specs.Reading.{reading}
 use Rattle.tcap.specs.Verdict.{counted, all_parts, all_ranges, all_lie, all_shaped}
-use Rattle.writing.specs.declared.{WriteFault.WriteFault, Written.Written}
+use Rattle.writing.specs.declared.{WriteFault.WriteFault}
 use Rattle.writing.specs.Writing.{write_number, message_of, writing, RefusedWith, leaves, Writes}
 use Rattle.writing.specs.Octets.{writing_octets, leaves_octets}
 use Rattle.writing.proofs.Promises.{success, success_buffer, reads_back}
@@ -32,40 +34,40 @@ module _ (o m out : List ℕ) where
   no_record h = rw h (refl, refl)
 
   -- the answer, and the buffer, of the writer called with the record
-  pub record_writes : is_record o ≡ true → (w : Written) × (write_answer o m out ≡ written_bits w) × Writes (record_in o) m out w (leaves_octets o m out)
+  pub record_writes : is_record o ≡ true → (w : Result ℕ WriteFault) × (write_answer o m out ≡ written_bits w) × Writes (record_in o) m out w (leaves_octets o m out)
   unfolding write_answer writing_octets leaves_octets
   record_writes h = (writing (record_in o) m (length out), rw h, rw h (record { answers = refl; holds = refl }))
 
-  by_refused : (w : Written) (n : ℕ) → 21 ≤ n → n ≤ 25 → written_bits w ≡ n → (f : WriteFault) × (w ≡ Written.Refused f) × (write_number f ≡ n)
+  by_refused : (w : Result ℕ WriteFault) (n : ℕ) → 21 ≤ n → n ≤ 25 → written_bits w ≡ n → (f : WriteFault) × (w ≡ Err f) × (write_number f ≡ n)
   unfolding written_bits length_bits
-  by_refused (Written.Length k) n a b e = absurd (omega arith)
-  by_refused (Written.Refused f) n a b e = (f, refl, e)
+  by_refused (Ok k) n a b e = absurd (omega arith)
+  by_refused (Err f) n a b e = (f, refl, e)
 
   -- the numbers are the writer's
   pub refused_exactly : is_record o ≡ true → (n : ℕ) → 21 ≤ n → n ≤ 25 → (write_answer o m out ≡ n) ↔ RefusedWith (record_in o) m (length out) n
   unfolding write_answer writing_octets RefusedWith written_bits
   refused_exactly h n a b = (λ e. by_refused (writing (record_in o) m (length out)) n a b (rw h at e), λ g. rw (h, g.1) g.2)
 
-  by_done : (w : Written) → Writes (record_in o) m out w (leaves_octets o m out) → written_bits w % 2 ^ 8 ≡ 0 → w ≡ Written.Length (written_bits w / 2 ^ 8)
+  by_done : (w : Result ℕ WriteFault) → Writes (record_in o) m out w (leaves_octets o m out) → written_bits w % 2 ^ 8 ≡ 0 → w ≡ Ok (written_bits w / 2 ^ 8)
   unfolding written_bits length_bits write_number
-  by_done (Written.Length k) i e =
+  by_done (Ok k) i e =
       let s = success (record_in o) m (length out) (sym i.answers) in
       let small : k < 2 ^ 16 = omega (arith, s.counts, s.most) in
-      ap Written.Length (length_told k small)
-  by_done (Written.Refused WriteFault.WrongParts) i e = absurd (omega arith)
-  by_done (Written.Refused WriteFault.OutOfRange) i e = absurd (omega arith)
-  by_done (Written.Refused WriteFault.OutOfMaterial) i e = absurd (omega arith)
-  by_done (Written.Refused WriteFault.Unshaped) i e = absurd (omega arith)
-  by_done (Written.Refused WriteFault.NoRoom) i e = absurd (omega arith)
+      ap Ok (length_told k small)
+  by_done (Err WriteFault.WrongParts) i e = absurd (omega arith)
+  by_done (Err WriteFault.OutOfRange) i e = absurd (omega arith)
+  by_done (Err WriteFault.OutOfMaterial) i e = absurd (omega arith)
+  by_done (Err WriteFault.Unshaped) i e = absurd (omega arith)
+  by_done (Err WriteFault.NoRoom) i e = absurd (omega arith)
 
   -- a done writing tells the length of a message that reads back as the record, and leaves what stands behind it
   pub done_writes : is_record o ≡ true → write_answer o m out % 2 ^ 8 ≡ 0
-      → let n = write_answer o m out / 2 ^ 8 in let s = take n (leaves_octets o m out) in ((reading s).outcome ≡ Outcome.Accepted) × Same (record_in o) m (reading s).message s × (drop n (leaves_octets o m out) ≡ drop n out)
+      → let n = write_answer o m out / 2 ^ 8 in let s = take n (leaves_octets o m out) in (outcome_of (reading s) ≡ Ok tt) × Same (record_in o) m (handed_back (reading s)) s × (drop n (leaves_octets o m out) ≡ drop n out)
   done_writes h e =
       let (w, a, i) = record_writes h in
       let n = write_answer o m out / 2 ^ 8 in
-      let q : w ≡ Written.Length n = by_done w i (rw a at e) ∙ ap (λ k. Written.Length (k / 2 ^ 8)) (sym a) in
-      let j : Writes (record_in o) m out (Written.Length n) (leaves_octets o m out) = rw q at i in
+      let q : w ≡ Ok n = by_done w i (rw a at e) ∙ ap (λ k. Ok (k / 2 ^ 8)) (sym a) in
+      let j : Writes (record_in o) m out (Ok n) (leaves_octets o m out) = rw q at i in
       let b = reads_back (record_in o) m out (octets_fit o) j in
       (b.0, b.1, (success_buffer (record_in o) m out j).1)
 

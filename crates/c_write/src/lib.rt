@@ -3,30 +3,16 @@
 
 ghost use Rattle.std.specs.Prelude.{◌≡◌};
 ghost use Rattle.writing.specs.Octets.{leaves_octets};
-ghost use Rattle.writing.specs.Writing.{write_number};
 ghost use Rattle.c_write.specs.Write.{written_bits, write_answer};
 
-use writing::{WriteFault, Written};
+use writing::WriteFault;
 
-// Document 01's number of a refused writing.
-fn write_number(fault: WriteFault) -> u64
-    ensures { result ≡ write_number fault }
-{
-    match fault {
-        WriteFault::WrongParts => 24,
-        WriteFault::OutOfRange => 23,
-        WriteFault::OutOfMaterial => 21,
-        WriteFault::Unshaped => 22,
-        WriteFault::NoRoom => 25,
-    }
-}
-
-fn written_bits(written: Written) -> u64
+fn written_bits(written: Result<usize, WriteFault>) -> u64
     ensures { result ≡ written_bits written }
 {
     match written {
-        Written::Length(size) => (size % 65536) as u64 * 256,
-        Written::Refused(fault) => write_number(fault),
+        Ok(size) => (size % 65536) as u64 * 256,
+        Err(fault) => u64::from(fault),
     }
 }
 

@@ -1,17 +1,16 @@
 -- Laws of digits: a number by its last digit and how many it has, a signed number by its bits, and one octet more in hex. Assumes nothing.
-use Prim.Native.Nat.{ℕ, zero, suc, ◌+◌, ◌-◌, ◌*◌, ◌/◌, ◌%◌, ◌<◌, ◌≤◌}
+use Prim.Native.Nat.{ℕ, zero, suc, ◌+◌, ◌*◌, ◌/◌, ◌%◌, ◌<◌, ◌≤◌}
 use native.Mathlib.Omega.{arith}
 use native.Mathlib.Numerals.{add-one}
-use mathlib.Core.Bool.{Bool, true, false}
-use mathlib.Core.Path.{◌≡◌, refl, ap}
+use mathlib.Core.Bool.{Bool, true, false, false≢true}
+use mathlib.Core.Path.{◌≡◌, refl, sym, ap, ◌∙◌}
 use mathlib.Core.List.{List, [], ◌∷◌, ◌++◌}
 use lib.ListN.{length, take, get_or, length-append}
 use lib.Seq.{take-suc}
-use lib.Dec.{ltb}
-use lib.IntN.{ℤ, pos, negsuc}
-use lib.Signed.{mag}
+use lib.Dec.{ltb, leb-zero}
+use lib.IntN.{ℤ, pos, negsuc, nat_abs}
+use lib.Signed.{mag, le_z}
 use borrow.Author.Tests.{lt-ltb, le-ltb, ltb-false}
-use Rattle.base.specs.Number.{bits_at}
 use Rattle.base.specs.Text.{text}
 use Rattle.base.specs.inner.Put.{Put}
 use Rattle.base.proofs.Puts.{put_then}
@@ -65,16 +64,11 @@ unfolding hex
 hex_length [] = refl
 hex_length (x ∷ xs) = omega (arith, hex_length xs)
 
--- by the 32 bits: the lower half stands for itself, the upper for numbers below 0
-pub signed_low : (z : ℤ) (b : ℕ) → mag z ≤ 2147483647 → b ≡ bits_at 4294967295 z → b ≤ 2147483647 → signed z ≡ decimal b
-unfolding signed bits_at
-signed_low (pos n) b h e l = rw e
-signed_low (negsuc n) b h e l = absurd (omega arith)
-
-pub signed_high : (z : ℤ) (b : ℕ) → mag z ≤ 2147483647 → b ≡ bits_at 4294967295 z → 2147483647 < b → signed z ≡ text "-" ++ decimal (4294967295 - b + 1)
-unfolding signed bits_at
-signed_high (pos n) b h e l = absurd (omega arith)
-signed_high (negsuc n) b h e l = let k : 4294967295 - b + 1 ≡ suc n = omega arith in rw k
+-- a number below 0 by how far it is from 0
+pub signed_below : (z : ℤ) → le_z (pos 0) z ≡ false → signed z ≡ text "-" ++ decimal (nat_abs z)
+unfolding signed
+signed_below (pos n) e = absurd (false≢true (sym e ∙ leb-zero n))
+signed_below (negsuc n) e = refl
 
 pub hex_append : (a b : List ℕ) → hex (a ++ b) ≡ hex a ++ hex b
 unfolding hex

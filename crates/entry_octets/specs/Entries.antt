@@ -1,18 +1,9 @@
 -- An entry of the table as 12 octets: state, length of our ID, of the partner's, one octet that is not used, our ID in four octets and the partner's. Assumes nothing: these are definitions.
 use Rattle.std.specs.Prelude.{ℕ}
-use mathlib.Core.{Bool.cond, List.List, List.[], List.◌∷◌, List.◌++◌}
-use lib.{ListN.length, ListN.get_or, ListN.replicate, Dec.eqb}
+use mathlib.Core.{List.List, List.[], List.◌∷◌, List.◌++◌}
+use lib.{ListN.length, ListN.get_or, ListN.replicate}
 use Rattle.transaction_states.specs.declared.{State.State}
-
--- a state: with an octet other than 1, 2, 3 the room is free
-abbrev pub state_in : ℕ → State
-state_in n = cond (eqb n 1) State.InitiationSent (cond (eqb n 2) State.InitiationReceived (cond (eqb n 3) State.Active State.Idle))
-
-abbrev pub state_octet : State → ℕ
-state_octet State.Idle = 0
-state_octet State.InitiationSent = 1
-state_octet State.InitiationReceived = 2
-state_octet State.Active = 3
+use Rattle.transaction_states.specs.Events.{state_octet}
 
 -- The octets of an entry
 

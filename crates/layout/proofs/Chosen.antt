@@ -1,5 +1,6 @@
 -- Octets that are a record choose and flag just the parts that the record has: no flag is passed over, so nothing that a host flags is dropped.
 -- Assumes nothing.
+use Rattle.std.specs.Prelude.{ℤ, Option as Optional, None}
 use Prim.Native.Nat.{ℕ, zero, suc, ◌≤◌}
 use native.Mathlib.Omega.{arith}
 use mathlib.Core.Path.{◌≡◌, refl, sym, ap, ◌∙◌}
@@ -8,7 +9,7 @@ use mathlib.Core.List.{List, [], ◌∷◌, ◌++◌}
 use lib.Dec.{leb, eqb}
 use borrow.Author.Tests.{leb-true, eqb-true, eqb-false}
 use Rattle.base.specs.Number.{octets_in}
-use Rattle.tcap.specs.declared.{Span.Span, InvokeId.InvokeId, LinkedId.LinkedId}
+use Rattle.tcap.specs.declared.{Span.Span}
 use Rattle.tcap.specs.Record.{message_tag}
 use Rattle.layout.specs.Layout.{octet, is_flag, optional_in, optional_flag, is_message_tag, message_kind_in, orig_in, orig_flag, dest_in, dest_flag, is_source_tag, is_dialogue, pdu_in, outside_in, dialogue_in, dialogue_number, portion_octets, dialogue_octets, id_in, id_flag, linked_in, linked_flag, is_code_tag, code_in, code_tag, is_problem_tag, problem_in, problem_tag, is_coded, is_returned, returned_in, is_unlinked, is_kind, kind_in, ids_octets, parts_octets, coded_octets, returned_octets, problem_octets, kind_octets, is_row, row_in, row_octets, is_head, record_in, head_octets, record_octets, span_octets}
 
@@ -64,7 +65,7 @@ problem_of_lem x n h = by (eqb x 0x80) (eqb x 0x81) (eqb x 0x82) refl refl refl
 abbrev pub row_choices : List ℕ → List ℕ
 row_choices l = octet l 0 ∷ octet l 1 ∷ octet l 3 ∷ octet l 5 ∷ octet l 6 ∷ []
 
-module _ (i : InvokeId) (l : List ℕ) where
+module _ (i : Optional ℤ) (l : List ℕ) where
   abbrev Kept : ℕ → Type 0
   Kept x = is_kind x l ≡ true → row_choices (kind_octets i (kind_in x l)) ≡ x ∷ id_flag i ∷ octet l 3 ∷ octet l 5 ∷ octet l 6 ∷ []
 
@@ -82,11 +83,11 @@ module _ (i : InvokeId) (l : List ℕ) where
       let c = (and-eq-true_iff (is_code_tag (octet l 5)) (is_flag (octet l 6))).0 k.1 in
       rw (linked_of (octet l 3) (octet l 4) k.0, code_of (octet l 5) _ c.0, optional_of (octet l 6) _ c.1)
 
-  returned_kept : (tag : ℕ) → is_returned l ≡ true → row_choices (ids_octets tag i LinkedId.Unlinked ++ returned_octets (returned_in l)) ≡ tag ∷ id_flag i ∷ 0 ∷ octet l 5 ∷ octet l 6 ∷ []
+  returned_kept : (tag : ℕ) → is_returned l ≡ true → row_choices (ids_octets tag i None ++ returned_octets (returned_in l)) ≡ tag ∷ id_flag i ∷ 0 ∷ octet l 5 ∷ octet l 6 ∷ []
   unfolding is_returned returned_in returned_octets ids_octets coded_octets parts_octets linked_flag optional_flag
   returned_kept tag h = by (eqb (octet l 5) 0) refl
     where
-      by : (b : Bool) → eqb (octet l 5) 0 ≡ b → row_choices (ids_octets tag i LinkedId.Unlinked ++ returned_octets (returned_in l)) ≡ tag ∷ id_flag i ∷ 0 ∷ octet l 5 ∷ octet l 6 ∷ []
+      by : (b : Bool) → eqb (octet l 5) 0 ≡ b → row_choices (ids_octets tag i None ++ returned_octets (returned_in l)) ≡ tag ∷ id_flag i ∷ 0 ∷ octet l 5 ∷ octet l 6 ∷ []
       by true e = rw (e, eqb-true (octet l 5) 0 e, eqb-true (octet l 6) 0 (rw e at h))
       by false e =
           let k = (and-eq-true_iff (is_code_tag (octet l 5)) (eqb (octet l 6) 1)).0 (rw e at h) in

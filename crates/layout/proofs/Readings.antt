@@ -1,4 +1,6 @@
 -- The layout holds every record that is read, and gives it back. Assumes nothing.
+use Rattle.tcap.specs.Reading.{outcome_of, handed_back}
+use Rattle.std.specs.Prelude.{Ok, Option as Optional, None}
 use Prim.Native.Nat.{ℕ, ◌+◌, ◌-◌, ◌≤◌}
 use native.Mathlib.Omega.{arith}
 use mathlib.Core.Path.{◌≡◌, refl, ◌∙◌}
@@ -14,7 +16,7 @@ use Rattle.base.specs.Value.{Every, Maybe}
 use Rattle.base.proofs.Values.{every_parts}
 use Rattle.element.specs.Fault.{Text}
 use Rattle.element.specs.Ask.{Got, got, bad}
-use Rattle.tcap.specs.declared.{OptionalOrig.OptionalOrig, OptionalDest.OptionalDest, Dialogue.Dialogue as DialogueField, MessageKind.MessageKind, Outcome.Outcome}
+use Rattle.tcap.specs.declared.{DestTransactionId.DestTransactionId, OrigTransactionId.OrigTransactionId, Dialogue.Dialogue as DialogueField, MessageKind.MessageKind}
 use Rattle.tcap.specs.Meaning.{Originating, orig, Destination, dest, Code, local, global, Component, invoke, last, not_last, error, reject, Dialogue, request, unidialogue, response, aborted, single, octets, Ending, silent, cause, says, Message, unidirectional, begin, finish, continue, abort}
 use Rattle.tcap.specs.WellFormed.{Rules, most_octets, most_components, the93, CodeOk, ComponentOk, ComponentsOk, BothOk, WellFormedUpTo}
 use Rattle.tcap.specs.Record.{span_of, span_field, orig_field, dest_field, id_field, linked_field, code_field, both_field, row_of, dialogue_field, ending_field, portion_field, blank_row, record_from, record_of}
@@ -94,7 +96,7 @@ module _ (m : List ℕ) (short : length m ≤ most_octets) where
   dest_fits : (e : Destination Text) → AllSit (dest_strings e) → DestFits (dest_field e)
   dest_fits (dest t) s = text_fits (some 0x49) t s
 
-  from_fits : (rules : Rules) (k : MessageKind) (o : OptionalOrig) (e : OptionalDest) (d : DialogueField) (cs : List (Component Text)) → OrigFits o → DestFits e → DialogueFits d → AllSit (series_strings component_strings cs) → ComponentsOk rules (map (component_as octets_of) cs) → RecordFits (record_from k o e d cs)
+  from_fits : (rules : Rules) (k : MessageKind) (o : Optional OrigTransactionId) (e : Optional DestTransactionId) (d : DialogueField) (cs : List (Component Text)) → OrigFits o → DestFits e → DialogueFits d → AllSit (series_strings component_strings cs) → ComponentsOk rules (map (component_as octets_of) cs) → RecordFits (record_from k o e d cs)
   unfolding top_of
   from_fits rules k o e d cs a b c s w =
       let few : length cs ≤ most_components = omega (arith, w.0, length-map cs (component_as octets_of)) in
@@ -112,15 +114,15 @@ module _ (m : List ℕ) (short : length m ≤ most_octets) where
   unfolding WellFormedUpTo record_of series_strings Every
   record_fits rules (unidirectional d cs) s w =
       let (a, b) = every_parts (Sits m) (option_strings dialogue_strings d) (series_strings component_strings cs) s in
-      from_fits rules MessageKind.Unidirectional OptionalOrig.NoOrig OptionalDest.NoDest (portion_field d) cs tt tt (portion_fits d a) b w.2
+      from_fits rules MessageKind.Unidirectional None None (portion_field d) cs tt tt (portion_fits d a) b w.2
   record_fits rules (begin o d cs) s w =
       let (i, r) = every_parts (Sits m) (orig_strings o) (rest_strings d cs) s in
       let (a, b) = every_parts (Sits m) (option_strings dialogue_strings d) (series_strings component_strings cs) r in
-      from_fits rules MessageKind.Begin (orig_field o) OptionalDest.NoDest (portion_field d) cs (orig_fits o i) tt (portion_fits d a) b w.2
+      from_fits rules MessageKind.Begin (orig_field o) None (portion_field d) cs (orig_fits o i) tt (portion_fits d a) b w.2
   record_fits rules (finish e d cs) s w =
       let (i, r) = every_parts (Sits m) (dest_strings e) (rest_strings d cs) s in
       let (a, b) = every_parts (Sits m) (option_strings dialogue_strings d) (series_strings component_strings cs) r in
-      from_fits rules MessageKind.End OptionalOrig.NoOrig (dest_field e) (portion_field d) cs tt (dest_fits e i) (portion_fits d a) b w.2
+      from_fits rules MessageKind.End None (dest_field e) (portion_field d) cs tt (dest_fits e i) (portion_fits d a) b w.2
   record_fits rules (continue o e d cs) s w =
       let (i, q) = every_parts (Sits m) (orig_strings o) (dest_strings e ++ rest_strings d cs) s in
       let (j, r) = every_parts (Sits m) (dest_strings e) (rest_strings d cs) q in
@@ -128,36 +130,36 @@ module _ (m : List ℕ) (short : length m ≤ most_octets) where
       from_fits rules MessageKind.Continue (orig_field o) (dest_field e) (portion_field d) cs (orig_fits o i) (dest_fits e j) (portion_fits d a) b w.3
   record_fits rules (abort e q) s w =
       let (i, r) = every_parts (Sits m) (dest_strings e) (ending_strings q) s in
-      from_fits rules MessageKind.Abort OptionalOrig.NoOrig (dest_field e) (ending_field q) [] tt (dest_fits e i) (ending_fits q r) tt (omega arith, tt)
+      from_fits rules MessageKind.Abort None (dest_field e) (ending_field q) [] tt (dest_fits e i) (ending_fits q r) tt (omega arith, tt)
 
 -- the rows of what is read are blank from the count on already
-from_blanked : (k : MessageKind) (o : OptionalOrig) (e : OptionalDest) (d : DialogueField) (cs : List (Component Text)) → blanked (record_from k o e d cs) ≡ record_from k o e d cs
+from_blanked : (k : MessageKind) (o : Optional OrigTransactionId) (e : Optional DestTransactionId) (d : DialogueField) (cs : List (Component Text)) → blanked (record_from k o e d cs) ≡ record_from k o e d cs
 unfolding blanked
 from_blanked k o e d cs = rw (take_at (map row_of cs) (replicate (most_components - length cs) blank_row) (length cs) (length-map cs row_of))
 
 record_blanked : (v : Message Text) → blanked (record_of v) ≡ record_of v
 unfolding record_of
-record_blanked (unidirectional d cs) = from_blanked MessageKind.Unidirectional OptionalOrig.NoOrig OptionalDest.NoDest (portion_field d) cs
-record_blanked (begin o d cs) = from_blanked MessageKind.Begin (orig_field o) OptionalDest.NoDest (portion_field d) cs
-record_blanked (finish e d cs) = from_blanked MessageKind.End OptionalOrig.NoOrig (dest_field e) (portion_field d) cs
+record_blanked (unidirectional d cs) = from_blanked MessageKind.Unidirectional None None (portion_field d) cs
+record_blanked (begin o d cs) = from_blanked MessageKind.Begin (orig_field o) None (portion_field d) cs
+record_blanked (finish e d cs) = from_blanked MessageKind.End None (dest_field e) (portion_field d) cs
 record_blanked (continue o e d cs) = from_blanked MessageKind.Continue (orig_field o) (dest_field e) (portion_field d) cs
-record_blanked (abort e s) = from_blanked MessageKind.Abort OptionalOrig.NoOrig (dest_field e) (ending_field s) []
+record_blanked (abort e s) = from_blanked MessageKind.Abort None (dest_field e) (ending_field s) []
 
-by_located : (m : List ℕ) (x : Got (Message Text)) → located_up_to the93 m ≡ x → (answered x).outcome ≡ Outcome.Accepted → RecordFits (answered x).message × (blanked (answered x).message ≡ (answered x).message)
+by_located : (m : List ℕ) (x : Got (Message Text)) → located_up_to the93 m ≡ x → outcome_of (answered x) ≡ Ok tt → RecordFits (handed_back (answered x)) × (blanked (handed_back (answered x)) ≡ (handed_back (answered x)))
 unfolding answered
 by_located m (got v n) e h =
     let r = located_reads the93 (omega arith) m v n e in
     (record_fits m r.short the93 v (strings_sit the93 m v n e) r.fine, record_blanked v)
 by_located m (bad f) e h = let z : ◌≡◌ {A = ℕ} 0 1 = cc in absurd (omega arith)
 
-module _ (m : List ℕ) (h : (reading m).outcome ≡ Outcome.Accepted) where
-  kept : RecordFits (reading m).message × (blanked (reading m).message ≡ (reading m).message)
+module _ (m : List ℕ) (h : outcome_of (reading m) ≡ Ok tt) where
+  kept : RecordFits (handed_back (reading m)) × (blanked (handed_back (reading m)) ≡ (handed_back (reading m)))
   unfolding reading reading_up_to
   kept = by_located m (located_up_to the93 m) refl h
 
   -- what is read is laid out as a record, and given back, with any octets behind it
-  pub reading_fits : RecordFits (reading m).message
+  pub reading_fits : RecordFits (handed_back (reading m))
   reading_fits = kept.0
 
-  pub reading_back : (rest : List ℕ) → record_in (record_octets (reading m).message ++ rest) ≡ (reading m).message
-  reading_back rest = record_back (reading m).message rest reading_fits ∙ kept.1
+  pub reading_back : (rest : List ℕ) → record_in (record_octets (handed_back (reading m)) ++ rest) ≡ handed_back (reading m)
+  reading_back rest = record_back (handed_back (reading m)) rest reading_fits ∙ kept.1

@@ -1,4 +1,5 @@
 -- What is laid out is a record, and stands for the record that was laid out, with blank rows from the count on. Assumes nothing.
+use Rattle.std.specs.Prelude.{Option as Optional, Some, None}
 use Prim.Native.Nat.{ℕ, ◌-◌, ◌*◌, ◌≤◌, min}
 use native.Mathlib.Omega.{arith}
 use mathlib.Core.Path.{◌≡◌, refl, ap, ap₂, ◌∙◌}
@@ -12,7 +13,7 @@ use borrow.Author.Tests.{le-leb}
 use Rattle.base.specs.Number.{number_from, octets_in, top_of, signed_at, bits_at, holds}
 use Rattle.base.specs.Value.{Every}
 use Rattle.base.proofs.Numbers.{signed_bits, bits_within, top_odd, holds_small, number_octets}
-use Rattle.tcap.specs.declared.{Span.Span, OptionalSpan.OptionalSpan, OptionalOrig.OptionalOrig, OptionalDest.OptionalDest, InvokeId.InvokeId, LinkedId.LinkedId, Code.Code, Problem.Problem, Returned.Returned, ComponentKind.ComponentKind, Row.Row, Diagnostic.Diagnostic, Dialogue.Dialogue, MessageKind.MessageKind, Record.Record}
+use Rattle.tcap.specs.declared.{DestTransactionId.DestTransactionId, OrigTransactionId.OrigTransactionId, Span.Span, Code.Code, Problem.Problem, ComponentKind.ComponentKind, Row.Row, Diagnostic.Diagnostic, Dialogue.Dialogue, MessageKind.MessageKind, Record.Record}
 use Rattle.tcap.specs.Record.{blank_row, message_tag}
 use Rattle.layout.specs.Fits.{SpanFits, OptionalFits, IdFits, LinkedFits, CodeFits, ReturnedFits, KindFits, RowFits, OrigFits, DestFits, DialogueFits, RecordFits}
 use Rattle.layout.specs.Layout.{head_size, row_size, most_rows, record_size, octet, number_at, span_at, span_octets, is_flag, optional_in, optional_flag, optional_span, is_message_tag, message_kind_in, orig_in, orig_flag, orig_span, dest_in, dest_flag, dest_span, is_source_tag, diagnostic_in, source_tag, diagnostic_number, is_dialogue, pdu_in, outside_in, dialogue_in, dialogue_number, portion_octets, dialogue_octets, id_in, id_flag, id_octet, linked_in, linked_flag, linked_octet, is_code_tag, code_in, code_tag, code_span, is_problem_tag, problem_in, problem_tag, problem_number, is_coded, is_returned, returned_in, is_unlinked, is_kind, kind_in, ids_octets, parts_octets, coded_octets, returned_octets, problem_octets, kind_octets, is_row, row_in, row_octets, are_rows, rows_in, rows_held, rows_octets, is_head, is_record, record_in, head_octets, record_octets}
@@ -29,20 +30,20 @@ span_back s h = rw (number_octets 4 s.place h.0, number_octets 4 s.len h.1)
 signed_back : (k : ℕ) (z : ℤ) → 1 ≤ k → holds k z ≡ true → signed_at (top_of k) (bits_at (top_of k) z) ≡ z
 signed_back k z l h = signed_bits (top_of k) z (holds_small k z h) (top_odd k l)
 
-optional_back : (u : OptionalSpan) → OptionalFits u → optional_in (optional_flag u) (back (optional_span u)) ≡ u
+optional_back : (u : Optional Span) → OptionalFits u → optional_in (optional_flag u) (back (optional_span u)) ≡ u
 unfolding optional_in optional_flag optional_span
-optional_back OptionalSpan.Absent h = refl
-optional_back (OptionalSpan.Present s) h = ap OptionalSpan.Present (span_back s h)
+optional_back None h = refl
+optional_back (Some s) h = ap Some (span_back s h)
 
-pub id_back : (i : InvokeId) → IdFits i → id_in (id_flag i) (id_octet i) ≡ i
+pub id_back : (i : Optional ℤ) → IdFits i → id_in (id_flag i) (id_octet i) ≡ i
 unfolding id_in id_flag id_octet
-id_back InvokeId.Null h = refl
-id_back (InvokeId.Id z) h = ap InvokeId.Id (signed_back 1 z (omega arith) h)
+id_back None h = refl
+id_back (Some z) h = ap Some (signed_back 1 z (omega arith) h)
 
-linked_back : (l : LinkedId) → LinkedFits l → linked_in (linked_flag l) (linked_octet l) ≡ l
+linked_back : (l : Optional ℤ) → LinkedFits l → linked_in (linked_flag l) (linked_octet l) ≡ l
 unfolding linked_in linked_flag linked_octet
-linked_back LinkedId.Unlinked h = refl
-linked_back (LinkedId.Linked z) h = ap LinkedId.Linked (signed_back 1 z (omega arith) h)
+linked_back None h = refl
+linked_back (Some z) h = ap Some (signed_back 1 z (omega arith) h)
 
 code_back : (c : Code) → CodeFits c → code_in (code_tag c) (back (code_span c)) ≡ c
 unfolding code_in code_tag code_span back
@@ -64,20 +65,20 @@ diagnostic_back (Diagnostic.ByProvider n) = refl
 
 -- Each choice has a listed value
 
-flag_optional : (u : OptionalSpan) → is_flag (optional_flag u) ≡ true
+flag_optional : (u : Optional Span) → is_flag (optional_flag u) ≡ true
 unfolding optional_flag
-flag_optional OptionalSpan.Absent = refl
-flag_optional (OptionalSpan.Present s) = refl
+flag_optional None = refl
+flag_optional (Some s) = refl
 
-flag_id : (i : InvokeId) → is_flag (id_flag i) ≡ true
+flag_id : (i : Optional ℤ) → is_flag (id_flag i) ≡ true
 unfolding id_flag
-flag_id InvokeId.Null = refl
-flag_id (InvokeId.Id z) = refl
+flag_id None = refl
+flag_id (Some z) = refl
 
-flag_linked : (l : LinkedId) → is_flag (linked_flag l) ≡ true
+flag_linked : (l : Optional ℤ) → is_flag (linked_flag l) ≡ true
 unfolding linked_flag
-flag_linked LinkedId.Unlinked = refl
-flag_linked (LinkedId.Linked z) = refl
+flag_linked None = refl
+flag_linked (Some z) = refl
 
 tag_code : (c : Code) → (is_code_tag (code_tag c) ≡ true) × (eqb (code_tag c) 0 ≡ false)
 unfolding code_tag
@@ -93,52 +94,52 @@ tag_problem (Problem.OfError n) = refl
 
 -- A row, with any octets behind it
 
-module _ (tag : ℕ) (i : InvokeId) (l : LinkedId) (rest : List ℕ) where
-  returned_back : (r : Returned) → ReturnedFits r → returned_in (ids_octets tag i l ++ returned_octets r ++ rest) ≡ r
+module _ (tag : ℕ) (i : Optional ℤ) (l : Optional ℤ) (rest : List ℕ) where
+  returned_back : (r : Optional (Code × Span)) → ReturnedFits r → returned_in (ids_octets tag i l ++ returned_octets r ++ rest) ≡ r
   unfolding returned_in ids_octets returned_octets coded_octets parts_octets span_octets span_at number_at octets_in optional_span back
-  returned_back Returned.Bare h = refl
-  returned_back (Returned.Both c p) h = rw (tag_code c).1 (ap (λ (x : Code). Returned.Both x (back p)) (code_back c h.0) ∙ ap (Returned.Both c) (span_back p h.1))
+  returned_back None h = refl
+  returned_back (Some (c, p)) h = rw (tag_code c).1 (ap (λ (x : Code). Some (x, back p)) (code_back c h.0) ∙ ap (λ (x : Span). Some (c, x)) (span_back p h.1))
 
-  returned_is : (r : Returned) → is_returned (ids_octets tag i l ++ returned_octets r ++ rest) ≡ true
+  returned_is : (r : Optional (Code × Span)) → is_returned (ids_octets tag i l ++ returned_octets r ++ rest) ≡ true
   unfolding is_returned ids_octets returned_octets coded_octets parts_octets span_octets octets_in optional_flag
-  returned_is Returned.Bare = refl
-  returned_is (Returned.Both c p) = rw ((tag_code c).1, (tag_code c).0)
+  returned_is None = refl
+  returned_is (Some (c, p)) = rw ((tag_code c).1, (tag_code c).0)
 
-  coded_is : (c : Code) (p : OptionalSpan) → is_coded (ids_octets tag i l ++ coded_octets c p ++ rest) ≡ true
+  coded_is : (c : Code) (p : Optional Span) → is_coded (ids_octets tag i l ++ coded_octets c p ++ rest) ≡ true
   unfolding is_coded ids_octets coded_octets parts_octets
   coded_is c p = rw ((tag_code c).0, flag_optional p)
 
-abbrev a_row : InvokeId → ComponentKind → Row
+abbrev a_row : Optional ℤ → ComponentKind → Row
 a_row i k = record { id = i; kind = k }
 
-kind_is : (i : InvokeId) (k : ComponentKind) (rest : List ℕ) → is_row (kind_octets i k ++ rest) ≡ true
+kind_is : (i : Optional ℤ) (k : ComponentKind) (rest : List ℕ) → is_row (kind_octets i k ++ rest) ≡ true
 unfolding is_row is_kind is_unlinked kind_octets ids_octets problem_octets parts_octets linked_flag is_returned
 kind_is i (ComponentKind.Invoke l c p) rest = rw (flag_id i, flag_linked l) (coded_is 0xA1 i l rest c p)
-kind_is i (ComponentKind.ResultLast r) rest = rw (flag_id i) (returned_is 0xA2 i LinkedId.Unlinked rest r)
-kind_is i (ComponentKind.ReturnError c p) rest = rw (flag_id i) (coded_is 0xA3 i LinkedId.Unlinked rest c p)
+kind_is i (ComponentKind.ResultLast r) rest = rw (flag_id i) (returned_is 0xA2 i None rest r)
+kind_is i (ComponentKind.ReturnError c p) rest = rw (flag_id i) (coded_is 0xA3 i None rest c p)
 kind_is i (ComponentKind.Reject q) rest = rw (flag_id i, tag_problem q)
-kind_is i (ComponentKind.ResultNotLast r) rest = rw (flag_id i) (returned_is 0xA7 i LinkedId.Unlinked rest r)
+kind_is i (ComponentKind.ResultNotLast r) rest = rw (flag_id i) (returned_is 0xA7 i None rest r)
 
-kind_back : (i : InvokeId) (k : ComponentKind) (rest : List ℕ) → IdFits i → KindFits k → row_in (kind_octets i k ++ rest) ≡ a_row i k
+kind_back : (i : Optional ℤ) (k : ComponentKind) (rest : List ℕ) → IdFits i → KindFits k → row_in (kind_octets i k ++ rest) ≡ a_row i k
 unfolding row_in kind_in kind_octets ids_octets coded_octets parts_octets problem_octets span_octets span_at number_at octets_in back
 kind_back i (ComponentKind.Invoke l c p) rest h k =
     rw (id_back i h, linked_back l k.0)
     (ap (λ (x : Code). a_row i (ComponentKind.Invoke l x (optional_in (optional_flag p) (back (optional_span p))))) (code_back c k.1)
-    ∙ ap (λ (x : OptionalSpan). a_row i (ComponentKind.Invoke l c x)) (optional_back p k.2))
-kind_back i (ComponentKind.ResultLast r) rest h k = rw (id_back i h) (ap (λ (x : Returned). a_row i (ComponentKind.ResultLast x)) (returned_back 0xA2 i LinkedId.Unlinked rest r k))
+    ∙ ap (λ (x : Optional Span). a_row i (ComponentKind.Invoke l c x)) (optional_back p k.2))
+kind_back i (ComponentKind.ResultLast r) rest h k = rw (id_back i h) (ap (λ (x : Optional (Code × Span)). a_row i (ComponentKind.ResultLast x)) (returned_back 0xA2 i None rest r k))
 kind_back i (ComponentKind.ReturnError c p) rest h k =
     rw (id_back i h)
     (ap (λ (x : Code). a_row i (ComponentKind.ReturnError x (optional_in (optional_flag p) (back (optional_span p))))) (code_back c k.0)
-    ∙ ap (λ (x : OptionalSpan). a_row i (ComponentKind.ReturnError c x)) (optional_back p k.1))
+    ∙ ap (λ (x : Optional Span). a_row i (ComponentKind.ReturnError c x)) (optional_back p k.1))
 kind_back i (ComponentKind.Reject q) rest h k = rw (id_back i h, problem_back q)
-kind_back i (ComponentKind.ResultNotLast r) rest h k = rw (id_back i h) (ap (λ (x : Returned). a_row i (ComponentKind.ResultNotLast x)) (returned_back 0xA7 i LinkedId.Unlinked rest r k))
+kind_back i (ComponentKind.ResultNotLast r) rest h k = rw (id_back i h) (ap (λ (x : Optional (Code × Span)). a_row i (ComponentKind.ResultNotLast x)) (returned_back 0xA7 i None rest r k))
 
-returned_length : (r : Returned) → length (returned_octets r) ≡ 19
+returned_length : (r : Optional (Code × Span)) → length (returned_octets r) ≡ 19
 unfolding returned_octets coded_octets parts_octets span_octets octets_in
-returned_length Returned.Bare = refl
-returned_length (Returned.Both c p) = refl
+returned_length None = refl
+returned_length (Some (c, p)) = refl
 
-kind_length : (i : InvokeId) (k : ComponentKind) → length (kind_octets i k) ≡ row_size
+kind_length : (i : Optional ℤ) (k : ComponentKind) → length (kind_octets i k) ≡ row_size
 unfolding kind_octets ids_octets coded_octets parts_octets problem_octets span_octets octets_in
 kind_length i (ComponentKind.Invoke l c p) = refl
 kind_length i (ComponentKind.ResultLast r) = omega (arith, returned_length r)
@@ -180,15 +181,15 @@ rows_length (r ∷ rs) = omega (arith, length-append (row_octets r) (rows_octets
 
 -- The head, with any octets behind it
 
-flag_orig : (o : OptionalOrig) → is_flag (orig_flag o) ≡ true
+flag_orig : (o : Optional OrigTransactionId) → is_flag (orig_flag o) ≡ true
 unfolding orig_flag
-flag_orig OptionalOrig.NoOrig = refl
-flag_orig (OptionalOrig.Orig o) = refl
+flag_orig None = refl
+flag_orig (Some o) = refl
 
-flag_dest : (e : OptionalDest) → is_flag (dest_flag e) ≡ true
+flag_dest : (e : Optional DestTransactionId) → is_flag (dest_flag e) ≡ true
 unfolding dest_flag
-flag_dest OptionalDest.NoDest = refl
-flag_dest (OptionalDest.Dest e) = refl
+flag_dest None = refl
+flag_dest (Some e) = refl
 
 tag_message : (k : MessageKind) → (is_message_tag (message_tag k) ≡ true) × (message_kind_in (message_tag k) ≡ k)
 unfolding is_message_tag message_kind_in
@@ -203,15 +204,15 @@ unfolding source_tag
 tag_source (Diagnostic.ByUser n) = refl
 tag_source (Diagnostic.ByProvider n) = refl
 
-orig_back : (o : OptionalOrig) → OrigFits o → orig_in (orig_flag o) (back (orig_span o)) ≡ o
+orig_back : (o : Optional OrigTransactionId) → OrigFits o → orig_in (orig_flag o) (back (orig_span o)) ≡ o
 unfolding orig_in orig_flag orig_span
-orig_back OptionalOrig.NoOrig h = refl
-orig_back (OptionalOrig.Orig o) h = ap (λ (s : Span). OptionalOrig.Orig (record { 0 = record { octets = s } })) (span_back o.0.octets h)
+orig_back None h = refl
+orig_back (Some o) h = ap (λ (s : Span). Some (record { 0 = record { octets = s } })) (span_back o.0.octets h)
 
-dest_back : (e : OptionalDest) → DestFits e → dest_in (dest_flag e) (back (dest_span e)) ≡ e
+dest_back : (e : Optional DestTransactionId) → DestFits e → dest_in (dest_flag e) (back (dest_span e)) ≡ e
 unfolding dest_in dest_flag dest_span
-dest_back OptionalDest.NoDest h = refl
-dest_back (OptionalDest.Dest e) h = ap (λ (s : Span). OptionalDest.Dest (record { 0 = record { octets = s } })) (span_back e.0.octets h)
+dest_back None h = refl
+dest_back (Some e) h = ap (λ (s : Span). Some (record { 0 = record { octets = s } })) (span_back e.0.octets h)
 
 dialogue_length : (d : Dialogue) → length (dialogue_octets d) ≡ 20
 unfolding dialogue_octets portion_octets span_octets octets_in
@@ -224,7 +225,7 @@ dialogue_length (Dialogue.Unidialogue n u) = refl
 dialogue_length (Dialogue.OutsideElement n e) = refl
 dialogue_length (Dialogue.OutsideOctets n c) = refl
 
-pub head_length : (k : MessageKind) (o : OptionalOrig) (e : OptionalDest) (d : Dialogue) (n : ℕ) → length (head_octets k o e d n) ≡ head_size
+pub head_length : (k : MessageKind) (o : Optional OrigTransactionId) (e : Optional DestTransactionId) (d : Dialogue) (n : ℕ) → length (head_octets k o e d n) ≡ head_size
 unfolding head_octets span_octets octets_in
 head_length k o e d n = omega (arith, dialogue_length d)
 
@@ -248,7 +249,7 @@ module _ (a b c d : ℕ) (n : ℕ) (o e : Span) (rest : List ℕ) where
   dialogue_back Dialogue.NoDialogue h = refl
   dialogue_back (Dialogue.Cause k) h = refl
   dialogue_back (Dialogue.Request k u) h = ap₂ Dialogue.Request (span_back k h.0) (optional_back u h.1)
-  dialogue_back (Dialogue.Response k r s u) h = rw (diagnostic_back s) (ap₂ (λ (x : Span) (y : OptionalSpan). Dialogue.Response x r s y) (span_back k h.0) (optional_back u h.1))
+  dialogue_back (Dialogue.Response k r s u) h = rw (diagnostic_back s) (ap₂ (λ (x : Span) (y : Optional Span). Dialogue.Response x r s y) (span_back k h.0) (optional_back u h.1))
   dialogue_back (Dialogue.DialogueAbort r u) h = ap (Dialogue.DialogueAbort r) (optional_back u h)
   dialogue_back (Dialogue.Unidialogue k u) h = ap₂ Dialogue.Unidialogue (span_back k h.0) (optional_back u h.1)
   dialogue_back (Dialogue.OutsideElement k x) h = ap₂ Dialogue.OutsideElement (span_back k h.0) (span_back x h.1)

@@ -1,4 +1,5 @@
 -- By their types the records of the code, and their parts, are such as the octets can hold, but for the count. Assumes nothing.
+use Rattle.std.specs.Prelude.{Option as Optional, Some, None}
 use Prim.Native.Nat.{ℕ, zero, suc, ◌<◌, ◌≤◌, ◌^◌}
 use mathlib.Core.Path.{◌≡◌}
 use mathlib.Core.Bool.{true}
@@ -11,20 +12,19 @@ use mir.Val.{Val}
 use denote.Laws.{Is}
 use denote.Shadow.{shadow}
 use denote.Array.{each}
+use denote.Builtin.{i8}
+use denote.Struct.Tuple.{Tuple}
+use Rattle.std.specs.contracts.option.Option as option
 use Rattle.base.specs.Number.{top_of, holds}
 use Rattle.base.specs.Value.{Every}
 use Rattle.base.proofs.Numbers.{small_holds}
-use Rattle.tcap.specs.declared.{Span.Span, OptionalSpan.OptionalSpan, OptionalOrig.OptionalOrig, OptionalDest.OptionalDest, InvokeId.InvokeId, LinkedId.LinkedId, Code.Code, Returned.Returned, ComponentKind.ComponentKind, Row.Row, Dialogue.Dialogue, Record.Record}
+use Rattle.tcap.specs.declared.{DestTransactionId.DestTransactionId, OrigTransactionId.OrigTransactionId, Span.Span, Code.Code, ComponentKind.ComponentKind, Row.Row, Dialogue.Dialogue, Record.Record}
 use Rattle.tcap.specs.contracts.Span as Spans
-use Rattle.tcap.specs.contracts.OptionalSpan as Optionals
-use Rattle.tcap.specs.contracts.InvokeId as Ids
-use Rattle.tcap.specs.contracts.LinkedId as Linked
 use Rattle.tcap.specs.contracts.Code as Codes
-use Rattle.tcap.specs.contracts.Returned as Returns
 use Rattle.tcap.specs.contracts.ComponentKind as Components
 use Rattle.tcap.specs.contracts.Row as Rows
-use Rattle.tcap.specs.contracts.OptionalOrig as Origs
-use Rattle.tcap.specs.contracts.OptionalDest as Dests
+use Rattle.tcap.specs.contracts.OrigTransactionId as Origs
+use Rattle.tcap.specs.contracts.DestTransactionId as Dests
 use Rattle.tcap.specs.contracts.Dialogue as Dialogues
 use Rattle.tcap.specs.contracts.Record as Records
 use Rattle.layout.specs.Fits.{SpanFits, OptionalFits, IdFits, LinkedFits, CodeFits, ReturnedFits, KindFits, RowFits, OrigFits, DestFits, DialogueFits, RecordFits}
@@ -41,25 +41,25 @@ span_typed : (s : Span) (vs : List Val) → Is Spans.the_row s vs → SpanFits s
 unfolding top_of
 span_typed s vs p = (omega (arith, p.1.1.0.1), omega (arith, p.1.1.1.0.1))
 
-optional_typed : (u : OptionalSpan) (vs : List Val) → Is Optionals.the_row u vs → OptionalFits u
-optional_typed OptionalSpan.Absent vs p = tt
-optional_typed (OptionalSpan.Present s) vs p = span_typed s _ p.1.1.1.1.0
+optional_typed : (u : Optional Span) (vs : List Val) → Is (option.the_row Spans.the_row) u vs → OptionalFits u
+optional_typed None vs p = tt
+optional_typed (Some s) vs p = span_typed s _ p.1.1.1.1.0
 
-id_typed : (i : InvokeId) (vs : List Val) → Is Ids.the_row i vs → IdFits i
-id_typed InvokeId.Null vs p = tt
-id_typed (InvokeId.Id i) vs p = octet_holds i p.1.1.1.1.0.1
+id_typed : (i : Optional ℤ) (vs : List Val) → Is (option.the_row i8) i vs → IdFits i
+id_typed None vs p = tt
+id_typed (Some i) vs p = octet_holds i p.1.1.1.1.0.1
 
-linked_typed : (l : LinkedId) (vs : List Val) → Is Linked.the_row l vs → LinkedFits l
-linked_typed LinkedId.Unlinked vs p = tt
-linked_typed (LinkedId.Linked i) vs p = octet_holds i p.1.1.1.1.0.1
+linked_typed : (l : Optional ℤ) (vs : List Val) → Is (option.the_row i8) l vs → LinkedFits l
+linked_typed None vs p = tt
+linked_typed (Some i) vs p = octet_holds i p.1.1.1.1.0.1
 
 pub code_typed : (c : Code) (vs : List Val) → Is Codes.the_row c vs → CodeFits c
 code_typed (Code.Local z) vs p = word_holds z p.1.1.1.1.0.1
 code_typed (Code.Global s) vs p = span_typed s _ p.1.1.1.1.0
 
-pub returned_typed : (r : Returned) (vs : List Val) → Is Returns.the_row r vs → ReturnedFits r
-returned_typed Returned.Bare vs p = tt
-returned_typed (Returned.Both c s) vs p = (code_typed c _ p.1.1.1.1.0, span_typed s _ p.1.1.1.1.1.0)
+pub returned_typed : (r : Optional (Code × Span)) (vs : List Val) → Is (option.the_row (Tuple (Codes.the_row ∷ Spans.the_row ∷ []))) r vs → ReturnedFits r
+returned_typed None vs p = tt
+returned_typed (Some (c, s)) vs p = let q = p.1.1.1.1.0 in (code_typed c _ q.1.1.0, span_typed s _ q.1.1.1.0)
 
 kind_typed : (k : ComponentKind) (vs : List Val) → Is Components.the_row k vs → KindFits k
 kind_typed (ComponentKind.Invoke l c u) vs p = (linked_typed l _ p.1.1.1.1.0, code_typed c _ p.1.1.1.1.1.0, optional_typed u _ p.1.1.1.1.1.1.0)
@@ -77,13 +77,13 @@ rows_typed [] us p = tt
 rows_typed (w ∷ rs) [] p = absurd p
 rows_typed (w ∷ rs) (u ∷ us) p = (row_typed w (u ∷ []) p.0, rows_typed rs us p.1)
 
-orig_typed : (o : OptionalOrig) (vs : List Val) → Is Origs.the_row o vs → OrigFits o
-orig_typed OptionalOrig.NoOrig vs p = tt
-orig_typed (OptionalOrig.Orig o) vs p = span_typed o.0.octets _ p.1.1.1.1.0.1.1.0.1.1.0
+orig_typed : (o : Optional OrigTransactionId) (vs : List Val) → Is (option.the_row Origs.the_row) o vs → OrigFits o
+orig_typed None vs p = tt
+orig_typed (Some o) vs p = span_typed o.0.octets _ p.1.1.1.1.0.1.1.0.1.1.0
 
-dest_typed : (e : OptionalDest) (vs : List Val) → Is Dests.the_row e vs → DestFits e
-dest_typed OptionalDest.NoDest vs p = tt
-dest_typed (OptionalDest.Dest e) vs p = span_typed e.0.octets _ p.1.1.1.1.0.1.1.0.1.1.0
+dest_typed : (e : Optional DestTransactionId) (vs : List Val) → Is (option.the_row Dests.the_row) e vs → DestFits e
+dest_typed None vs p = tt
+dest_typed (Some e) vs p = span_typed e.0.octets _ p.1.1.1.1.0.1.1.0.1.1.0
 
 dialogue_typed : (d : Dialogue) (vs : List Val) → Is Dialogues.the_row d vs → DialogueFits d
 dialogue_typed Dialogue.NoDialogue vs p = tt

@@ -1,34 +1,34 @@
 -- Which records the octets of docs/LAYOUT.md can hold: numbers of four octets, IDs of one, local codes of four. By their types all of the code's do, but for
 -- the count, which may be larger there; of what was read it is at most 16. Assumes nothing: these are definitions.
-use Rattle.std.specs.Prelude.{◌≤◌}
+use Rattle.std.specs.Prelude.{ℤ, Option as Optional, Some, None, ◌≤◌}
 use mathlib.Core.{Path.◌≡◌, Bool.true}
 use lib.{ListN.length, ListN.take}
 use Rattle.base.specs.{Number.top_of, Number.holds, Value.Every}
-use Rattle.tcap.specs.declared.{Span.Span, OptionalSpan.OptionalSpan, OptionalOrig.OptionalOrig, OptionalDest.OptionalDest, InvokeId.InvokeId, LinkedId.LinkedId, Code.Code, Returned.Returned, ComponentKind.ComponentKind, Row.Row, Dialogue.Dialogue, Record.Record}
+use Rattle.tcap.specs.declared.{DestTransactionId.DestTransactionId, OrigTransactionId.OrigTransactionId, Span.Span, Code.Code, ComponentKind.ComponentKind, Row.Row, Dialogue.Dialogue, Record.Record}
 use Rattle.layout.specs.Layout.{most_rows}
 
 abbrev pub SpanFits : Span → Type 0
 SpanFits s = (s.place ≤ top_of 4) × (s.len ≤ top_of 4)
 
-abbrev pub OptionalFits : OptionalSpan → Type 0
-OptionalFits OptionalSpan.Absent = Unit {0}
-OptionalFits (OptionalSpan.Present s) = SpanFits s
+abbrev pub OptionalFits : Optional Span → Type 0
+OptionalFits None = Unit {0}
+OptionalFits (Some s) = SpanFits s
 
-abbrev pub IdFits : InvokeId → Type 0
-IdFits InvokeId.Null = Unit {0}
-IdFits (InvokeId.Id i) = holds 1 i ≡ true
+abbrev pub IdFits : Optional ℤ → Type 0
+IdFits None = Unit {0}
+IdFits (Some i) = holds 1 i ≡ true
 
-abbrev pub LinkedFits : LinkedId → Type 0
-LinkedFits LinkedId.Unlinked = Unit {0}
-LinkedFits (LinkedId.Linked i) = holds 1 i ≡ true
+abbrev pub LinkedFits : Optional ℤ → Type 0
+LinkedFits None = Unit {0}
+LinkedFits (Some i) = holds 1 i ≡ true
 
 abbrev pub CodeFits : Code → Type 0
 CodeFits (Code.Local z) = holds 4 z ≡ true
 CodeFits (Code.Global s) = SpanFits s
 
-abbrev pub ReturnedFits : Returned → Type 0
-ReturnedFits Returned.Bare = Unit {0}
-ReturnedFits (Returned.Both c p) = CodeFits c × SpanFits p
+abbrev pub ReturnedFits : Optional (Code × Span) → Type 0
+ReturnedFits None = Unit {0}
+ReturnedFits (Some (c, p)) = CodeFits c × SpanFits p
 
 abbrev pub KindFits : ComponentKind → Type 0
 KindFits (ComponentKind.Invoke l c p) = LinkedFits l × CodeFits c × OptionalFits p
@@ -40,13 +40,13 @@ KindFits (ComponentKind.ResultNotLast r) = ReturnedFits r
 abbrev pub RowFits : Row → Type 0
 RowFits r = IdFits r.id × KindFits r.kind
 
-abbrev pub OrigFits : OptionalOrig → Type 0
-OrigFits OptionalOrig.NoOrig = Unit {0}
-OrigFits (OptionalOrig.Orig o) = SpanFits o.0.octets
+abbrev pub OrigFits : Optional OrigTransactionId → Type 0
+OrigFits None = Unit {0}
+OrigFits (Some o) = SpanFits o.0.octets
 
-abbrev pub DestFits : OptionalDest → Type 0
-DestFits OptionalDest.NoDest = Unit {0}
-DestFits (OptionalDest.Dest e) = SpanFits e.0.octets
+abbrev pub DestFits : Optional DestTransactionId → Type 0
+DestFits None = Unit {0}
+DestFits (Some e) = SpanFits e.0.octets
 
 abbrev pub DialogueFits : Dialogue → Type 0
 DialogueFits Dialogue.NoDialogue = Unit {0}

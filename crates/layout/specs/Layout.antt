@@ -1,10 +1,10 @@
 -- A record as octets, as docs/LAYOUT.md lays it out, and back: each field both ways, in the order of that page. What the octets stand for is
 -- told for all octets; whether they are a record is another question. Assumes nothing: these are definitions.
-use Rattle.std.specs.Prelude.{ℕ, zero, suc, ◌+◌, ◌-◌, min}
+use Rattle.std.specs.Prelude.{ℤ, Option as Optional, Some, None, ℕ, zero, suc, ◌+◌, ◌-◌, min}
 use mathlib.Core.{Bool.Bool, Bool.true, Bool.false, Bool.cond, Bool.◌&&◌, Bool.◌||◌, List.List, List.[], List.◌∷◌, List.◌++◌}
 use lib.{ListN.length, ListN.take, ListN.drop, ListN.get_or, ListN.replicate, Dec.leb, Dec.eqb}
 use Rattle.base.specs.{Number.number_from, Number.octets_in, Number.top_of, Number.signed_at, Number.bits_at}
-use Rattle.tcap.specs.declared.{Span.Span, OptionalSpan.OptionalSpan, OptionalOrig.OptionalOrig, OptionalDest.OptionalDest, InvokeId.InvokeId, LinkedId.LinkedId, Code.Code, Problem.Problem, Returned.Returned, ComponentKind.ComponentKind, Row.Row, Diagnostic.Diagnostic, Dialogue.Dialogue, MessageKind.MessageKind, Record.Record}
+use Rattle.tcap.specs.declared.{DestTransactionId.DestTransactionId, OrigTransactionId.OrigTransactionId, Span.Span, Code.Code, Problem.Problem, ComponentKind.ComponentKind, Row.Row, Diagnostic.Diagnostic, Dialogue.Dialogue, MessageKind.MessageKind, Record.Record}
 use Rattle.tcap.specs.WellFormed.{most_components}
 use Rattle.tcap.specs.Record.{blank_row, message_tag}
 
@@ -44,16 +44,16 @@ no_span = record { place = 0; len = 0 }
 abbrev pub is_flag : ℕ → Bool
 is_flag x = leb x 1
 
-unfoldable pub optional_in : ℕ → Span → OptionalSpan
-optional_in x s = cond (eqb x 0) OptionalSpan.Absent (OptionalSpan.Present s)
+unfoldable pub optional_in : ℕ → Span → Optional Span
+optional_in x s = cond (eqb x 0) None (Some s)
 
-unfoldable pub optional_flag : OptionalSpan → ℕ
-optional_flag OptionalSpan.Absent = 0
-optional_flag (OptionalSpan.Present s) = 1
+unfoldable pub optional_flag : Optional Span → ℕ
+optional_flag None = 0
+optional_flag (Some s) = 1
 
-unfoldable pub optional_span : OptionalSpan → Span
-optional_span OptionalSpan.Absent = no_span
-optional_span (OptionalSpan.Present s) = s
+unfoldable pub optional_span : Optional Span → Span
+optional_span None = no_span
+optional_span (Some s) = s
 
 -- Record
 
@@ -69,28 +69,28 @@ message_kind_in x =
     (cond (eqb x 0x65) MessageKind.Continue MessageKind.Abort)))
 
 -- 1, 8..15: originating ID
-unfoldable pub orig_in : ℕ → Span → OptionalOrig
-orig_in x s = cond (eqb x 0) OptionalOrig.NoOrig (OptionalOrig.Orig (record { 0 = record { octets = s } }))
+unfoldable pub orig_in : ℕ → Span → Optional OrigTransactionId
+orig_in x s = cond (eqb x 0) None (Some (record { 0 = record { octets = s } }))
 
-unfoldable pub orig_flag : OptionalOrig → ℕ
-orig_flag OptionalOrig.NoOrig = 0
-orig_flag (OptionalOrig.Orig o) = 1
+unfoldable pub orig_flag : Optional OrigTransactionId → ℕ
+orig_flag None = 0
+orig_flag (Some o) = 1
 
-unfoldable pub orig_span : OptionalOrig → Span
-orig_span OptionalOrig.NoOrig = no_span
-orig_span (OptionalOrig.Orig o) = o.0.octets
+unfoldable pub orig_span : Optional OrigTransactionId → Span
+orig_span None = no_span
+orig_span (Some o) = o.0.octets
 
 -- 2, 16..23: destination ID
-unfoldable pub dest_in : ℕ → Span → OptionalDest
-dest_in x s = cond (eqb x 0) OptionalDest.NoDest (OptionalDest.Dest (record { 0 = record { octets = s } }))
+unfoldable pub dest_in : ℕ → Span → Optional DestTransactionId
+dest_in x s = cond (eqb x 0) None (Some (record { 0 = record { octets = s } }))
 
-unfoldable pub dest_flag : OptionalDest → ℕ
-dest_flag OptionalDest.NoDest = 0
-dest_flag (OptionalDest.Dest e) = 1
+unfoldable pub dest_flag : Optional DestTransactionId → ℕ
+dest_flag None = 0
+dest_flag (Some e) = 1
 
-unfoldable pub dest_span : OptionalDest → Span
-dest_span OptionalDest.NoDest = no_span
-dest_span (OptionalDest.Dest e) = e.0.octets
+unfoldable pub dest_span : Optional DestTransactionId → Span
+dest_span None = no_span
+dest_span (Some e) = e.0.octets
 
 -- 42, 43: diagnostic source, diagnostic
 abbrev pub is_source_tag : ℕ → Bool
@@ -115,7 +115,7 @@ is_dialogue x l =
     (cond (eqb x 3) (is_flag (octet l 40) && is_source_tag (octet l 42))
     (cond (leb x 5) (is_flag (octet l 40)) (eqb (octet l 40) 0 && leb x 7)))
 
-abbrev pub info_in : List ℕ → OptionalSpan
+abbrev pub info_in : List ℕ → Optional Span
 info_in l = optional_in (octet l 40) (span_at l 32)
 
 unfoldable pub pdu_in : ℕ → List ℕ → Dialogue
@@ -144,7 +144,7 @@ dialogue_number (Dialogue.OutsideOctets n c) = 7
 unfoldable pub portion_octets : Span → Span → ℕ → ℕ → ℕ → ℕ → List ℕ
 portion_octets name info flag number source diagnostic = span_octets name ++ span_octets info ++ (flag ∷ number ∷ source ∷ diagnostic ∷ [])
 
-abbrev pub pdu_octets : Span → OptionalSpan → ℕ → ℕ → ℕ → List ℕ
+abbrev pub pdu_octets : Span → Optional Span → ℕ → ℕ → ℕ → List ℕ
 pdu_octets name info = portion_octets name (optional_span info) (optional_flag info)
 
 unfoldable pub dialogue_octets : Dialogue → List ℕ
@@ -160,28 +160,28 @@ dialogue_octets (Dialogue.OutsideOctets n c) = portion_octets n c 0 0 0 0
 -- Row
 
 -- 1, 2: invoke ID
-unfoldable pub id_in : ℕ → ℕ → InvokeId
-id_in x n = cond (eqb x 0) InvokeId.Null (InvokeId.Id (signed_at (top_of 1) n))
+unfoldable pub id_in : ℕ → ℕ → Optional ℤ
+id_in x n = cond (eqb x 0) None (Some (signed_at (top_of 1) n))
 
-unfoldable pub id_flag : InvokeId → ℕ
-id_flag InvokeId.Null = 0
-id_flag (InvokeId.Id i) = 1
+unfoldable pub id_flag : Optional ℤ → ℕ
+id_flag None = 0
+id_flag (Some i) = 1
 
-unfoldable pub id_octet : InvokeId → ℕ
-id_octet InvokeId.Null = 0
-id_octet (InvokeId.Id i) = bits_at (top_of 1) i
+unfoldable pub id_octet : Optional ℤ → ℕ
+id_octet None = 0
+id_octet (Some i) = bits_at (top_of 1) i
 
 -- 3, 4: linked ID
-unfoldable pub linked_in : ℕ → ℕ → LinkedId
-linked_in x n = cond (eqb x 0) LinkedId.Unlinked (LinkedId.Linked (signed_at (top_of 1) n))
+unfoldable pub linked_in : ℕ → ℕ → Optional ℤ
+linked_in x n = cond (eqb x 0) None (Some (signed_at (top_of 1) n))
 
-unfoldable pub linked_flag : LinkedId → ℕ
-linked_flag LinkedId.Unlinked = 0
-linked_flag (LinkedId.Linked i) = 1
+unfoldable pub linked_flag : Optional ℤ → ℕ
+linked_flag None = 0
+linked_flag (Some i) = 1
 
-unfoldable pub linked_octet : LinkedId → ℕ
-linked_octet LinkedId.Unlinked = 0
-linked_octet (LinkedId.Linked i) = bits_at (top_of 1) i
+unfoldable pub linked_octet : Optional ℤ → ℕ
+linked_octet None = 0
+linked_octet (Some i) = bits_at (top_of 1) i
 
 -- 5, 8..15: code; a local one stands in the first four octets, as a place does
 abbrev pub is_code_tag : ℕ → Bool
@@ -227,11 +227,11 @@ is_returned l = cond (eqb (octet l 5) 0) (eqb (octet l 6) 0) (is_code_tag (octet
 abbrev pub code_at : List ℕ → Code
 code_at l = code_in (octet l 5) (span_at l 8)
 
-abbrev pub parameter_at : List ℕ → OptionalSpan
+abbrev pub parameter_at : List ℕ → Optional Span
 parameter_at l = optional_in (octet l 6) (span_at l 16)
 
-unfoldable pub returned_in : List ℕ → Returned
-returned_in l = cond (eqb (octet l 5) 0) Returned.Bare (Returned.Both (code_at l) (span_at l 16))
+unfoldable pub returned_in : List ℕ → Optional (Code × Span)
+returned_in l = cond (eqb (octet l 5) 0) None (Some (code_at l, span_at l 16))
 
 -- 0: component kind, which is x; the flag of a part that the kind lacks is 0: 3 but in an Invoke, 6 in a Reject
 unfoldable pub is_unlinked : ℕ → List ℕ → Bool
@@ -252,28 +252,28 @@ kind_in x l =
     (cond (eqb x 0xA4) (ComponentKind.Reject (problem_in (octet l 5) (octet l 7))) (ComponentKind.ResultNotLast (returned_in l)))))
 
 -- 0..4, and 5..23
-unfoldable pub ids_octets : ℕ → InvokeId → LinkedId → List ℕ
+unfoldable pub ids_octets : ℕ → Optional ℤ → Optional ℤ → List ℕ
 ids_octets tag i l = tag ∷ id_flag i ∷ id_octet i ∷ linked_flag l ∷ linked_octet l ∷ []
 
 unfoldable pub parts_octets : ℕ → ℕ → ℕ → Span → Span → List ℕ
 parts_octets tag flag number code parameter = (tag ∷ flag ∷ number ∷ []) ++ span_octets code ++ span_octets parameter
 
-unfoldable pub coded_octets : Code → OptionalSpan → List ℕ
+unfoldable pub coded_octets : Code → Optional Span → List ℕ
 coded_octets c p = parts_octets (code_tag c) (optional_flag p) 0 (code_span c) (optional_span p)
 
-unfoldable pub returned_octets : Returned → List ℕ
-returned_octets Returned.Bare = parts_octets 0 0 0 no_span no_span
-returned_octets (Returned.Both c p) = coded_octets c (OptionalSpan.Present p)
+unfoldable pub returned_octets : Optional (Code × Span) → List ℕ
+returned_octets None = parts_octets 0 0 0 no_span no_span
+returned_octets (Some (c, p)) = coded_octets c (Some p)
 
 unfoldable pub problem_octets : Problem → List ℕ
 problem_octets q = parts_octets (problem_tag q) 0 (problem_number q) no_span no_span
 
-unfoldable pub kind_octets : InvokeId → ComponentKind → List ℕ
+unfoldable pub kind_octets : Optional ℤ → ComponentKind → List ℕ
 kind_octets i (ComponentKind.Invoke l c p) = ids_octets 0xA1 i l ++ coded_octets c p
-kind_octets i (ComponentKind.ResultLast r) = ids_octets 0xA2 i LinkedId.Unlinked ++ returned_octets r
-kind_octets i (ComponentKind.ReturnError c p) = ids_octets 0xA3 i LinkedId.Unlinked ++ coded_octets c p
-kind_octets i (ComponentKind.Reject q) = ids_octets 0xA4 i LinkedId.Unlinked ++ problem_octets q
-kind_octets i (ComponentKind.ResultNotLast r) = ids_octets 0xA7 i LinkedId.Unlinked ++ returned_octets r
+kind_octets i (ComponentKind.ResultLast r) = ids_octets 0xA2 i None ++ returned_octets r
+kind_octets i (ComponentKind.ReturnError c p) = ids_octets 0xA3 i None ++ coded_octets c p
+kind_octets i (ComponentKind.Reject q) = ids_octets 0xA4 i None ++ problem_octets q
+kind_octets i (ComponentKind.ResultNotLast r) = ids_octets 0xA7 i None ++ returned_octets r
 
 unfoldable pub is_row : List ℕ → Bool
 is_row l = is_flag (octet l 1) && is_kind (octet l 0) l
@@ -324,7 +324,7 @@ record_in l =
       rows = rows_held (rows_looked l) (drop head_size l);
     }
 
-unfoldable pub head_octets : MessageKind → OptionalOrig → OptionalDest → Dialogue → ℕ → List ℕ
+unfoldable pub head_octets : MessageKind → Optional OrigTransactionId → Optional DestTransactionId → Dialogue → ℕ → List ℕ
 head_octets k o e d n =
     (message_tag k ∷ orig_flag o ∷ dest_flag e ∷ dialogue_number d ∷ [])
     ++ octets_in 4 n

@@ -9,11 +9,10 @@ use std::io;
 fn list_input<R: Input + Print>(rt: &R) -> io::Result<()> {
     // One octet more than a message may have: longer input is answered like this much of it.
     let mut input = [0u8; 256];
-    let mut source = rt.reader();
-    let count = read_full(&mut source, &mut input)?;
-    let reading = read(&input[..count]);
+    let count = read_full(&mut rt.reader(), &mut input)?;
+    let message = &input[..count];
     let mut text = [0u8; 4096];
-    let size = list_into(&input[..count], reading, &mut text);
+    let size = list_into(message, read(message), &mut text);
     rt.write_all(&text[..size])
 }
 

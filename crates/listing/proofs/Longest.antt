@@ -1,4 +1,5 @@
 -- No listing of a message's reading has more than 1,153 octets: by the widths of its fields. Assumes nothing.
+use Rattle.std.specs.Prelude.{Option as Optional, None}
 use Prim.Native.Nat.{ℕ, suc, ◌+◌, ◌-◌, ◌*◌, ◌≤◌, ◌<◌}
 use native.Mathlib.Omega.{arith}
 use mathlib.Core.Path.{◌≡◌, refl, ap}
@@ -19,7 +20,7 @@ use Rattle.base.proofs.Values.{every_parts}
 use Rattle.primitive.specs.Primitive.{between, most_identifier_octets, identifier_ok, numbers}
 use Rattle.element.specs.Fault.{number_of, Text, Owner, portion, dialogue, component, Fault, fault}
 use Rattle.element.specs.Ask.{Got, got, bad, check}
-use Rattle.tcap.specs.declared.{OptionalOrig.OptionalOrig, OptionalDest.OptionalDest, InvokeId.InvokeId, Problem.Problem, Dialogue.Dialogue as DialogueField, MessageKind.MessageKind, ComponentKind.ComponentKind, Answer.Answer, Ground.Ground}
+use Rattle.tcap.specs.declared.{OrigTransactionId.OrigTransactionId, DestTransactionId.DestTransactionId, Problem.Problem, Dialogue.Dialogue as DialogueField, MessageKind.MessageKind, ComponentKind.ComponentKind, Answer.Answer, Ground.Ground}
 use Rattle.tcap.specs.Meaning.{Originating, orig, Destination, dest, Code, local, global, Component, invoke, last, not_last, error, reject, Dialogue, request, unidialogue, response, aborted, single, octets, Ending, silent, cause, says, Message, unidirectional, begin, finish, continue, abort}
 use Rattle.tcap.specs.WellFormed.{Rules, most_octets, most_components, most_transaction_id_octets, most_cause, most_general_problem, most_invoke_problem, most_result_problem, most_error_problem, the93, id_ok, InvokeIdOk, CodeOk, ProblemOk, ComponentOk, ComponentsOk, BothOk, EndingOk, OrigOk, DestOk, WellFormedUpTo}
 use Rattle.tcap.specs.Record.{span_of, span_field, orig_field, dest_field, id_field, linked_field, code_field, both_field, row_of, dialogue_field, ending_field, portion_field, blank_row, record_from, record_of}
@@ -32,9 +33,9 @@ use Rattle.tcap.proofs.Refusals.{numbered}
 use Rattle.tcap.proofs.Promises.{located_reads}
 use Rattle.digits.specs.Digits.{decimal, signed, number, value}
 use Rattle.digits.proofs.Digits.{tens, decimal_few, signed_few, hex_length}
-use Rattle.listing_fields.specs.Fields.{kind_text, dialogue_text, word_text, id_text, linked_text, place_text, parameter_text, problem_of, problem_text, answer_text, string_text, transaction_text, orig_text, dest_text, ids_text, code_text}
+use Rattle.listing_fields.specs.Fields.{kind_text, dialogue_text, word_text, id_or, id_text, linked_text, place_text, parameter_text, problem_of, problem_text, answer_text, string_text, transaction_text, orig_text, dest_text, ids_text, code_text}
 use Rattle.listing_lines.specs.Lines.{refusal_text, reject_text, coded_text, returned_text, parts_text, row_text, rows_text, head_text}
-use Rattle.listing.specs.Listing.{record_text, outcome_text, listing_of}
+use Rattle.listing.specs.Listing.{record_text, listing_of}
 
 -- 49 for the first line, 69 for each of 16 components; a refusal has less
 abbrev pub longest_listing : ℕ
@@ -84,12 +85,12 @@ code_signed z h = record { most = signed_few 9 z (omega (arith, holds_small 4 z 
 -- A component
 
 id_few : (i : Option ℤ) → Maybe InvokeIdOk i → Within 5 (id_text (id_field i))
-unfolding id_text
+unfolding id_or
 id_few none h = word (text " null")
 id_few (some i) h = id_value i h
 
 linked_few : (l : Option ℤ) → Maybe InvokeIdOk l → Within 5 (linked_text (linked_field l))
-unfolding linked_text
+unfolding id_or
 linked_few none h = wider (word (text " -")) 5 (omega arith)
 linked_few (some i) h = id_value i h
 
@@ -219,15 +220,15 @@ module _ (m : List ℕ) (short : length m ≤ most_octets) where
   unfolding dest_text transaction_text id_ok
   dest_few (dest t) h = word (text " ") and string_few m t most_transaction_id_octets (between_most 1 most_transaction_id_octets t.1 h)
 
-  no_orig_lem : Within 9 (orig_text m OptionalOrig.NoOrig)
+  no_orig_lem : Within 9 (orig_text m None)
   unfolding orig_text
   no_orig_lem = wider (word (text " -")) 9 (omega arith)
 
-  no_dest_lem : Within 9 (dest_text m OptionalDest.NoDest)
+  no_dest_lem : Within 9 (dest_text m None)
   unfolding dest_text
   no_dest_lem = wider (word (text " -")) 9 (omega arith)
 
-  from_few : (rules : Rules) (k : MessageKind) (o : OptionalOrig) (e : OptionalDest) (d : DialogueField) (cs : List (Component Text)) → Within 9 (orig_text m o) → Within 9 (dest_text m e) → Within 9 (dialogue_text d) → ComponentsOk rules (map (component_as octets_of) cs) → AllSit (series_strings component_strings cs) → length (record_text m (record_from k o e d cs)) ≤ longest_listing
+  from_few : (rules : Rules) (k : MessageKind) (o : Optional OrigTransactionId) (e : Optional DestTransactionId) (d : DialogueField) (cs : List (Component Text)) → Within 9 (orig_text m o) → Within 9 (dest_text m e) → Within 9 (dialogue_text d) → ComponentsOk rules (map (component_as octets_of) cs) → AllSit (series_strings component_strings cs) → length (record_text m (record_from k o e d cs)) ≤ longest_listing
   unfolding record_text head_text ids_text
   from_few rules k o e d cs a b c w s =
       let few : length cs ≤ most_components = omega (arith, w.0, length-map cs (component_as octets_of)) in
@@ -239,21 +240,21 @@ module _ (m : List ℕ) (short : length m ≤ most_octets) where
   unfolding WellFormedUpTo record_of series_strings Every
   record_few rules (unidirectional d cs) w s =
       let (a, b) = every_parts (Sits m) (option_strings dialogue_strings d) (series_strings component_strings cs) s in
-      from_few rules MessageKind.Unidirectional OptionalOrig.NoOrig OptionalDest.NoDest (portion_field d) cs no_orig_lem no_dest_lem (portion_few d) w.2 b
+      from_few rules MessageKind.Unidirectional None None (portion_field d) cs no_orig_lem no_dest_lem (portion_few d) w.2 b
   record_few rules (begin o d cs) w s =
       let (i, r) = every_parts (Sits m) (orig_strings o) (rest_strings d cs) s in
       let (a, b) = every_parts (Sits m) (option_strings dialogue_strings d) (series_strings component_strings cs) r in
-      from_few rules MessageKind.Begin (orig_field o) OptionalDest.NoDest (portion_field d) cs (orig_few o w.0) no_dest_lem (portion_few d) w.2 b
+      from_few rules MessageKind.Begin (orig_field o) None (portion_field d) cs (orig_few o w.0) no_dest_lem (portion_few d) w.2 b
   record_few rules (finish e d cs) w s =
       let (i, r) = every_parts (Sits m) (dest_strings e) (rest_strings d cs) s in
       let (a, b) = every_parts (Sits m) (option_strings dialogue_strings d) (series_strings component_strings cs) r in
-      from_few rules MessageKind.End OptionalOrig.NoOrig (dest_field e) (portion_field d) cs no_orig_lem (dest_few e w.0) (portion_few d) w.2 b
+      from_few rules MessageKind.End None (dest_field e) (portion_field d) cs no_orig_lem (dest_few e w.0) (portion_few d) w.2 b
   record_few rules (continue o e d cs) w s =
       let (i, q) = every_parts (Sits m) (orig_strings o) (dest_strings e ++ rest_strings d cs) s in
       let (j, r) = every_parts (Sits m) (dest_strings e) (rest_strings d cs) q in
       let (a, b) = every_parts (Sits m) (option_strings dialogue_strings d) (series_strings component_strings cs) r in
       from_few rules MessageKind.Continue (orig_field o) (dest_field e) (portion_field d) cs (orig_few o w.0) (dest_few e w.1) (portion_few d) w.3 b
-  record_few rules (abort e q) w s = from_few rules MessageKind.Abort OptionalOrig.NoOrig (dest_field e) (ending_field q) [] no_orig_lem (dest_few e w.0) (ending_few rules q w.1) (omega arith, tt) tt
+  record_few rules (abort e q) w s = from_few rules MessageKind.Abort None (dest_field e) (ending_field q) [] no_orig_lem (dest_few e w.0) (ending_few rules q w.1) (omega arith, tt) tt
 
 -- A refusal: its place is at most 255, its component below 16
 
@@ -261,7 +262,7 @@ cause_few : (n : ℕ) → n < 10 → Within 23 (answer_text (Answer.AbortCause n
 unfolding answer_text
 cause_few n h = wider (word (text " cause") and spaced n (one_digit n h)) 23 (omega arith)
 
-answered_few : (n k : ℕ) (i : InvokeId) → n < 10 → k < most_components → Within 23 (answer_text (Answer.RejectProblem n k i))
+answered_few : (n k : ℕ) (i : Optional ℤ) → n < 10 → k < most_components → Within 23 (answer_text (Answer.RejectProblem n k i))
 unfolding answer_text
 answered_few n k i h l = word (text " problem") and spaced n (one_digit n h) and word (text " component") and spaced k (two_digits k (omega arith))
 
@@ -298,7 +299,7 @@ refusal_few m (fault k p o i t) h =
     omega (arith, l.most)
 
 by_located : (m : List ℕ) (x : Got (Message Text)) → located_up_to the93 m ≡ x → length (listing_of m (answered x)) ≤ longest_listing
-unfolding answered listing_of outcome_text
+unfolding answered listing_of
 by_located m (got v n) e = let r = located_reads the93 (omega arith) m v n e in record_few m r.short the93 v r.fine (strings_sit the93 m v n e)
 by_located m (bad f) e = refusal_few m f e
 

@@ -7,11 +7,11 @@ use mathlib.Core.List.{List, [], ◌∷◌, map}
 use Rattle.base.specs.Text.{text}
 use Rattle.element.specs.Fault.{number_of}
 use Rattle.tcap.specs.Reading.{reading}
-use Rattle.tcap.proofs.Computing.{outcome_of}
+use Rattle.tcap.proofs.Computing.{reading_of}
 use Rattle.digits.specs.Digits.{last_digits, decimal, signed, hex_digit, hex, number, value}
-use Rattle.listing_fields.specs.Fields.{kind_text, dialogue_text, word_text, id_text, linked_text, place_text, parameter_text, problem_of, problem_text, answer_text, string_text, transaction_text, orig_text, dest_text, ids_text, code_text}
+use Rattle.listing_fields.specs.Fields.{kind_text, dialogue_text, word_text, id_or, place_text, parameter_text, problem_of, problem_text, answer_text, string_text, transaction_text, orig_text, dest_text, ids_text, code_text}
 use Rattle.listing_lines.specs.Lines.{refusal_text, reject_text, coded_text, returned_text, parts_text, row_text, rows_text, head_text}
-use Rattle.listing.specs.Listing.{record_text, outcome_text, listing_of}
+use Rattle.listing.specs.Listing.{record_text, listing_of}
 
 pub record Listed : Type 0 where
   pub octets : List ℕ
@@ -32,12 +32,12 @@ specimens =
     ∷ record { octets = 0x61 ∷ 0x80 ∷ 0x6C ∷ 0x17 ∷ 0xA2 ∷ 0x10 ∷ 0x02 ∷ 0x01 ∷ 0xFF ∷ 0x30 ∷ 0x0B ∷ 0x02 ∷ 0x01 ∷ 0x2D ∷ 0x28 ∷ 0x80 ∷ 0xE1 ∷ 0x00 ∷ 0x04 ∷ 0x00 ∷ 0x00 ∷ 0x00 ∷ 0xA7 ∷ 0x03 ∷ 0x02 ∷ 0x01 ∷ 0x80 ∷ 0x00 ∷ 0x00 ∷ []; lines = "unidirectional 29 - - none 2\n0 last -1 - local:45 14+8\n1 notlast -128 - - -\n" }
     ∷ []
 
-computed : map (λ s. listing_of s.octets (outcome_of s.octets)) specimens ≡ map (λ s. text s.lines) specimens
-unfolding outcome_of number_of last_digits decimal signed hex_digit hex number value kind_text dialogue_text word_text id_text linked_text place_text parameter_text problem_of problem_text answer_text string_text transaction_text orig_text dest_text ids_text code_text refusal_text reject_text coded_text returned_text parts_text row_text rows_text head_text record_text outcome_text listing_of
+computed : map (λ s. listing_of s.octets (reading_of s.octets)) specimens ≡ map (λ s. text s.lines) specimens
+unfolding reading_of number_of last_digits decimal signed hex_digit hex number value kind_text dialogue_text word_text id_or place_text parameter_text problem_of problem_text answer_text string_text transaction_text orig_text dest_text ids_text code_text refusal_text reject_text coded_text returned_text parts_text row_text rows_text head_text record_text listing_of
 computed = refl
 
-open_reading : (m : List ℕ) → outcome_of m ≡ reading m
-unfolding outcome_of
+open_reading : (m : List ℕ) → reading_of m ≡ reading m
+unfolding reading_of
 open_reading m = refl
 
 pub listed : map (λ s. listing_of s.octets (reading s.octets)) specimens ≡ map (λ s. text s.lines) specimens

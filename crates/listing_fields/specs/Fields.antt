@@ -1,10 +1,10 @@
 -- The fields of a listing's lines, as octets of text: document 01, "Specimens". Each but the first of a line has a space before it; "-" is absent.
 -- Assumes nothing: these are definitions.
-use Rattle.std.specs.Prelude.{ℕ}
+use Rattle.std.specs.Prelude.{ℕ, ℤ, Option as Optional, Some, None}
 use mathlib.Core.{List.List, List.◌++◌}
 use lib.{ListN.take, ListN.drop}
 use Rattle.base.specs.{Text.text}
-use Rattle.tcap.specs.declared.{Span.Span, OptionalSpan.OptionalSpan, TransactionId.TransactionId, OptionalOrig.OptionalOrig, OptionalDest.OptionalDest, InvokeId.InvokeId, LinkedId.LinkedId, Code.Code, Problem.Problem, ComponentKind.ComponentKind, Dialogue.Dialogue, MessageKind.MessageKind, Answer.Answer}
+use Rattle.tcap.specs.declared.{Span.Span, TransactionId.TransactionId, OrigTransactionId.OrigTransactionId, DestTransactionId.DestTransactionId, Code.Code, Problem.Problem, ComponentKind.ComponentKind, Dialogue.Dialogue, MessageKind.MessageKind, Answer.Answer}
 use Rattle.digits.specs.{Digits.decimal, Digits.signed, Digits.hex, Digits.number, Digits.value}
 
 unfoldable pub kind_text : MessageKind → List ℕ
@@ -31,20 +31,23 @@ word_text (ComponentKind.ReturnError c p) = text " error"
 word_text (ComponentKind.Reject q) = text " reject"
 word_text (ComponentKind.ResultNotLast r) = text " notlast"
 
-unfoldable pub id_text : InvokeId → List ℕ
-id_text InvokeId.Null = text " null"
-id_text (InvokeId.Id i) = value i
+-- an ID, or the text w where there is none
+unfoldable pub id_or : List ℕ → Optional ℤ → List ℕ
+id_or w None = w
+id_or w (Some i) = value i
 
-unfoldable pub linked_text : LinkedId → List ℕ
-linked_text LinkedId.Unlinked = text " -"
-linked_text (LinkedId.Linked i) = value i
+abbrev pub id_text : Optional ℤ → List ℕ
+id_text i = id_or (text " null") i
+
+abbrev pub linked_text : Optional ℤ → List ℕ
+linked_text i = id_or (text " -") i
 
 unfoldable pub place_text : Span → List ℕ
 place_text s = number s.place ++ text "+" ++ decimal s.len
 
-unfoldable pub parameter_text : OptionalSpan → List ℕ
-parameter_text OptionalSpan.Absent = text " -"
-parameter_text (OptionalSpan.Present s) = place_text s
+unfoldable pub parameter_text : Optional Span → List ℕ
+parameter_text None = text " -"
+parameter_text (Some s) = place_text s
 
 unfoldable pub problem_of : ℕ → ℕ → List ℕ
 problem_of t n = text " problem:" ++ decimal t ++ text ":" ++ decimal n
@@ -67,15 +70,15 @@ module _ (m : List ℕ) where
   unfoldable pub transaction_text : TransactionId → List ℕ
   transaction_text t = text " " ++ string_text t.octets
 
-  unfoldable pub orig_text : OptionalOrig → List ℕ
-  orig_text OptionalOrig.NoOrig = text " -"
-  orig_text (OptionalOrig.Orig o) = transaction_text o.0
+  unfoldable pub orig_text : Optional OrigTransactionId → List ℕ
+  orig_text None = text " -"
+  orig_text (Some o) = transaction_text o.0
 
-  unfoldable pub dest_text : OptionalDest → List ℕ
-  dest_text OptionalDest.NoDest = text " -"
-  dest_text (OptionalDest.Dest e) = transaction_text e.0
+  unfoldable pub dest_text : Optional DestTransactionId → List ℕ
+  dest_text None = text " -"
+  dest_text (Some e) = transaction_text e.0
 
-  unfoldable pub ids_text : OptionalOrig → OptionalDest → List ℕ
+  unfoldable pub ids_text : Optional OrigTransactionId → Optional DestTransactionId → List ℕ
   ids_text o e = orig_text o ++ dest_text e
 
   unfoldable pub code_text : Code → List ℕ

@@ -10,52 +10,42 @@ use base::{put_octet, put_part};
 use digits::{put_decimal, put_number};
 use element::number_of;
 use listing_fields::{
-    put_code, put_dialogue, put_ids, put_invoke_id, put_kind, put_linked, put_parameter,
-    put_problem, put_word,
+    ABSENT, put_code, put_dialogue, put_id, put_ids, put_kind, put_parameter, put_problem, put_word,
 };
-use tcap::{
-    Answer, Code, ComponentKind, LinkedId, OptionalSpan, Problem, Record, Refusal, Returned, Row,
-};
+use tcap::{Answer, Code, ComponentKind, Problem, Record, Refusal, Row, Span};
 
 // Linked ID, code and parameter.
 fn put_coded(
     out: &mut [u8],
     at: usize,
     message: &[u8],
-    linked: LinkedId,
+    linked: Option<i8>,
     code: Code,
-    parameter: OptionalSpan,
+    parameter: Option<Span>,
 ) -> usize
     ensures { Put out.old at (coded_text message.now linked code parameter) result out.new }
 {
-    let a = put_linked(out, at, linked);
+    let a = put_id(out, at, linked, ABSENT);
     let b = put_code(out, a, message, code);
     put_parameter(out, b, parameter)
 }
 
 #[tactic(auto, unfolding(crate::specs::Lines::returned_text))]
-fn put_returned(out: &mut [u8], at: usize, message: &[u8], returned: Returned) -> usize
+fn put_returned(out: &mut [u8], at: usize, message: &[u8], returned: Option<(Code, Span)>) -> usize
     ensures { Put out.old at (returned_text message.now returned) result out.new }
 {
     match returned {
-        Returned::Bare => put_part(out, at, b" - - -"),
-        Returned::Both { code, parameter } => put_coded(
-            out,
-            at,
-            message,
-            LinkedId::Unlinked,
-            code,
-            OptionalSpan::Present(parameter),
-        ),
+        None => put_part(out, at, b" - - -"),
+        Some((code, parameter)) => put_coded(out, at, message, None, code, Some(parameter)),
     }
 }
 
 fn put_rejected(out: &mut [u8], at: usize, problem: Problem) -> usize
     ensures { Put out.old at (reject_text problem) result out.new }
 {
-    let a = put_part(out, at, b" -");
+    let a = put_part(out, at, ABSENT);
     let b = put_problem(out, a, problem);
-    put_part(out, b, b" -")
+    put_part(out, b, ABSENT)
 }
 
 // What follows the invoke ID.
@@ -69,29 +59,23 @@ fn put_parts(out: &mut [u8], at: usize, message: &[u8], kind: ComponentKind) -> 
             code,
             parameter,
         } => put_coded(out, at, message, linked, code, parameter),
-        ComponentKind::ResultLast(returned) => put_returned(out, at, message, returned),
-        ComponentKind::ReturnError { code, parameter } => put_coded(
-            out,
-            at,
-            message,
-            LinkedId::Unlinked,
-            code,
-            parameter,
-        ),
+        ComponentKind::ResultLast(returned) | ComponentKind::ResultNotLast(returned) => {
+            put_returned(out, at, message, returned)
+        }
+        ComponentKind::ReturnError { code, parameter } => {
+            put_coded(out, at, message, None, code, parameter)
+        }
         ComponentKind::Reject(problem) => put_rejected(out, at, problem),
-        ComponentKind::ResultNotLast(returned) => put_returned(out, at, message, returned),
     }
 }
 
 fn put_row(out: &mut [u8], at: usize, message: &[u8], index: usize, row: Row) -> usize
     ensures { Put out.old at (row_text message.now index row) result out.new }
 {
-    let id = row.id;
-    let kind = row.kind;
     let a = put_decimal(out, at, index);
-    let b = put_word(out, a, kind);
-    let c = put_invoke_id(out, b, id);
-    let d = put_parts(out, c, message, kind);
+    let b = put_word(out, a, row.kind);
+    let c = put_id(out, b, row.id, b" null");
+    let d = put_parts(out, c, message, row.kind);
     put_octet(out, d, b'\n')
 }
 
@@ -99,30 +83,20 @@ fn put_row(out: &mut [u8], at: usize, message: &[u8], index: usize, row: Row) ->
 pub fn put_rows(out: &mut [u8], at: usize, message: &[u8], rows: [Row; 16], count: usize) -> usize
     ensures { Put out.old at (rows_text message.now 0 (take count rows)) result out.new }
 {
-    let mut i = 0;
-    let mut o = at;
-    while i < 16 {
-        if count <= i {
-            return o;
-        }
-        let row = rows[i];
-        o = put_row(out, o, message, i, row);
-        i += 1;
+    let mut next = at;
+    for (index, row) in rows[..count.min(rows.len())].iter().enumerate() {
+        next = put_row(out, next, message, index, *row);
     }
-    o
+    next
 }
 
 pub fn put_head(out: &mut [u8], at: usize, message: &[u8], held: Record) -> usize
     ensures { Put out.old at (head_text message.now held) result out.new }
 {
-    let kind = held.kind;
-    let orig = held.orig;
-    let dest = held.dest;
-    let dialogue = held.dialogue;
-    let a = put_kind(out, at, kind);
+    let a = put_kind(out, at, held.kind);
     let b = put_number(out, a, message.len());
-    let c = put_ids(out, b, message, orig, dest);
-    let d = put_dialogue(out, c, dialogue);
+    let c = put_ids(out, b, message, held.orig, held.dest);
+    let d = put_dialogue(out, c, held.dialogue);
     let e = put_number(out, d, held.count);
     put_octet(out, e, b'\n')
 }
@@ -133,15 +107,15 @@ fn put_answer(out: &mut [u8], at: usize, answer: Answer) -> usize
     match answer {
         Answer::AbortCause(cause) => {
             let a = put_part(out, at, b" cause");
-            put_number(out, a, cause as usize)
+            put_number(out, a, usize::from(cause))
         }
         Answer::RejectProblem {
             problem,
             component,
-            id: _,
+            ..
         } => {
             let a = put_part(out, at, b" problem");
-            let b = put_number(out, a, problem as usize);
+            let b = put_number(out, a, usize::from(problem));
             let c = put_part(out, b, b" component");
             put_number(out, c, component)
         }
@@ -151,12 +125,9 @@ fn put_answer(out: &mut [u8], at: usize, answer: Answer) -> usize
 pub fn put_refusal(out: &mut [u8], at: usize, refusal: Refusal) -> usize
     ensures { Put out.old at (refusal_text refusal) result out.new }
 {
-    let kind = refusal.kind;
-    let answer = refusal.answer;
-    let number = number_of(kind) as usize;
     let a = put_part(out, at, b"refused");
-    let b = put_number(out, a, number);
+    let b = put_number(out, a, usize::from(number_of(refusal.kind)));
     let c = put_number(out, b, refusal.place);
-    let d = put_answer(out, c, answer);
+    let d = put_answer(out, c, refusal.answer);
     put_octet(out, d, b'\n')
 }

@@ -1,35 +1,28 @@
--- What a deed may rely on, and how each form of the table meets its definition. Assumes nothing.
+-- What a deed may rely on. Assumes nothing.
+use Rattle.std.specs.Prelude.{Option as Optional, Some, None, Result, Ok}
 use Prim.Native.Nat.{ℕ, ◌<◌}
 use native.Mathlib.Omega.{arith}
-use mathlib.Core.Path.{◌≡◌, refl}
+use mathlib.Core.Path.{◌≡◌, refl, sym, subst}
 use mathlib.Core.Bool.{Bool, true, false, false≢true, and-eq-true_iff}
 use mathlib.Core.List.{List}
 use lib.ListN.{length, get_or}
 use lib.Dec.{leb}
 use borrow.Author.Tests.{leb-true}
 use Rattle.tcap.specs.WellFormed.{most_transaction_id_octets, id_ok}
-use Rattle.transaction_states.specs.declared.{State.State, Event.Event, Move.Move, Room.Room, Begins.Begins, Deed.Deed}
-use Rattle.open_transactions.specs.declared.{Entry.Entry, Table.Table}
+use Rattle.transaction_states.specs.declared.{State.State, Event.Event, Move.Move, TableRefusal.TableRefusal, Deed.Deed}
+use Rattle.open_transactions.specs.declared.{Entry.Entry}
 use Rattle.transaction_states.specs.Events.{move_of, begins_of, tells, told_by, ids_ok, opening, moving}
-use Rattle.open_transactions.specs.Table.{blank_entry, holds, is_free, find_from, begin_deed, other_deed, found_deed, deed_of, with_entry, active_now, done}
+use Rattle.open_transactions.specs.Table.{blank_entry, holds, is_free, find_from, begin_deed, other_deed, found_deed, deed_of}
 use Rattle.open_transactions.specs.inner.Steps.{Inside, Kept, Doable}
-use Rattle.open_transactions.proofs.Finding.{found_below, same_entry, past_entry}
+use Rattle.open_transactions.proofs.Finding.{found_below}
 
 -- the room of a find
-pub inside_at : (r : Room) (i : ℕ) → r ≡ Room.At i → Inside r → i < 64
-inside_at r i e h = rw e at h
-
 pub found_inside : (t : Entry → Bool) (es : List Entry) → length es ≡ 64 → Inside (find_from t 0 es)
 found_inside t es n = by_room (find_from t 0 es) refl
   where
-    by_room : (r : Room) → find_from t 0 es ≡ r → Inside r
-    by_room Room.Nowhere e = tt
-    by_room (Room.At i) e = omega (arith, n, found_below t 0 i es e)
-
--- an event of the transaction in a room
-pub other_at : (es : List Entry) (e : Event) (r : Room) (i : ℕ) (v : Move) (d : Deed) → length es ≡ 64 → Inside r → r ≡ Room.At i → v ≡ move_of e (get_or es i past_entry).state → d ≡ moving i v → d ≡ other_deed es e r
-unfolding other_deed
-other_at es e r i v d n k f m h = let l : i < length es = omega (arith, n, inside_at r i f k) in rw (f, ← same_entry es i past_entry l, ← m) h
+    by_room : (r : Optional ℕ) → find_from t 0 es ≡ r → Inside r
+    by_room None e = tt
+    by_room (Some i) e = omega (arith, n, found_below t 0 i es e)
 
 -- IDs that are taken have 4 octets at most
 id_short : (c : List ℕ) → id_ok c ≡ true → length c < 5
@@ -57,9 +50,9 @@ module _ (e : Event) (o p : List ℕ) (z : Short e o p) where
   kept_in : (i : ℕ) → i < 64 → Kept o (told_by e p) i
   kept_in i l = record { inside = l; ours = z.ours; partner = z.partner }
 
-  opening_doable : (s : State) (r : Room) → Inside r → Doable o (told_by e p) (opening s r)
-  opening_doable s Room.Nowhere k = tt
-  opening_doable s (Room.At i) k = kept_in i k
+  opening_doable : (s : State) (r : Optional ℕ) → Inside r → Doable o (told_by e p) (opening s r)
+  opening_doable s None k = tt
+  opening_doable s (Some i) k = kept_in i k
 
   moving_doable : (i : ℕ) (v : Move) → i < 64 → Doable o (told_by e p) (moving i v)
   moving_doable i Move.Barred k = tt
@@ -68,12 +61,12 @@ module _ (e : Event) (o p : List ℕ) (z : Short e o p) where
   moving_doable i Move.Learn k = kept_in i k
   moving_doable i Move.Close k = kept_in i k
 
-  found_doable : (es : List Entry) → length es ≡ 64 → (b : Begins) (r : Room) → Inside r → Doable o (told_by e p) (found_deed es e b r)
+  found_doable : (es : List Entry) → length es ≡ 64 → (b : Optional State) (r : Optional ℕ) → Inside r → Doable o (told_by e p) (found_deed es e b r)
   unfolding found_deed begin_deed other_deed
-  found_doable es n (Begins.In s) (Room.At i) k = tt
-  found_doable es n (Begins.In s) Room.Nowhere k = opening_doable s (find_from is_free 0 es) (found_inside is_free es n)
-  found_doable es n Begins.Never Room.Nowhere k = tt
-  found_doable es n Begins.Never (Room.At i) k = moving_doable i (move_of e (get_or es i blank_entry).state) k
+  found_doable es n (Some s) (Some i) k = tt
+  found_doable es n (Some s) None k = opening_doable s (find_from is_free 0 es) (found_inside is_free es n)
+  found_doable es n None None k = tt
+  found_doable es n None (Some i) k = moving_doable i (move_of e (get_or es i blank_entry).state) k
 
 pub deed_doable : (es : List Entry) (e : Event) (o p : List ℕ) → length es ≡ 64 → Doable o (told_by e p) (deed_of es e o p)
 unfolding deed_of
@@ -83,21 +76,5 @@ deed_doable es e o p n = by_ids (ids_ok e o p) refl
     by_ids true q = rw q (found_doable e o p (ids_short e o p q) es n (begins_of e) (find_from (holds o) 0 es) (found_inside (holds o) es n))
     by_ids false q = rw q tt
 
--- what is known of a deed's room and IDs
-module _ (o p : List ℕ) (i : ℕ) (d : Deed) where
-  pub opens_kept : (s : State) → d ≡ Deed.Opens i s → Doable o p d → Kept o p i
-  opens_kept s e k = rw e at k
-
-  pub activates_kept : d ≡ Deed.Activates i → Doable o p d → Kept o p i
-  activates_kept e k = rw e at k
-
-  pub learns_kept : d ≡ Deed.Learns i → Doable o p d → Kept o p i
-  learns_kept e k = rw e at k
-
-  pub closes_kept : d ≡ Deed.Closes i → Doable o p d → Kept o p i
-  closes_kept e k = rw e at k
-
--- the entry is read from the array, whose length its type tells
-pub activates_done : (t : Table) (o p : List ℕ) (i : ℕ) (d : Deed) {u : Table} → length t.entries ≡ 64 → i < 64 → d ≡ Deed.Activates i → u ≡ with_entry t i (active_now (get_or t.entries i past_entry)) → u ≡ done t o p d
-unfolding done
-activates_done t o p i d n l e h = let s = same_entry t.entries i past_entry (omega (arith, n, l)) in rw (h, s, e)
+pub chosen_doable : (o q : List ℕ) (d : Deed) {p : List ℕ} {r : Result Deed TableRefusal} → q ≡ p → r ≡ Ok d → Doable o p r → Doable o q (Ok d)
+chosen_doable o q d {p} e f h = subst (λ (x : List ℕ). Doable o x (Ok d)) (sym e) (subst (Doable o p) f h)

@@ -1,4 +1,5 @@
 -- What a step does to the entries, in one of five ways, and what each keeps. Assumes nothing.
+use Rattle.std.specs.Prelude.{Option as Optional, Some, None, Result, Ok, Err}
 use Prim.Native.Nat.{ℕ, zero, suc, ◌+◌, ◌<◌, ◌≤◌}
 use native.Mathlib.Omega.{arith}
 use mathlib.Core.Path.{◌≡◌, refl, sym, ◌∙◌}
@@ -8,9 +9,9 @@ use lib.ListN.{length, get_or, set, replicate, length-set}
 use lib.Seq.{get_or-set_same, get_or-set_other}
 use lib.Dec.{eqb}
 use borrow.Author.Tests.{eqb-true, eqb-false}
-use Rattle.transaction_states.specs.declared.{State.State, Event.Event, Move.Move, Room.Room, TableRefusal.TableRefusal, Begins.Begins, Deed.Deed, Taken.Taken}
+use Rattle.transaction_states.specs.declared.{State.State, Event.Event, Move.Move, TableRefusal.TableRefusal, Deed.Deed, Taken.Taken}
 use Rattle.open_transactions.specs.declared.{Entry.Entry, Table.Table}
-use Rattle.transaction_states.specs.Events.{is_open, move_of, begins_of, told_by, ids_ok, opening, moving, taken_of}
+use Rattle.transaction_states.specs.Events.{is_open, move_of, begins_of, told_by, ids_ok, opening, moving, answered}
 use Rattle.open_transactions.specs.Table.{blank_entry, empty_table, is_free, holds, find_from, entry_for, active_now, begin_deed, other_deed, found_deed, deed_of, done, stepped}
 use Rattle.open_transactions.specs.History.{one, count_in, is_open_entry, is_opened, is_closed, known_at}
 use Rattle.open_transactions.proofs.Doing.{ids_short}
@@ -18,15 +19,15 @@ use Rattle.open_transactions.proofs.Counting.{first_of_lem, set_count, none_coun
 use Rattle.open_transactions.proofs.Holding.{held_of, same_holders, one_id, other_id, blank_holds, free_shut, free_holds, made_holds, active_holds, ours_in, ours_stands}
 
 -- the entries before, the entries after, and the answer
-pub data Happened (o : List ℕ) : List Entry → List Entry → Taken → Type 0 where
-  barred : {es : List Entry} {k : TableRefusal} → Happened o es es (Taken.Refused k)
-  stayed : {es : List Entry} {i : ℕ} → find_from (holds o) 0 es ≡ Room.At i → Happened o es es (Taken.Kept i)
-  moved : {es : List Entry} {i : ℕ} (e : Entry) → length o < 5 → find_from (holds o) 0 es ≡ Room.At i → holds o e ≡ true → (ours_in (get_or es i blank_entry) ≡ o → ours_in e ≡ o) → Happened o es (set es i e) (Taken.Kept i)
-  shut : {es : List Entry} {i : ℕ} → length o < 5 → find_from (holds o) 0 es ≡ Room.At i → Happened o es (set es i blank_entry) (Taken.Closed i)
-  begun : {es : List Entry} {i : ℕ} (e : Entry) → length o < 5 → find_from (holds o) 0 es ≡ Room.Nowhere → find_from is_free 0 es ≡ Room.At i → holds o e ≡ true → ours_in e ≡ o → Happened o es (set es i e) (Taken.Opened i)
+pub data Happened (o : List ℕ) : List Entry → List Entry → Result Taken TableRefusal → Type 0 where
+  barred : {es : List Entry} {k : TableRefusal} → Happened o es es (Err k)
+  stayed : {es : List Entry} {i : ℕ} → find_from (holds o) 0 es ≡ Some i → Happened o es es (Ok (Taken.Kept i))
+  moved : {es : List Entry} {i : ℕ} (e : Entry) → length o < 5 → find_from (holds o) 0 es ≡ Some i → holds o e ≡ true → (ours_in (get_or es i blank_entry) ≡ o → ours_in e ≡ o) → Happened o es (set es i e) (Ok (Taken.Kept i))
+  shut : {es : List Entry} {i : ℕ} → length o < 5 → find_from (holds o) 0 es ≡ Some i → Happened o es (set es i blank_entry) (Ok (Taken.Closed i))
+  begun : {es : List Entry} {i : ℕ} (e : Entry) → length o < 5 → find_from (holds o) 0 es ≡ None → find_from is_free 0 es ≡ Some i → holds o e ≡ true → ours_in e ≡ o → Happened o es (set es i e) (Ok (Taken.Opened i))
 
 -- Begin opens in one of the two initiation states
-pub begins_open : (e : Event) (s : State) → begins_of e ≡ Begins.In s → is_open s ≡ true
+pub begins_open : (e : Event) (s : State) → begins_of e ≡ Some s → is_open s ≡ true
 begins_open Event.BeginSent s h = let z : State.InitiationSent ≡ s = cc in rw (← z)
 begins_open Event.BeginReceived s h = let z : State.InitiationReceived ≡ s = cc in rw (← z)
 begins_open Event.ContinueSent s h = let z : ◌≡◌ {A = ℕ} 0 1 = cc in absurd (omega arith)
@@ -39,20 +40,20 @@ begins_open Event.LocalClose s h = let z : ◌≡◌ {A = ℕ} 0 1 = cc in absur
 begins_open Event.Other s h = let z : ◌≡◌ {A = ℕ} 0 1 = cc in absurd (omega arith)
 
 module _ (t : Table) (o p : List ℕ) (short : length o < 5) where
-  abbrev Does : Deed → Type 0
-  Does d = Happened o t.entries (done t o p d).entries (taken_of d)
+  abbrev Does : Result Deed TableRefusal → Type 0
+  Does d = Happened o t.entries (done t o p d).entries (answered d)
 
-  open_does : (s : State) → is_open s ≡ true → find_from (holds o) 0 t.entries ≡ Room.Nowhere → (r : Room) → find_from is_free 0 t.entries ≡ r → Does (opening s r)
+  open_does : (s : State) → is_open s ≡ true → find_from (holds o) 0 t.entries ≡ None → (r : Optional ℕ) → find_from is_free 0 t.entries ≡ r → Does (opening s r)
   unfolding done
-  open_does s w n Room.Nowhere f = barred
-  open_does s w n (Room.At i) f = begun (entry_for s o p) short n f (made_holds s o p w) (ours_stands s o p short)
+  open_does s w n None f = barred
+  open_does s w n (Some i) f = begun (entry_for s o p) short n f (made_holds s o p w) (ours_stands s o p short)
 
-  begin_does : (s : State) → is_open s ≡ true → (r : Room) → find_from (holds o) 0 t.entries ≡ r → Does (begin_deed t.entries s r)
+  begin_does : (s : State) → is_open s ≡ true → (r : Optional ℕ) → find_from (holds o) 0 t.entries ≡ r → Does (begin_deed t.entries s r)
   unfolding done begin_deed
-  begin_does s w (Room.At i) f = barred
-  begin_does s w Room.Nowhere f = open_does s w f (find_from is_free 0 t.entries) refl
+  begin_does s w (Some i) f = barred
+  begin_does s w None f = open_does s w f (find_from is_free 0 t.entries) refl
 
-  move_does : (i : ℕ) → find_from (holds o) 0 t.entries ≡ Room.At i → (v : Move) → Does (moving i v)
+  move_does : (i : ℕ) → find_from (holds o) 0 t.entries ≡ Some i → (v : Move) → Does (moving i v)
   unfolding done
   move_does i f Move.Barred = barred
   move_does i f Move.Stay = stayed f
@@ -60,11 +61,11 @@ module _ (t : Table) (o p : List ℕ) (short : length o < 5) where
   move_does i f Move.Learn = moved (entry_for State.Active o p) short f (made_holds State.Active o p refl) (λ w. ours_stands State.Active o p short)
   move_does i f Move.Close = shut short f
 
-  found_does : (e : Event) (b : Begins) → begins_of e ≡ b → (r : Room) → find_from (holds o) 0 t.entries ≡ r → Does (found_deed t.entries e b r)
+  found_does : (e : Event) (b : Optional State) → begins_of e ≡ b → (r : Optional ℕ) → find_from (holds o) 0 t.entries ≡ r → Does (found_deed t.entries e b r)
   unfolding done found_deed other_deed
-  found_does e (Begins.In s) q r f = begin_does s (begins_open e s q) r f
-  found_does e Begins.Never q Room.Nowhere f = barred
-  found_does e Begins.Never q (Room.At i) f = move_does i f (move_of e (get_or t.entries i blank_entry).state)
+  found_does e (Some s) q r f = begin_does s (begins_open e s q) r f
+  found_does e None q None f = barred
+  found_does e None q (Some i) f = move_does i f (move_of e (get_or t.entries i blank_entry).state)
 
 pub step_does : (t : Table) (e : Event) (o p : List ℕ) → Happened o t.entries (stepped t e o p).table.entries (stepped t e o p).taken
 unfolding stepped deed_of done
@@ -76,7 +77,7 @@ step_does t e o p = by_ids (ids_ok e o p) refl
 
 -- The number open
 
-pub open_counts : {o : List ℕ} {es fs : List Entry} {k : Taken} → Happened o es fs k → count_in is_open_entry fs + one (is_closed k) ≡ count_in is_open_entry es + one (is_opened k)
+pub open_counts : {o : List ℕ} {es fs : List Entry} {k : Result Taken TableRefusal} → Happened o es fs k → count_in is_open_entry fs + one (is_closed k) ≡ count_in is_open_entry es + one (is_opened k)
 open_counts barred = refl
 open_counts (stayed f) = refl
 open_counts {o} {es} (moved {i = i} e s f h w) =
@@ -111,7 +112,7 @@ at_most_one : (b : Bool) → one b ≤ 1
 at_most_one true = omega arith
 at_most_one false = omega arith
 
-pub keeps_sound : {o : List ℕ} {es fs : List Entry} {k : Taken} → Happened o es fs k → Sound es → Sound fs
+pub keeps_sound : {o : List ℕ} {es fs : List Entry} {k : Result Taken TableRefusal} → Happened o es fs k → Sound es → Sound fs
 keeps_sound barred z = z
 keeps_sound (stayed f) z = z
 keeps_sound {o} {es} (moved {i = i} e s f h w) z =
@@ -170,7 +171,7 @@ stored_standing es i e l own z j id q = by_room (eqb j i) refl
         let x = get_or-set_other es i j e blank_entry (eqb-false j i t) in
         rw x (z j id (rw x at q))
 
-pub keeps_standing : {o : List ℕ} {es fs : List Entry} {k : Taken} → Happened o es fs k → Standing es → Standing fs
+pub keeps_standing : {o : List ℕ} {es fs : List Entry} {k : Result Taken TableRefusal} → Happened o es fs k → Standing es → Standing fs
 keeps_standing barred z = z
 keeps_standing (stayed f) z = z
 keeps_standing {o} {es} (moved {i = i} e s f h w) z =
@@ -181,7 +182,7 @@ keeps_standing {o} {es} (begun {i = i} e s n f h w) z = stored_standing es i e (
 
 -- What is known of another ID
 
-pub others_known : {o : List ℕ} {es fs : List Entry} {k : Taken} (id : List ℕ) → (id ≡ o → ⊥) → Happened o es fs k → known_at fs (find_from (holds id) 0 fs) ≡ known_at es (find_from (holds id) 0 es)
+pub others_known : {o : List ℕ} {es fs : List Entry} {k : Result Taken TableRefusal} (id : List ℕ) → (id ≡ o → ⊥) → Happened o es fs k → known_at fs (find_from (holds id) 0 fs) ≡ known_at es (find_from (holds id) 0 es)
 others_known id n barred = refl
 others_known id n (stayed f) = refl
 others_known {o} {es} id n (moved {i = i} e s f h w) = known_stays (holds id) es i e (other_id (get_or es i blank_entry) o id s n (first_of_lem (holds o) i es f).passes) (other_id e o id s n h)

@@ -1,4 +1,5 @@
 -- A step answers and changes what the page says of its ID; and the page's table, computed. Assumes nothing.
+use Rattle.std.specs.Prelude.{Option as Optional, Some, None, Result}
 use Prim.Native.Nat.{ℕ, ◌<◌}
 use native.Mathlib.Omega.{arith}
 use mathlib.Core.Path.{◌≡◌, refl, sym, ap, ◌∙◌}
@@ -10,11 +11,11 @@ use lib.ListN.{length, get_or, set}
 use lib.Seq.{get_or-set_same}
 use lib.Dec.{eqb}
 use borrow.Author.Tests.{eq-eqb, ne_eqb}
-use Rattle.transaction_states.specs.declared.{State.State, Event.Event, Move.Move, Room.Room, Begins.Begins, Deed.Deed}
+use Rattle.transaction_states.specs.declared.{State.State, Event.Event, Move.Move, TableRefusal.TableRefusal, Deed.Deed}
 use Rattle.open_transactions.specs.declared.{Entry.Entry, Table.Table}
 use Rattle.tcap.specs.WellFormed.{id_ok}
-use Rattle.transaction_states.specs.Events.{is_open, move_of, begins_of, told_by, ids_ok, opening, moving, taken_of}
-use Rattle.open_transactions.specs.Table.{blank_entry, is_free, holds, find_from, entry_for, active_now, refusal_number, begin_deed, other_deed, found_deed, deed_of, with_entry, done, stepped}
+use Rattle.transaction_states.specs.Events.{is_open, move_of, begins_of, told_by, ids_ok, opening, moving, answered, refusal_number}
+use Rattle.open_transactions.specs.Table.{blank_entry, is_free, holds, find_from, entry_for, active_now, begin_deed, other_deed, found_deed, deed_of, with_entry, done, stepped}
 use Rattle.open_transactions.specs.History.{one, count_in, is_open_entry, open_in, Known, known_entry, known_at, known_of, Answer, refused, opened, kept, closed, answer_of, given, page_moves, page_opens, page_knows, page_says}
 use Rattle.open_transactions.proofs.Doing.{ids_short}
 use Rattle.open_transactions.proofs.Counting.{first_of_lem, set_count, none_count, count_none, passes_counted, set_found, count_both, Late}
@@ -28,24 +29,24 @@ known_made s o p h = ap (λ (x : Option (List ℕ)). record { state = s; partner
 
 -- no room is free where 64 are open, and only there
 module _ (es : List Entry) (size : length es ≡ 64) where
-  all_open : find_from is_free 0 es ≡ Room.Nowhere → count_in is_open_entry es ≡ 64
+  all_open : find_from is_free 0 es ≡ None → count_in is_open_entry es ≡ 64
   unfolding is_free
   all_open f = omega (arith, size, count_both is_open_entry es, none_count is_free 0 es f)
 
-  some_free : (i : ℕ) → find_from is_free 0 es ≡ Room.At i → count_in is_open_entry es < 64
+  some_free : (i : ℕ) → find_from is_free 0 es ≡ Some i → count_in is_open_entry es < 64
   unfolding is_free
   some_free i f = let g = first_of_lem is_free i es f in omega (arith, size, count_both is_open_entry es, passes_counted is_free es i g.within g.passes)
 
 module _ (t : Table) (z : Sound t.entries) (o p : List ℕ) (short : length o < 5) (told : length p < 5) where
   -- what the page says, and what is done
-  abbrev Says : Answer × Option Known → Deed → Type 0
-  Says a d = (answer_of (taken_of d), known_of (done t o p d) o) ≡ a
+  abbrev Says : Answer × Option Known → Result Deed TableRefusal → Type 0
+  Says a d = (answer_of (answered d), known_of (done t o p d) o) ≡ a
 
   known_stored : (i : ℕ) (e : Entry) → i < length t.entries → holds o e ≡ true → Late (holds o) i (find_from (holds o) 0 t.entries) → known_of (with_entry t i e) o ≡ some (known_entry e)
   unfolding known_of
   known_stored i e l h f = rw (set_found (holds o) t.entries i e l h f, get_or-set_same t.entries i e blank_entry l)
 
-  known_shut : (i : ℕ) → find_from (holds o) 0 t.entries ≡ Room.At i → known_of (with_entry t i blank_entry) o ≡ none
+  known_shut : (i : ℕ) → find_from (holds o) 0 t.entries ≡ Some i → known_of (with_entry t i blank_entry) o ≡ none
   unfolding known_of
   known_shut i f =
       let g = first_of_lem (holds o) i t.entries f in
@@ -54,21 +55,21 @@ module _ (t : Table) (z : Sound t.entries) (o p : List ℕ) (short : length o < 
       let b : one (holds o blank_entry) ≡ 0 = rw (blank_holds o) in
       rw (count_none (holds o) 0 (set t.entries i blank_entry) (omega (arith, c, a, b, z.unique o)))
 
-  open_says : (s : State) → is_open s ≡ true → find_from (holds o) 0 t.entries ≡ Room.Nowhere → (r : Room) → find_from is_free 0 t.entries ≡ r → Says (page_opens (eqb (open_in t) 64) s (given p)) (opening s r)
+  open_says : (s : State) → is_open s ≡ true → find_from (holds o) 0 t.entries ≡ None → (r : Optional ℕ) → find_from is_free 0 t.entries ≡ r → Says (page_opens (eqb (open_in t) 64) s (given p)) (opening s r)
   unfolding done known_of
-  open_says s w n Room.Nowhere f = rw (eq-eqb (open_in t) 64 (all_open t.entries z.size f), n)
-  open_says s w n (Room.At i) f =
+  open_says s w n None f = rw (eq-eqb (open_in t) 64 (all_open t.entries z.size f), n)
+  open_says s w n (Some i) f =
       let less = some_free t.entries z.size i f in
       let k : known_of (with_entry t i (entry_for s o p)) o ≡ some (known_entry (entry_for s o p)) =
       known_stored i (entry_for s o p) (first_of_lem is_free i t.entries f).within (made_holds s o p w) (rw n tt) in
       rw (ne_eqb (open_in t) 64 (λ q. omega (arith, less, q)), k, known_made s o p told)
 
-  begin_says : (e : Event) (s : State) → is_open s ≡ true → (r : Room) → find_from (holds o) 0 t.entries ≡ r → Says (page_knows (eqb (open_in t) 64) e (given p) (Begins.In s) (known_at t.entries r)) (begin_deed t.entries s r)
+  begin_says : (e : Event) (s : State) → is_open s ≡ true → (r : Optional ℕ) → find_from (holds o) 0 t.entries ≡ r → Says (page_knows (eqb (open_in t) 64) e (given p) (Some s) (known_at t.entries r)) (begin_deed t.entries s r)
   unfolding done known_of begin_deed
-  begin_says e s w (Room.At i) f = rw f
-  begin_says e s w Room.Nowhere f = open_says s w f (find_from is_free 0 t.entries) refl
+  begin_says e s w (Some i) f = rw f
+  begin_says e s w None f = open_says s w f (find_from is_free 0 t.entries) refl
 
-  move_says : (i : ℕ) → find_from (holds o) 0 t.entries ≡ Room.At i → (v : Move) → Says (page_moves (known_entry (get_or t.entries i blank_entry)) (given p) v) (moving i v)
+  move_says : (i : ℕ) → find_from (holds o) 0 t.entries ≡ Some i → (v : Move) → Says (page_moves (known_entry (get_or t.entries i blank_entry)) (given p) v) (moving i v)
   unfolding done known_of
   move_says i f Move.Barred = rw f
   move_says i f Move.Stay = rw f
@@ -82,11 +83,11 @@ module _ (t : Table) (z : Sound t.entries) (o p : List ℕ) (short : length o < 
       ap (λ (x : Option Known). (kept, x)) (k ∙ ap some (known_made State.Active o p told))
   move_says i f Move.Close = ap (λ (x : Option Known). (closed, x)) (known_shut i f)
 
-  found_says : (e : Event) (b : Begins) → begins_of e ≡ b → (r : Room) → find_from (holds o) 0 t.entries ≡ r → Says (page_knows (eqb (open_in t) 64) e (given p) b (known_at t.entries r)) (found_deed t.entries e b r)
+  found_says : (e : Event) (b : Optional State) → begins_of e ≡ b → (r : Optional ℕ) → find_from (holds o) 0 t.entries ≡ r → Says (page_knows (eqb (open_in t) 64) e (given p) b (known_at t.entries r)) (found_deed t.entries e b r)
   unfolding done known_of found_deed other_deed
-  found_says e (Begins.In s) q r f = begin_says e s (begins_open e s q) r f
-  found_says e Begins.Never q Room.Nowhere f = rw f
-  found_says e Begins.Never q (Room.At i) f = move_says i f (move_of e (get_or t.entries i blank_entry).state)
+  found_says e (Some s) q r f = begin_says e s (begins_open e s q) r f
+  found_says e None q None f = rw f
+  found_says e None q (Some i) f = move_says i f (move_of e (get_or t.entries i blank_entry).state)
 
 pub step_says : (t : Table) → Sound t.entries → (e : Event) (o p : List ℕ) → (answer_of (stepped t e o p).taken, known_of (stepped t e o p).table o) ≡ page_says (eqb (open_in t) 64) e o p (known_of t o)
 unfolding stepped deed_of done page_says known_of
@@ -106,9 +107,9 @@ number_of opened = 0
 number_of kept = 0
 number_of closed = 0
 
-abbrev pub begins : Begins → Bool
-begins (Begins.In s) = true
-begins Begins.Never = false
+abbrev pub begins : Optional State → Bool
+begins (Some s) = true
+begins None = false
 
 abbrev pub is_known : Option Known → Bool
 is_known none = false
@@ -152,13 +153,13 @@ pub why_says : (full : Bool) (e : Event) (o p : List ℕ) (k : Option Known) →
 unfolding page_says
 why_says full e o p k = by_ids full k (ids_ok e o p) refl (begins_of e) refl
   where
-    by_ids : (f : Bool) (m : Option Known) (b : Bool) → ids_ok e o p ≡ b → (c : Begins) → begins_of e ≡ c → Why f e o p m (number_of (page_says f e o p m).0)
+    by_ids : (f : Bool) (m : Option Known) (b : Bool) → ids_ok e o p ≡ b → (c : Optional State) → begins_of e ≡ c → Why f e o p m (number_of (page_says f e o p m).0)
     by_ids f m false q c r = rw q (why_40 q)
-    by_ids f (some m) true q (Begins.In s) r = rw (q, r) (why_41 (record { sound = q; wrong = rw r }))
-    by_ids true none true q (Begins.In s) r = rw (q, r) (why_43 (record { opens = rw r; sound = q; unknown = refl; all = refl }))
-    by_ids false none true q (Begins.In s) r = rw (q, r) why_0
-    by_ids f none true q Begins.Never r = rw (q, r) (why_41 (record { sound = q; wrong = rw r }))
-    by_ids f (some m) true q Begins.Never r = rw (q, r) (why_moves f e o p m q (rw r) (move_of e m.state) refl)
+    by_ids f (some m) true q (Some s) r = rw (q, r) (why_41 (record { sound = q; wrong = rw r }))
+    by_ids true none true q (Some s) r = rw (q, r) (why_43 (record { opens = rw r; sound = q; unknown = refl; all = refl }))
+    by_ids false none true q (Some s) r = rw (q, r) why_0
+    by_ids f none true q None r = rw (q, r) (why_41 (record { sound = q; wrong = rw r }))
+    by_ids f (some m) true q None r = rw (q, r) (why_moves f e o p m q (rw r) (move_of e m.state) refl)
 
 module _ {full : Bool} {e : Event} {o p : List ℕ} {k : Option Known} where
   only_40 : Why full e o p k 40 → ids_ok e o p ≡ false
@@ -185,27 +186,27 @@ module _ (full : Bool) (e : Event) (o p : List ℕ) (k : Option Known) where
   unfolding page_says
   says_41 = (λ h. only_41 (rw h at (why_says full e o p k)), λ w. back w (begins_of e) refl k refl)
     where
-      back : Mismatched e o p k → (c : Begins) → begins_of e ≡ c → (m : Option Known) → k ≡ m → number ≡ 41
-      back w (Begins.In s) r (some m) n = rw (w.sound, r, n)
-      back w (Begins.In s) r none n = let y : true ≡ false = (rw (r, n) at w.wrong) in absurd (false≢true (sym y))
-      back w Begins.Never r none n = rw (w.sound, r, n)
-      back w Begins.Never r (some m) n = absurd (false≢true (rw (r, n) at w.wrong))
+      back : Mismatched e o p k → (c : Optional State) → begins_of e ≡ c → (m : Option Known) → k ≡ m → number ≡ 41
+      back w (Some s) r (some m) n = rw (w.sound, r, n)
+      back w (Some s) r none n = let y : true ≡ false = (rw (r, n) at w.wrong) in absurd (false≢true (sym y))
+      back w None r none n = rw (w.sound, r, n)
+      back w None r (some m) n = absurd (false≢true (rw (r, n) at w.wrong))
 
   pub says_42 : (number ≡ 42) ↔ BarredFor e o p k
   unfolding page_says
   says_42 = (λ h. only_42 (rw h at (why_says full e o p k)), λ w. back w (begins_of e) refl)
     where
-      back : BarredFor e o p k → (c : Begins) → begins_of e ≡ c → number ≡ 42
-      back w (Begins.In s) r = let y : true ≡ false = (rw r at w.other) in absurd (false≢true (sym y))
-      back w Begins.Never r = rw (w.sound, r, w.known, w.barred)
+      back : BarredFor e o p k → (c : Optional State) → begins_of e ≡ c → number ≡ 42
+      back w (Some s) r = let y : true ≡ false = (rw r at w.other) in absurd (false≢true (sym y))
+      back w None r = rw (w.sound, r, w.known, w.barred)
 
   pub says_43 : (number ≡ 43) ↔ FullFor full e o p k
   unfolding page_says
   says_43 = (λ h. only_43 (rw h at (why_says full e o p k)), λ w. back w (begins_of e) refl)
     where
-      back : FullFor full e o p k → (c : Begins) → begins_of e ≡ c → number ≡ 43
-      back w (Begins.In s) r = rw (w.sound, r, w.unknown, w.all)
-      back w Begins.Never r = absurd (false≢true (rw r at w.opens))
+      back : FullFor full e o p k → (c : Optional State) → begins_of e ≡ c → number ≡ 43
+      back w (Some s) r = rw (w.sound, r, w.unknown, w.all)
+      back w None r = absurd (false≢true (rw r at w.opens))
 
 -- The page's table, computed: each event in each state, the number of its refusal (0: taken) and the state after it
 

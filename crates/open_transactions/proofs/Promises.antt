@@ -1,4 +1,5 @@
 -- What the table promises over all histories from empty. Assumes nothing.
+use Rattle.std.specs.Prelude.{Some, Result, Ok, Err}
 use Prim.Native.Nat.{ℕ, ◌+◌, ◌<◌, ◌≤◌}
 use native.Mathlib.Omega.{arith}
 use mathlib.Core.Path.{◌≡◌, refl, sym, ap, ◌∙◌}
@@ -9,9 +10,9 @@ use mathlib.Core.Option.{Option, none}
 use lib.ListN.{get_or, replicate}
 use lib.Dec.{eqb}
 use borrow.Author.Tests.{eq-eqb, eqb-true}
-use Rattle.transaction_states.specs.declared.{Event.Event, Room.Room, TableRefusal.TableRefusal, Deed.Deed, Taken.Taken}
+use Rattle.transaction_states.specs.declared.{Event.Event, TableRefusal.TableRefusal, Deed.Deed, Taken.Taken}
 use Rattle.open_transactions.specs.declared.{Entry.Entry, Table.Table}
-use Rattle.transaction_states.specs.Events.{begins_of, told_by, ids_ok, taken_of}
+use Rattle.transaction_states.specs.Events.{begins_of, told_by, ids_ok, answered}
 use Rattle.open_transactions.specs.Table.{blank_entry, empty_table, is_free, holds, find_from, deed_of, done, stepped}
 use Rattle.open_transactions.specs.History.{Happening, after, table_from, reached, one, count_in, is_open_entry, open_in, is_opened, is_closed, taken_status, how_many, Known, known_of, Answer, answer_of, page_says}
 use Rattle.open_transactions.proofs.Counting.{first_of_lem, only_one, set_found, count_both}
@@ -72,28 +73,28 @@ others_stay hs e o p id n = others_known id n (step_does (reached hs) e o p)
 
 -- A refusal changes nothing
 
-done_refused : (t : Table) (o p : List ℕ) (k : TableRefusal) (d : Deed) → taken_of d ≡ Taken.Refused k → done t o p d ≡ t
+done_refused : (t : Table) (o p : List ℕ) (k : TableRefusal) (d : Result Deed TableRefusal) → answered d ≡ Err k → done t o p d ≡ t
 unfolding done
-done_refused t o p k (Deed.Refused r) h = refl
-done_refused t o p k (Deed.Opens i s) h = let z : ◌≡◌ {A = ℕ} 0 1 = cc in absurd (omega arith)
-done_refused t o p k (Deed.Keeps i) h = refl
-done_refused t o p k (Deed.Activates i) h = let z : ◌≡◌ {A = ℕ} 0 1 = cc in absurd (omega arith)
-done_refused t o p k (Deed.Learns i) h = let z : ◌≡◌ {A = ℕ} 0 1 = cc in absurd (omega arith)
-done_refused t o p k (Deed.Closes i) h = let z : ◌≡◌ {A = ℕ} 0 1 = cc in absurd (omega arith)
+done_refused t o p k (Err r) h = refl
+done_refused t o p k (Ok (Deed.Opens i s)) h = let z : ◌≡◌ {A = ℕ} 0 1 = cc in absurd (omega arith)
+done_refused t o p k (Ok (Deed.Keeps i)) h = refl
+done_refused t o p k (Ok (Deed.Activates i)) h = let z : ◌≡◌ {A = ℕ} 0 1 = cc in absurd (omega arith)
+done_refused t o p k (Ok (Deed.Learns i)) h = let z : ◌≡◌ {A = ℕ} 0 1 = cc in absurd (omega arith)
+done_refused t o p k (Ok (Deed.Closes i)) h = let z : ◌≡◌ {A = ℕ} 0 1 = cc in absurd (omega arith)
 
-pub refused_stays : (t : Table) (e : Event) (o p : List ℕ) (k : TableRefusal) → (stepped t e o p).taken ≡ Taken.Refused k → (stepped t e o p).table ≡ t
+pub refused_stays : (t : Table) (e : Event) (o p : List ℕ) (k : TableRefusal) → (stepped t e o p).taken ≡ Err k → (stepped t e o p).table ≡ t
 unfolding stepped
 refused_stays t e o p k h = done_refused t o (told_by e p) k (deed_of t.entries e o p) h
 
 -- The room told is the transaction's: before an event that keeps or closes it, after one that keeps or opens it
 
-abbrev pub RoomTold : List ℕ → List Entry → List Entry → Taken → Type 0
-RoomTold o before later (Taken.Refused k) = Unit {0}
-RoomTold o before later (Taken.Opened i) = find_from (holds o) 0 later ≡ Room.At i
-RoomTold o before later (Taken.Kept i) = (find_from (holds o) 0 before ≡ Room.At i) × (find_from (holds o) 0 later ≡ Room.At i)
-RoomTold o before later (Taken.Closed i) = find_from (holds o) 0 before ≡ Room.At i
+abbrev pub RoomTold : List ℕ → List Entry → List Entry → Result Taken TableRefusal → Type 0
+RoomTold o before later (Err k) = Unit {0}
+RoomTold o before later (Ok (Taken.Opened i)) = find_from (holds o) 0 later ≡ Some i
+RoomTold o before later (Ok (Taken.Kept i)) = (find_from (holds o) 0 before ≡ Some i) × (find_from (holds o) 0 later ≡ Some i)
+RoomTold o before later (Ok (Taken.Closed i)) = find_from (holds o) 0 before ≡ Some i
 
-room_of : {o : List ℕ} {es fs : List Entry} {k : Taken} → Happened o es fs k → RoomTold o es fs k
+room_of : {o : List ℕ} {es fs : List Entry} {k : Result Taken TableRefusal} → Happened o es fs k → RoomTold o es fs k
 room_of barred = tt
 room_of (stayed f) = (f, f)
 room_of {o} {es} (moved {i = i} e s f h w) = (f, set_found (holds o) es i e (first_of_lem (holds o) i es f).within h (rw f (omega arith)))
@@ -105,11 +106,11 @@ room_told t e o p = room_of (step_does t e o p)
 
 -- Each number exactly where it is due
 
-status_answer : (k : Taken) → taken_status k ≡ number_of (answer_of k)
-status_answer (Taken.Refused r) = refl
-status_answer (Taken.Opened i) = refl
-status_answer (Taken.Kept i) = refl
-status_answer (Taken.Closed i) = refl
+status_answer : (k : Result Taken TableRefusal) → taken_status k ≡ number_of (answer_of k)
+status_answer (Err r) = refl
+status_answer (Ok (Taken.Opened i)) = refl
+status_answer (Ok (Taken.Kept i)) = refl
+status_answer (Ok (Taken.Closed i)) = refl
 
 -- a Begin has sound IDs, ours is unknown, and 64 are open
 pub record FullNow (t : Table) (e : Event) (o p : List ℕ) : Type 0 where
@@ -148,11 +149,11 @@ module _ (hs : List Happening) (e : Event) (o p : List ℕ) where
   pub full_exactly : (status ≡ 43) ↔ FullNow (reached hs) e o p
   full_exactly = full_now (reached hs) (reached_sound hs) e o p
 
-closed_not_opened : (k : Taken) → is_closed k ≡ true → one (is_opened k) ≡ 0
-closed_not_opened (Taken.Refused r) h = refl
-closed_not_opened (Taken.Opened i) h = let z : ◌≡◌ {A = ℕ} 0 1 = cc in absurd (omega arith)
-closed_not_opened (Taken.Kept i) h = refl
-closed_not_opened (Taken.Closed i) h = refl
+closed_not_opened : (k : Result Taken TableRefusal) → is_closed k ≡ true → one (is_opened k) ≡ 0
+closed_not_opened (Err r) h = refl
+closed_not_opened (Ok (Taken.Opened i)) h = let z : ◌≡◌ {A = ℕ} 0 1 = cc in absurd (omega arith)
+closed_not_opened (Ok (Taken.Kept i)) h = refl
+closed_not_opened (Ok (Taken.Closed i)) h = refl
 
 open_most : (t : Table) → Sound t.entries → open_in t ≤ 64
 open_most t z = omega (arith, z.size, count_both is_open_entry t.entries)

@@ -1,12 +1,12 @@
 -- Histories of events from the empty table, what is counted over them, and what the page says of one ID. Assumes nothing: these are definitions.
-use Rattle.std.specs.Prelude.{ℕ, ◌+◌}
+use Rattle.tcap.specs.declared.DestTransactionId.{DestTransactionId}
+use Rattle.std.specs.Prelude.{ℕ, ◌+◌, Option as Optional, Some, None, Result, Ok, Err}
 use mathlib.Core.{Bool.Bool, Bool.true, Bool.false, Bool.cond, List.List, List.[], List.◌∷◌, Option.Option, Option.none, Option.some}
 use lib.{ListN.get_or, ListN.take, ListN.drop}
-use Rattle.tcap.specs.declared.OptionalDest.{OptionalDest}
-use Rattle.transaction_states.specs.declared.{State.State, Event.Event, Move.Move, Room.Room, TableRefusal.TableRefusal, Begins.Begins, Taken.Taken}
+use Rattle.transaction_states.specs.declared.{State.State, Event.Event, Move.Move, TableRefusal.TableRefusal, Taken.Taken}
 use Rattle.open_transactions.specs.declared.{Entry.Entry, Table.Table, Stepped.Stepped}
-use Rattle.transaction_states.specs.Events.{is_open, move_of, begins_of, told_by, ids_ok}
-use Rattle.open_transactions.specs.Table.{blank_entry, empty_table, holds, find_from, refusal_number, stepped}
+use Rattle.transaction_states.specs.Events.{is_open, move_of, begins_of, told_by, ids_ok, refusal_number}
+use Rattle.open_transactions.specs.Table.{blank_entry, empty_table, holds, find_from, stepped}
 
 -- A history: events from the first to the last, with the IDs that they name
 
@@ -42,27 +42,27 @@ is_open_entry e = is_open e.state
 abbrev pub open_in : Table → ℕ
 open_in t = count_in is_open_entry t.entries
 
-abbrev pub is_opened : Taken → Bool
-is_opened (Taken.Refused k) = false
-is_opened (Taken.Opened i) = true
-is_opened (Taken.Kept i) = false
-is_opened (Taken.Closed i) = false
+abbrev pub is_opened : Result Taken TableRefusal → Bool
+is_opened (Err k) = false
+is_opened (Ok (Taken.Opened i)) = true
+is_opened (Ok (Taken.Kept i)) = false
+is_opened (Ok (Taken.Closed i)) = false
 
-abbrev pub is_closed : Taken → Bool
-is_closed (Taken.Refused k) = false
-is_closed (Taken.Opened i) = false
-is_closed (Taken.Kept i) = false
-is_closed (Taken.Closed i) = true
+abbrev pub is_closed : Result Taken TableRefusal → Bool
+is_closed (Err k) = false
+is_closed (Ok (Taken.Opened i)) = false
+is_closed (Ok (Taken.Kept i)) = false
+is_closed (Ok (Taken.Closed i)) = true
 
 -- the number told: a refusal's, or 0
-abbrev pub taken_status : Taken → ℕ
-taken_status (Taken.Refused k) = refusal_number k
-taken_status (Taken.Opened i) = 0
-taken_status (Taken.Kept i) = 0
-taken_status (Taken.Closed i) = 0
+abbrev pub taken_status : Result Taken TableRefusal → ℕ
+taken_status (Err k) = refusal_number k
+taken_status (Ok (Taken.Opened i)) = 0
+taken_status (Ok (Taken.Kept i)) = 0
+taken_status (Ok (Taken.Closed i)) = 0
 
 -- how many events of a history were taken so
-unfoldable pub how_many : (Taken → Bool) → Table → List Happening → ℕ
+unfoldable pub how_many : (Result Taken TableRefusal → Bool) → Table → List Happening → ℕ
 how_many q t [] = 0
 how_many q t (h ∷ hs) = one (q (after t h).taken) + how_many q (after t h).table hs
 
@@ -72,16 +72,16 @@ pub record Known : Type 0 where
   pub state : State
   pub partner : Option (List ℕ)
 
-abbrev pub partner_in : List ℕ → OptionalDest → Option (List ℕ)
-partner_in c OptionalDest.NoDest = none
-partner_in c (OptionalDest.Dest d) = some (take d.0.octets.len (drop d.0.octets.place c))
+abbrev pub partner_in : List ℕ → Optional DestTransactionId → Option (List ℕ)
+partner_in c None = none
+partner_in c (Some d) = some (take d.0.octets.len (drop d.0.octets.place c))
 
 abbrev pub known_entry : Entry → Known
 known_entry e = record { state = e.state; partner = partner_in e.octets e.partner }
 
-abbrev pub known_at : List Entry → Room → Option Known
-known_at es Room.Nowhere = none
-known_at es (Room.At i) = some (known_entry (get_or es i blank_entry))
+abbrev pub known_at : List Entry → Optional ℕ → Option Known
+known_at es None = none
+known_at es (Some i) = some (known_entry (get_or es i blank_entry))
 
 unfoldable pub known_of : Table → List ℕ → Option Known
 known_of t id = known_at t.entries (find_from (holds id) 0 t.entries)
@@ -94,11 +94,11 @@ pub data Answer : Type 0 where
   kept : Answer
   closed : Answer
 
-abbrev pub answer_of : Taken → Answer
-answer_of (Taken.Refused k) = refused k
-answer_of (Taken.Opened i) = opened
-answer_of (Taken.Kept i) = kept
-answer_of (Taken.Closed i) = closed
+abbrev pub answer_of : Result Taken TableRefusal → Answer
+answer_of (Err k) = refused k
+answer_of (Ok (Taken.Opened i)) = opened
+answer_of (Ok (Taken.Kept i)) = kept
+answer_of (Ok (Taken.Closed i)) = closed
 
 -- the partner's ID, if the event carries one
 abbrev pub given : List ℕ → Option (List ℕ)
@@ -116,11 +116,11 @@ abbrev pub page_opens : Bool → State → Option (List ℕ) → Answer × Optio
 page_opens true s p = (refused TableRefusal.Full, none)
 page_opens false s p = (opened, some (record { state = s; partner = p }))
 
-abbrev pub page_knows : Bool → Event → Option (List ℕ) → Begins → Option Known → Answer × Option Known
-page_knows full e p (Begins.In s) (some k) = (refused TableRefusal.InUse, some k)
-page_knows full e p (Begins.In s) none = page_opens full s p
-page_knows full e p Begins.Never none = (refused TableRefusal.Unknown, none)
-page_knows full e p Begins.Never (some k) = page_moves k p (move_of e k.state)
+abbrev pub page_knows : Bool → Event → Option (List ℕ) → Optional State → Option Known → Answer × Option Known
+page_knows full e p (Some s) (some k) = (refused TableRefusal.InUse, some k)
+page_knows full e p (Some s) none = page_opens full s p
+page_knows full e p None none = (refused TableRefusal.Unknown, none)
+page_knows full e p None (some k) = page_moves k p (move_of e k.state)
 
 unfoldable pub page_says : Bool → Event → List ℕ → List ℕ → Option Known → Answer × Option Known
 page_says full e o p k = cond (ids_ok e o p) (page_knows full e (given (told_by e p)) (begins_of e) k) (refused TableRefusal.BadId, k)

@@ -1,17 +1,17 @@
 -- Open transactions: the table, and what each event does in it (document 02, §10). Assumes nothing: these are definitions.
-use Rattle.std.specs.Prelude.{ℕ, suc}
+use Rattle.tcap.specs.declared.DestTransactionId.{DestTransactionId}
+use Rattle.std.specs.Prelude.{ℕ, suc, Option as Optional, Some, None, Result, Ok, Err}
 use mathlib.Core.{Bool.Bool, Bool.false, Bool.cond, Bool.not, List.List, List.[], List.◌∷◌}
 use lib.{ListN.set, ListN.length, ListN.get_or, ListN.replicate, Dec.eqb}
-use Rattle.tcap.specs.declared.OptionalDest.{OptionalDest}
-use Rattle.transaction_states.specs.declared.{State.State, Event.Event, Room.Room, TableRefusal.TableRefusal, Begins.Begins, Deed.Deed}
+use Rattle.transaction_states.specs.declared.{State.State, Event.Event, TableRefusal.TableRefusal, Deed.Deed}
 use Rattle.open_transactions.specs.declared.{Entry.Entry, Table.Table, Stepped.Stepped}
-use Rattle.transaction_states.specs.Events.{move_of, begins_of, told_by, ids_ok, is_open, opening, moving, taken_of}
+use Rattle.transaction_states.specs.Events.{move_of, begins_of, told_by, ids_ok, is_open, opening, moving, answered}
 
 abbrev pub capacity : ℕ
 capacity = 64
 
 abbrev pub blank_entry : Entry
-blank_entry = record { state = State.Idle; ours = record { 0 = record { octets = record { place = 0; len = 0 } } }; partner = OptionalDest.NoDest; octets = replicate 8 0 }
+blank_entry = record { state = State.Idle; ours = record { 0 = record { octets = record { place = 0; len = 0 } } }; partner = None; octets = replicate 8 0 }
 
 abbrev pub empty_table : Table
 empty_table = record { entries = replicate capacity blank_entry }
@@ -26,8 +26,8 @@ abbrev pub octets_for : List ℕ → List ℕ → List ℕ
 octets_for o p = get_or o 0 0 ∷ get_or o 1 0 ∷ get_or o 2 0 ∷ get_or o 3 0 ∷ get_or p 0 0 ∷ get_or p 1 0 ∷ get_or p 2 0 ∷ get_or p 3 0 ∷ []
 
 -- the partner's ID once it is known, by its length
-unfoldable pub partner_of : ℕ → OptionalDest
-partner_of n = cond (eqb n 0) OptionalDest.NoDest (OptionalDest.Dest (record { 0 = record { octets = record { place = 4; len = n } } }))
+unfoldable pub partner_of : ℕ → Optional DestTransactionId
+partner_of n = cond (eqb n 0) None (Some (record { 0 = record { octets = record { place = 4; len = n } } }))
 
 unfoldable pub entry_for : State → List ℕ → List ℕ → Entry
 entry_for s o p = record { state = s; ours = record { 0 = record { octets = record { place = 0; len = length o } } }; partner = partner_of (length p); octets = octets_for o p }
@@ -47,53 +47,44 @@ unfoldable pub holds : List ℕ → Entry → Bool
 holds id e = cond (is_open e.state) (same_id e id) false
 
 -- the first entry that passes a test
-unfoldable pub find_from : (Entry → Bool) → ℕ → List Entry → Room
-find_from t i [] = Room.Nowhere
-find_from t i (e ∷ es) = cond (t e) (Room.At i) (find_from t (suc i) es)
-
--- The numbers of the refusals
-
-abbrev pub refusal_number : TableRefusal → ℕ
-refusal_number TableRefusal.BadId = 40
-refusal_number TableRefusal.InUse = 41
-refusal_number TableRefusal.Unknown = 41
-refusal_number TableRefusal.NotAllowed = 42
-refusal_number TableRefusal.Full = 43
+unfoldable pub find_from : (Entry → Bool) → ℕ → List Entry → Optional ℕ
+find_from t i [] = None
+find_from t i (e ∷ es) = cond (t e) (Some i) (find_from t (suc i) es)
 
 -- What is to be done, over the entries of a table
 
 -- 41: a Begin under an ID in use
-unfoldable pub begin_deed : List Entry → State → Room → Deed
-begin_deed es s (Room.At i) = Deed.Refused TableRefusal.InUse
-begin_deed es s Room.Nowhere = opening s (find_from is_free 0 es)
+unfoldable pub begin_deed : List Entry → State → Optional ℕ → Result Deed TableRefusal
+begin_deed es s (Some i) = Err TableRefusal.InUse
+begin_deed es s None = opening s (find_from is_free 0 es)
 
 -- 41: another event under an ID that is not known
-unfoldable pub other_deed : List Entry → Event → Room → Deed
-other_deed es e Room.Nowhere = Deed.Refused TableRefusal.Unknown
-other_deed es e (Room.At i) = moving i (move_of e (get_or es i blank_entry).state)
+unfoldable pub other_deed : List Entry → Event → Optional ℕ → Result Deed TableRefusal
+other_deed es e None = Err TableRefusal.Unknown
+other_deed es e (Some i) = moving i (move_of e (get_or es i blank_entry).state)
 
-unfoldable pub found_deed : List Entry → Event → Begins → Room → Deed
-found_deed es e (Begins.In s) at = begin_deed es s at
-found_deed es e Begins.Never at = other_deed es e at
+unfoldable pub found_deed : List Entry → Event → Optional State → Optional ℕ → Result Deed TableRefusal
+found_deed es e (Some s) at = begin_deed es s at
+found_deed es e None at = other_deed es e at
 
-unfoldable pub deed_of : List Entry → Event → List ℕ → List ℕ → Deed
-deed_of es e o p = cond (ids_ok e o p) (found_deed es e (begins_of e) (find_from (holds o) 0 es)) (Deed.Refused TableRefusal.BadId)
+unfoldable pub deed_of : List Entry → Event → List ℕ → List ℕ → Result Deed TableRefusal
+deed_of es e o p = cond (ids_ok e o p) (found_deed es e (begins_of e) (find_from (holds o) 0 es)) (Err TableRefusal.BadId)
 
 -- What is answered, and the table after it
 
 abbrev pub with_entry : Table → ℕ → Entry → Table
 with_entry t i e = record { entries = set t.entries i e }
 
-unfoldable pub done : Table → List ℕ → List ℕ → Deed → Table
-done t o p (Deed.Refused k) = t
-done t o p (Deed.Opens i s) = with_entry t i (entry_for s o p)
-done t o p (Deed.Keeps i) = t
-done t o p (Deed.Activates i) = with_entry t i (active_now (get_or t.entries i blank_entry))
-done t o p (Deed.Learns i) = with_entry t i (entry_for State.Active o p)
-done t o p (Deed.Closes i) = with_entry t i blank_entry
+unfoldable pub done : Table → List ℕ → List ℕ → Result Deed TableRefusal → Table
+done t o p (Err k) = t
+done t o p (Ok (Deed.Opens i s)) = with_entry t i (entry_for s o p)
+done t o p (Ok (Deed.Keeps i)) = t
+done t o p (Ok (Deed.Activates i)) = with_entry t i (active_now (get_or t.entries i blank_entry))
+done t o p (Ok (Deed.Learns i)) = with_entry t i (entry_for State.Active o p)
+done t o p (Ok (Deed.Closes i)) = with_entry t i blank_entry
 
-abbrev pub outcome : Table → List ℕ → List ℕ → Deed → Stepped
-outcome t o p d = record { taken = taken_of d; table = done t o p d }
+abbrev pub outcome : Table → List ℕ → List ℕ → Result Deed TableRefusal → Stepped
+outcome t o p d = record { taken = answered d; table = done t o p d }
 
 unfoldable pub stepped : Table → Event → List ℕ → List ℕ → Stepped
 stepped t e o p = outcome t o (told_by e p) (deed_of t.entries e o p)

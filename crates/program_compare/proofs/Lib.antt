@@ -1,3 +1,1 @@
 pub mod Judged
-pub mod Agreeing
-pub mod Telling

@@ -1,7 +1,7 @@
 -- What the file says of a case beside its listing, and when a reading agrees; and a case in the file. Assumes nothing: these are definitions.
-use Rattle.std.specs.Prelude.{ℕ, ◌≡◌, ◌≤◌, List, ◌∷◌, ◌++◌, length, Some}
+use Rattle.std.specs.Prelude.{Result, Ok, Err, ℕ, ◌≡◌, ◌≤◌, List, ◌∷◌, ◌++◌, length, Some}
 use Rattle.std.specs.declared.option.Option.{Option}
-use Rattle.tcap.specs.declared.{Answer.Answer, Outcome.Outcome, Reading.Reading}
+use Rattle.tcap.specs.declared.{Answer.Answer, Record.Record, Refusal.Refusal}
 use Rattle.tcap.specs.Reading.{reading}
 use Rattle.listing.specs.Listing.{listing_of}
 use Rattle.program_parts.specs.declared.{cases.Verdict.Verdict}
@@ -13,12 +13,12 @@ unfoldable pub AnswerIs : Answer → ℕ → ℕ → Type 0
 AnswerIs (Answer.AbortCause n) given octet = given ≡ 0
 AnswerIs (Answer.RejectProblem n k i) given octet = IdIs i given octet
 
-unfoldable pub OutcomeIs : List ℕ → Outcome → List ℕ → ℕ → ℕ → Type 0
-OutcomeIs m Outcome.Accepted x given octet = Unit {0}
-OutcomeIs m (Outcome.Refused f) x given octet = OrigIs m f.orig x × AnswerIs f.answer given octet
+unfoldable pub OutcomeIs : List ℕ → Result Record Refusal → List ℕ → ℕ → ℕ → Type 0
+OutcomeIs m (Ok r) x given octet = Unit {0}
+OutcomeIs m (Err f) x given octet = OrigIs m f.orig x × AnswerIs f.answer given octet
 
-unfoldable pub ReadingIs : List ℕ → Reading → List ℕ → List ℕ → ℕ → ℕ → Type 0
-ReadingIs m r text x given octet = (listing_of m r ≡ text) × OutcomeIs m r.outcome x given octet
+unfoldable pub ReadingIs : List ℕ → Result Record Refusal → List ℕ → List ℕ → ℕ → ℕ → Type 0
+ReadingIs m r text x given octet = (listing_of m r ≡ text) × OutcomeIs m r x given octet
 
 -- a case in the file, and what is behind it
 abbrev pub case_octets : List ℕ → List ℕ → List ℕ → ℕ → ℕ → List ℕ → List ℕ

@@ -5,48 +5,45 @@ mod specimens;
 mod steerings;
 mod vectors;
 
-use program_parts::cases::{MOST_CASES, Verdict, left_after, name_case, told};
-use program_parts::{Tally, print_tally};
+use program_parts::Tally;
+use program_parts::cases::{MOST_CASES, Verdict, name_case};
 use std::fs::File;
 use std::io;
 use std::io::Read;
 use std::rt::Files;
 
-// What the cases of a file are.
-#[derive(Clone, Copy)]
-enum Cases {
-    Readings,
-    Steerings,
-}
-
-fn compare_next<R: Read>(input: &mut R, cases: Cases) -> io::Result<Verdict> {
-    match cases {
-        Cases::Readings => vectors::compare_next(input),
-        Cases::Steerings => steerings::compare_next(input),
-    }
-}
-
-fn compare_all<R: Read>(rt: &impl Print, input: &mut R, cases: Cases) -> io::Result<Tally> {
-    let mut tally = Tally {
-        compared: 0,
-        differ: 0,
-    };
-    let mut left = MOST_CASES;
-    while left > 0 {
-        let verdict = compare_next(input, cases)?;
+// `next` reads a case and compares it.
+fn compare_all<I: Read, F: FnMut(&mut I) -> io::Result<Verdict>>(
+    rt: &impl Print,
+    input: &mut I,
+    mut next: F,
+) -> io::Result<Tally>
+    requires { F.IsAlwaysCallable next }
+{
+    let mut tally = Tally::default();
+    for _ in 0..MOST_CASES {
+        let verdict = next(input)?;
+        if verdict == Verdict::Ended {
+            break;
+        }
         name_case(rt, tally, verdict)?;
-        tally = told(tally, verdict);
-        left = left_after(left, verdict);
+        tally = tally.told(verdict);
     }
     Ok(tally)
 }
 
 // A file that cannot be opened is told on standard error.
-fn compare_file<R: Files + Print + Eprint>(rt: &R, name: &str, cases: Cases) -> io::Result<()> {
+fn compare_file<R: Files + Print + Eprint, F: FnMut(&mut R::File) -> io::Result<Verdict>>(
+    rt: &R,
+    name: &str,
+    next: F,
+) -> io::Result<()>
+    requires { F.IsAlwaysCallable next }
+{
     match File::open(rt, name) {
         Ok(mut file) => {
-            let tally = compare_all(rt, &mut file, cases)?;
-            print_tally(rt, tally)
+            let tally = compare_all(rt, &mut file, next)?;
+            println!(rt; "{tally}")
         }
         Err(error) => eprintln!(rt; "{name}: {error}"),
     }
@@ -54,8 +51,8 @@ fn compare_file<R: Files + Print + Eprint>(rt: &R, name: &str, cases: Cases) -> 
 
 fn compare<R: Files + Print + Eprint>(rt: &R) -> io::Result<()> {
     specimens::compare_specimens(rt)?;
-    compare_file(rt, "read.bin", Cases::Readings)?;
-    compare_file(rt, "steer.bin", Cases::Steerings)
+    compare_file(rt, "read.bin", |file| vectors::compare_next(file))?;
+    compare_file(rt, "steer.bin", |file| steerings::compare_next(file))
 }
 
 fn main(rt: HostRuntime) -> io::Result<()> {

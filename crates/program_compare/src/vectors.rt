@@ -5,14 +5,14 @@ ghost use Rattle.program_parts.specs.Expected.{Tells};
 ghost use Rattle.program_parts.specs.Strings.{Loses};
 ghost use Rattle.program_compare.specs.Vectors.{AnswerIs, OutcomeIs, ReadingIs, Compares};
 
-use program_parts::cases::{Verdict, next_short_string, next_string, verdict_of};
+use program_parts::cases::{Verdict, next_short_string, next_string};
 use program_parts::ids::{same_id, same_orig};
 use program_parts::input::read_full;
 use program_parts::same_listing;
 use read::read;
 use std::io;
 use std::io::Read;
-use tcap::{Answer, Outcome, Reading, Refusal};
+use tcap::{Answer, Record, Refusal};
 
 #[tactic(auto, unfolding(crate::specs::Vectors::AnswerIs))]
 fn same_answer(answer: Answer, given: u8, octet: u8) -> bool
@@ -20,48 +20,31 @@ fn same_answer(answer: Answer, given: u8, octet: u8) -> bool
 {
     match answer {
         Answer::AbortCause(_) => given == 0,
-        Answer::RejectProblem {
-            problem: _,
-            component: _,
-            id,
-        } => same_id(id, given, octet),
+        Answer::RejectProblem { id, .. } => same_id(id, given, octet),
     }
-}
-
-#[tactic(auto, unfolding(crate::specs::Vectors::OutcomeIs))]
-fn same_refusal(message: &[u8], refusal: Refusal, expected: &[u8], given: u8, octet: u8) -> bool
-    ensures { Tells result (OutcomeIs message.now (Outcome.Refused refusal) expected.now given octet) }
-{
-    let orig = refusal.orig;
-    let answer = refusal.answer;
-    let ids = same_orig(message, orig, expected);
-    if !ids {
-        return false;
-    }
-    same_answer(answer, given, octet)
 }
 
 // A listing has neither of the two IDs that a refusal gives, so these are compared beside it.
 #[tactic(auto, unfolding(crate::specs::Vectors::ReadingIs, crate::specs::Vectors::OutcomeIs))]
 fn same_reading(
     message: &[u8],
-    reading: Reading,
+    reading: Result<Record, Refusal>,
     text: &[u8],
-    expected: &[u8],
+    orig: &[u8],
     given: u8,
     octet: u8,
 ) -> bool
     requires { length text.now ≤ 4096 }
-    ensures { Tells result (ReadingIs message.now reading text.now expected.now given octet) }
+    ensures { Tells result (ReadingIs message.now reading text.now orig.now given octet) }
 {
-    let outcome = reading.outcome;
     let listed = same_listing(message, reading, text);
-    if !listed {
-        return false;
-    }
-    match outcome {
-        Outcome::Accepted => true,
-        Outcome::Refused(refusal) => same_refusal(message, refusal, expected, given, octet),
+    match reading {
+        Ok(_) => listed,
+        Err(refusal) => {
+            listed
+                && same_orig(message, refusal.orig, orig)
+                && same_answer(refusal.answer, given, octet)
+        }
     }
 }
 
@@ -77,18 +60,17 @@ pub fn compare_next<R: Read>(input: &mut R) -> io::Result<Verdict>
     let mut orig = [0u8; 255];
     let count = next_short_string(input, &mut orig)?;
     let mut id = [0u8; 2];
-    let got = read_full(input, &mut id)?;
-    if got < 2 {
+    if read_full(input, &mut id)? < id.len() {
         return Ok(Verdict::Ended);
     }
-    let reading = read(&message[..size]);
+    let [given, octet] = id;
     let equal = same_reading(
         &message[..size],
-        reading,
+        read(&message[..size]),
         &text[..length],
         &orig[..count],
-        id[0],
-        id[1],
+        given,
+        octet,
     );
-    Ok(verdict_of(equal))
+    Ok(Verdict::from(equal))
 }

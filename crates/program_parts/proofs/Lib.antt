@@ -1,4 +1,3 @@
 pub mod Judging
 pub mod Coming
 pub mod Fits
-pub mod Telling

@@ -1,12 +1,11 @@
 // The cases of a file, one after the other: their strings, what was found of each, and the tally of all.
-ghost use Rattle.std.specs.Prelude.{◌≡◌, ◌≢◌, ◌+◌, ◌*◌, ◌<◌, ◌≤◌, List, ℕ, length, take, IfOk};
+ghost use Rattle.std.specs.Prelude.{◌≡◌, ◌<◌, ◌≤◌, List, ℕ, length, take, IfOk};
 ghost use Rattle.program_parts.specs.Front.{IsPrefixLen};
 ghost use Rattle.program_parts.specs.Strings.{string_octets, short_string_octets, Comes, Loses};
 ghost use Rattle.program_parts.specs.Tallied.{verdict_on, tallied_by};
 
+use crate::Tally;
 use crate::input::read_full;
-use crate::{Tally, counted};
-use base::wide;
 use std::io;
 use std::io::Read;
 
@@ -16,18 +15,11 @@ pub const MOST_CASES: u64 = 100000;
 // How many cases that differ are named.
 const MOST_NAMED: u64 = 10;
 
-#[derive(Clone, Copy)]
+#[derive(Clone, Copy, PartialEq, Eq)]
 pub enum Verdict {
     Same,
     Differs,
     Ended,
-}
-
-// Two octets as a number.
-pub fn pair_of(high: u8, low: u8) -> usize
-    ensures { (result ≡ high * 256 + low) × (result < 65536) }
-{
-    wide(high) * 256 + wide(low)
 }
 
 // How many octets came to the front of a buffer: all that were asked for, or none.
@@ -59,11 +51,10 @@ pub fn next_string<R: Read>(input: &mut R, buffer: &mut [u8]) -> io::Result<usiz
     if got < 2 {
         return Ok(0);
     }
-    let count = pair_of(head[0], head[1]);
-    next_octets(input, count, buffer)
+    next_octets(input, usize::from(u16::from_be_bytes(head)), buffer)
 }
 
-// A string after its length in one octet.
+// A string after its length in one octet. One function over both widths would need a loop over the head, longer than the two.
 pub fn next_short_string<R: Read>(input: &mut R, buffer: &mut [u8]) -> io::Result<usize>
     ensures ok { IfOk result (λ n. IsPrefixLen n buffer.new) }
     ensures string { IfOk result (λ n. (s : List ℕ) → length s < 256 → length s ≤ length buffer.old → Comes (R.remaining input.old) (R.remaining input.new) (short_string_octets s) s (take n buffer.new)) }
@@ -75,58 +66,42 @@ pub fn next_short_string<R: Read>(input: &mut R, buffer: &mut [u8]) -> io::Resul
     if got < 1 {
         return Ok(0);
     }
-    let count = wide(head[0]);
-    next_octets(input, count, buffer)
+    next_octets(input, usize::from(head[0]), buffer)
 }
 
-// The verdict on a case.
-#[tactic(auto, unfolding(crate::specs::Tallied::verdict_on))]
-pub fn verdict_of(equal: bool) -> Verdict
-    ensures { result ≡ verdict_on equal }
-{
-    if equal {
-        Verdict::Same
-    } else {
-        Verdict::Differs
+// The verdict on a case: whether what was found equals what is expected.
+impl From<bool> for Verdict {
+    ghost from_gives = { λ equal verdict. verdict ≡ verdict_on equal };
+
+    #[tactic(auto, unfolding(crate::specs::Tallied::verdict_on))]
+    fn from(equal: bool) -> Verdict {
+        if equal {
+            Verdict::Same
+        } else {
+            Verdict::Differs
+        }
     }
 }
 
 // Names a case that differs, where `tally` is that of the cases before it.
 pub fn name_case(rt: &impl Print, tally: Tally, verdict: Verdict) -> io::Result<()> {
-    match verdict {
-        Verdict::Differs => {
-            if tally.differ < MOST_NAMED {
-                println!(rt; "case {} differs", tally.compared)?;
-            }
-            Ok(())
+    if verdict == Verdict::Differs && tally.differ < MOST_NAMED {
+        println!(rt; "case {} differs", tally.compared)?;
+    }
+    Ok(())
+}
+
+impl Tally {
+    // The tally after a verdict.
+    #[tactic(auto, unfolding(crate::specs::Tallied::tallied_by))]
+    pub fn told(self, verdict: Verdict) -> Tally
+        ensures { result ≡ tallied_by self verdict }
+    {
+        match verdict {
+            Verdict::Same => self.counted(true),
+            Verdict::Differs => self.counted(false),
+            Verdict::Ended => self,
         }
-        Verdict::Same => Ok(()),
-        Verdict::Ended => Ok(()),
-    }
-}
-
-// The tally after a verdict.
-#[tactic(auto, unfolding(crate::specs::Tallied::tallied_by))]
-pub fn told(tally: Tally, verdict: Verdict) -> Tally
-    ensures { result ≡ tallied_by tally verdict }
-{
-    match verdict {
-        Verdict::Same => counted(tally, true),
-        Verdict::Differs => counted(tally, false),
-        Verdict::Ended => tally,
-    }
-}
-
-// How many cases may still come after one, where `left` might before it.
-pub fn left_after(left: u64, verdict: Verdict) -> u64
-    requires { 0 < left }
-    ensures less { result < left }
-    ensures goes_on { verdict ≢ Verdict.Ended → result + 1 ≡ left }
-{
-    match verdict {
-        Verdict::Same => left - 1,
-        Verdict::Differs => left - 1,
-        Verdict::Ended => 0,
     }
 }
 

@@ -1,53 +1,43 @@
 // Whether the IDs that a refusal gives are those expected.
-ghost use Rattle.program_parts.specs.Expected.{Tells, StringIs, OrigIs, IdIs};
+ghost use Rattle.std.specs.Prelude.{◌≡◌};
+ghost use Rattle.program_parts.specs.Expected.{Tells, StringIs, OrigIs, IdIs, id_in};
 
-use base::piece;
 use primitive::signed_octet;
-use tcap::{InvokeId, OptionalOrig, Span};
+use tcap::{OrigTransactionId, Span};
 
 #[tactic(auto, unfolding(crate::specs::Expected::StringIs))]
 fn same_string(message: &[u8], string: Span, expected: &[u8]) -> bool
     ensures { Tells result (StringIs message.now string expected.now) }
 {
     let place = string.place as usize;
-    let len = string.len as usize;
-    if message.len() < place {
-        return false;
-    }
-    if message.len() - place < len {
-        return false;
-    }
-    piece(message, place, len) == expected
+    message.get(place..place + string.len as usize) == Some(expected)
 }
 
 #[tactic(auto, unfolding(crate::specs::Expected::OrigIs))]
-pub fn same_orig(message: &[u8], orig: OptionalOrig, expected: &[u8]) -> bool
+pub fn same_orig(message: &[u8], orig: Option<OrigTransactionId>, expected: &[u8]) -> bool
     ensures { Tells result (OrigIs message.now orig expected.now) }
 {
     match orig {
-        OptionalOrig::NoOrig => expected.len() == 0,
-        OptionalOrig::Orig(own) => {
-            if expected.len() == 0 {
-                return false;
-            }
-            let id = own.0;
-            let octets = id.octets;
-            same_string(message, octets, expected)
-        }
+        None => expected.is_empty(),
+        Some(own) => !expected.is_empty() && same_string(message, own.0.octets, expected),
     }
 }
 
-#[tactic(auto, unfolding(crate::specs::Expected::IdIs))]
-pub fn same_id(id: InvokeId, given: u8, octet: u8) -> bool
+// The invoke ID that a file gives, after 0 for none and 1 for one; nothing after another number.
+#[tactic(auto, unfolding(crate::specs::Expected::id_in))]
+pub fn id_of(given: u8, octet: u8) -> Option<Option<i8>>
+    ensures { result ≡ id_in given octet }
+{
+    match given {
+        0 => Some(None),
+        1 => Some(Some(signed_octet(octet))),
+        _ => None,
+    }
+}
+
+#[tactic(auto, unfolding(crate::specs::Expected::IdIs, crate::specs::Expected::id_in))]
+pub fn same_id(id: Option<i8>, given: u8, octet: u8) -> bool
     ensures { Tells result (IdIs id given octet) }
 {
-    match id {
-        InvokeId::Null => given == 0,
-        InvokeId::Id(value) => {
-            if given != 1 {
-                return false;
-            }
-            value == signed_octet(octet)
-        }
-    }
+    id_of(given, octet) == Some(id)
 }

@@ -7,7 +7,7 @@ ghost use Rattle.program_parts.specs.Strings.{Loses};
 use std::io;
 use std::io::Read;
 
-// Reads until the buffer is full or the input ends: how many octets came to its front.
+// Reads until the buffer is full or the input ends: how many octets came to its front. `read_exact` would not tell how many, so this loop counts them.
 pub fn read_full<R: Read>(input: &mut R, buffer: &mut [u8]) -> io::Result<usize>
     ensures ok { IfOk result (λ n. IsPrefixLen n buffer.new) }
     ensures taken { IfOk result (λ n. Consumes (R.remaining input.old) (R.remaining input.new) (take n buffer.new)) }

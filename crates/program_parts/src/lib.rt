@@ -8,68 +8,59 @@ pub mod input;
 ghost use Rattle.std.specs.Prelude.{◌≡◌, true, cond, ◌≤◌, length, leb};
 ghost use Rattle.program_parts.specs.Front.{IsPrefixLen};
 ghost use Rattle.listing.specs.Listing.{listing_of, buffer_after};
-ghost use Rattle.program_parts.specs.Tallied.{one_more, tallied};
+ghost use Rattle.program_parts.specs.Tallied.{tallied};
 
-use listing::{Listed, list_reading};
-use std::io;
-use tcap::Reading;
+use listing::list_reading;
+use std::fmt;
+use tcap::{Record, Refusal};
 
 // How many octets at the front of the buffer are the listing: none where it has too little room.
-pub fn list_into(message: &[u8], reading: Reading, out: &mut [u8]) -> usize
+pub fn list_into(message: &[u8], reading: Result<Record, Refusal>, out: &mut [u8]) -> usize
     ensures prefix_len { IsPrefixLen result out.new }
     ensures value { result ≡ cond (leb (length (listing_of message.now reading)) (length out.old)) (length (listing_of message.now reading)) 0 }
     ensures out_after { out.new ≡ buffer_after (listing_of message.now reading) out.old }
 {
-    let listed = list_reading(message, reading, out);
-    match listed {
-        Listed::Length(size) => size,
-        Listed::TooLong => 0,
-    }
+    list_reading(message, reading, out).unwrap_or(0)
 }
 
 // Whether a reading's listing is the expected text, which has at most 4,096 octets.
-pub fn same_listing(message: &[u8], reading: Reading, expected: &[u8]) -> bool
+pub fn same_listing(message: &[u8], reading: Result<Record, Refusal>, expected: &[u8]) -> bool
     ensures reading_value { result ≡ true → listing_of message.now reading ≡ expected.now }
     ensures value { length expected.now ≤ 4096 → listing_of message.now reading ≡ expected.now → result ≡ true }
 {
     let mut text = [0u8; 4096];
-    let listed = list_reading(message, reading, &mut text);
-    match listed {
-        Listed::Length(size) => &text[..size] == expected,
-        Listed::TooLong => false,
+    match list_reading(message, reading, &mut text) {
+        Some(size) => &text[..size] == expected,
+        None => false,
     }
 }
 
-#[derive(Clone, Copy)]
+#[derive(Clone, Copy, Default)]
 pub struct Tally {
     pub compared: u64,
     pub differ: u64,
 }
 
-// One more, without wrapping.
-fn more(count: u64) -> u64
-    ensures { result ≡ one_more count }
-{
-    if count < u64::MAX { count + 1 } else { count }
-}
-
-// The tally after one more case.
-#[tactic(auto, unfolding(crate::specs::Tallied::tallied))]
-pub fn counted(tally: Tally, equal: bool) -> Tally
-    ensures { result ≡ tallied tally equal }
-{
-    if equal {
-        return Tally {
-            compared: more(tally.compared),
-            differ: tally.differ,
+impl Tally {
+    // The tally after one more case, without wrapping.
+    #[tactic(auto, unfolding(crate::specs::Tallied::tallied))]
+    pub fn counted(self, equal: bool) -> Tally
+        ensures { result ≡ tallied self equal }
+    {
+        let differ = if equal {
+            self.differ
+        } else {
+            self.differ.saturating_add(1)
         };
-    }
-    Tally {
-        compared: more(tally.compared),
-        differ: more(tally.differ),
+        Tally {
+            compared: self.compared.saturating_add(1),
+            differ,
+        }
     }
 }
 
-pub fn print_tally(rt: &impl Print, tally: Tally) -> io::Result<()> {
-    println!(rt; "{} compared, {} differ", tally.compared, tally.differ)
+impl fmt::Display for Tally {
+    fn fmt<W: fmt::Write>(&self, f: &mut fmt::Formatter<W>) -> fmt::Result {
+        write!(f, "{} compared, {} differ", self.compared, self.differ)
+    }
 }

@@ -18,54 +18,55 @@ use std::fs::File;
 use std::io;
 use std::io::Read;
 use std::rt::{Env, Files};
-use tcap::{Outcome, Reading, Record};
+use tcap::{Record, Refusal};
 use writer::write;
-use writing::Written;
+use writing::WriteFault;
+
+// How often a message is read, and what was read written, beside the first time.
+#[derive(Clone, Copy)]
+struct More {
+    reads: usize,
+    writes: usize,
+}
 
 // A message, read so many times more.
-fn read_again(message: &[u8], more: usize) -> Reading
+fn read_again(message: &[u8], more: usize) -> Result<Record, Refusal>
     ensures { result ≡ reading message.now }
 {
     let mut found = read(message);
-    let mut left = more;
-    while left > 0 {
+    for _ in 0..more {
         found = read(message);
-        left -= 1;
     }
     found
 }
 
 // A record, written so many times more: over what was written before, it leaves the same.
-fn write_again(held: Record, material: &[u8], out: &mut [u8], more: usize) -> Written
+fn write_again(
+    held: Record,
+    material: &[u8],
+    out: &mut [u8],
+    more: usize,
+) -> Result<usize, WriteFault>
     ensures { Writes held material.now out.old result out.new }
 {
     let mut written = write(held, material, out);
-    let mut left = more;
-    while left > 0 {
+    for _ in 0..more {
         written = write(held, material, out);
-        left -= 1;
     }
     written
 }
 
 // How many octets at the front of the buffer are what a message is written as: none where it was refused.
-fn rewrite(message: &[u8], found: Reading, out: &mut [u8], more: usize) -> usize
+#[tactic(auto, unfolding(crate::specs::Rewritten::rewritten))]
+fn rewrite(message: &[u8], found: Result<Record, Refusal>, out: &mut [u8], more: usize) -> usize
     requires found_value { found ≡ reading message.now }
     requires out_len { length out.old ≡ 255 }
     ensures prefix_len { IsPrefixLen result out.new }
     ensures out_after { take result out.new ≡ rewritten found message.now }
 {
-    let outcome = found.outcome;
-    let held = found.message;
-    match outcome {
-        Outcome::Accepted => {
-            let written = write_again(held, message, out, more);
-            match written {
-                Written::Length(size) => size,
-                Written::Refused(_) => 0,
-            }
-        }
-        Outcome::Refused(_) => 0,
+    match found {
+        Ok(held) => write_again(held, message, out, more).unwrap_or(0),
+        Err(_) => 0,
     }
 }
 
@@ -86,42 +87,30 @@ fn print_written(rt: &impl Print, octets: &[u8]) -> io::Result<()>
 }
 
 // The next message, listed and written: whether there was one.
-fn list_next<R: Read>(
-    rt: &impl Print,
-    input: &mut R,
-    reads: usize,
-    writes: usize,
-) -> io::Result<bool> {
-    let mut message = [0u8; 512];
-    let size = next_string(input, &mut message)?;
+fn list_next<R: Read>(rt: &impl Print, input: &mut R, more: More) -> io::Result<bool> {
+    let mut buffer = [0u8; 512];
+    let size = next_string(input, &mut buffer)?;
     if size == 0 {
         return Ok(false);
     }
-    let found = read_again(&message[..size], reads);
+    let message = &buffer[..size];
+    let found = read_again(message, more.reads);
     let mut text = [0u8; 4096];
-    let length = list_into(&message[..size], found, &mut text);
+    let length = list_into(message, found, &mut text);
     rt.write_all(&text[..length])?;
     let mut out = [0u8; 255];
-    let written = rewrite(&message[..size], found, &mut out, writes);
+    let written = rewrite(message, found, &mut out, more.writes);
     if written > 0 {
         print_written(rt, &out[..written])?;
     }
     Ok(true)
 }
 
-fn list_all<R: Read>(
-    rt: &impl Print,
-    input: &mut R,
-    reads: usize,
-    writes: usize,
-) -> io::Result<()> {
-    let mut left = MOST_CASES;
-    while left > 0 {
-        let listed = list_next(rt, input, reads, writes)?;
-        if !listed {
-            return Ok(());
+fn list_all<R: Read>(rt: &impl Print, input: &mut R, more: More) -> io::Result<()> {
+    for _ in 0..MOST_CASES {
+        if !list_next(rt, input, more)? {
+            break;
         }
-        left -= 1;
     }
     Ok(())
 }
@@ -129,18 +118,17 @@ fn list_all<R: Read>(
 // How many octets an argument has: none where it is missing, or longer than 64.
 fn argument_length(rt: &impl Env, i: usize) -> usize {
     let mut word = [0u8; 64];
-    match rt.arg(i, &mut word) {
-        Ok(size) => size,
-        Err(_) => 0,
-    }
+    rt.arg(i, &mut word).unwrap_or(0)
 }
 
 // A file that cannot be opened is told on standard error.
 fn list_file<R: Env + Files + Print + Eprint>(rt: &R, name: &str) -> io::Result<()> {
-    let reads = argument_length(rt, 1);
-    let writes = argument_length(rt, 2);
+    let more = More {
+        reads: argument_length(rt, 1),
+        writes: argument_length(rt, 2),
+    };
     match File::open(rt, name) {
-        Ok(mut file) => list_all(rt, &mut file, reads, writes),
+        Ok(mut file) => list_all(rt, &mut file, more),
         Err(error) => eprintln!(rt; "{name}: {error}"),
     }
 }

@@ -1,4 +1,7 @@
 -- An accepted message laid out in zeros begins with the octets of its record. Assumes nothing.
+use Rattle.tcap.specs.declared.DestTransactionId.{DestTransactionId}
+use Rattle.tcap.specs.declared.OrigTransactionId.{OrigTransactionId}
+use Rattle.std.specs.Prelude.{Option as Optional, None}
 use Prim.Native.Nat.{ℕ, suc, ◌-◌, ◌/◌, ◌%◌, ◌≤◌}
 use native.Mathlib.Omega.{arith}
 use mathlib.Core.Path.{◌≡◌, refl, sym, ap, ◌∙◌}
@@ -9,7 +12,7 @@ use Rattle.base.specs.Number.{octets_in}
 use Rattle.base.specs.Value.{Every}
 use Rattle.element.specs.Fault.{Text}
 use Rattle.element.specs.Ask.{got}
-use Rattle.tcap.specs.declared.{OptionalOrig.OptionalOrig, OptionalDest.OptionalDest, Dialogue.Dialogue as DialogueField, MessageKind.MessageKind}
+use Rattle.tcap.specs.declared.{Dialogue.Dialogue as DialogueField, MessageKind.MessageKind}
 use Rattle.tcap.specs.Meaning.{Component, Message, unidirectional, begin, finish, continue, abort}
 use Rattle.tcap.specs.WellFormed.{most_octets, most_components, the93, WellFormedUpTo}
 use Rattle.tcap.specs.Record.{orig_field, dest_field, row_of, ending_field, portion_field, blank_row, record_from, record_of, message_tag}
@@ -32,10 +35,10 @@ small_all m short (x ∷ l) s = ((omega (arith, s.0.0), omega (arith, s.0.0)), s
 
 -- A head, then its rows, then their count and the tag
 
-abbrev headed : ℕ → OptionalOrig → OptionalDest → DialogueField → ℕ → List ℕ → List ℕ
+abbrev headed : ℕ → Optional OrigTransactionId → Optional DestTransactionId → DialogueField → ℕ → List ℕ → List ℕ
 headed t o e d n r = shape t (orig_flag o) (dest_flag e) (dialogue_number d) n (orig_span o) (dest_span e) (dialogue_octets d ++ r)
 
-count_laid : (t : ℕ) (o : OptionalOrig) (e : OptionalDest) (d : DialogueField) (n : ℕ) → n ≤ 16 → (r : List ℕ) → set (headed t o e d 0 r) 7 n ≡ headed t o e d n r
+count_laid : (t : ℕ) (o : Optional OrigTransactionId) (e : Optional DestTransactionId) (d : DialogueField) (n : ℕ) → n ≤ 16 → (r : List ℕ) → set (headed t o e d 0 r) 7 n ≡ headed t o e d n r
 unfolding span_octets octets_in
 count_laid t o e d n h r =
     let w : n / 256 / 256 / 256 % 256 ≡ 0 = omega arith in
@@ -44,7 +47,7 @@ count_laid t o e d n h r =
     let z : n % 256 ≡ n = omega arith in
     rw (w, x, y, z)
 
-module _ (k : MessageKind) (o : OptionalOrig) (e : OptionalDest) (d : DialogueField) where
+module _ (k : MessageKind) (o : Optional OrigTransactionId) (e : Optional DestTransactionId) (d : DialogueField) where
   counted : (cs : List (Component Text)) → record_octets (record_from k o e d cs) ≡ head_octets k o e d (length cs) ++ rows_octets (map row_of cs)
   unfolding record_octets
   counted cs = rw (take_at (map row_of cs) (replicate (most_components - length cs) blank_row) (length cs) (length-map cs row_of))
@@ -71,11 +74,11 @@ module _ (k : MessageKind) (o : OptionalOrig) (e : OptionalDest) (d : DialogueFi
       let left = blanks (most_components - length cs) in
       ap (λ (x : List ℕ). set x 0 (message_tag k)) (rows_behind cs l s) ∙ sym (ap (λ (x : List ℕ). x ++ left) (counted cs) ∙ append_assoc (head_octets k o e d (length cs)) rows left)
 
-abbrev no_orig : OptionalOrig
-no_orig = OptionalOrig.NoOrig
+abbrev no_orig : Optional OrigTransactionId
+no_orig = None
 
-abbrev no_dest : OptionalDest
-no_dest = OptionalDest.NoDest
+abbrev no_dest : Optional DestTransactionId
+no_dest = None
 
 abbrev no_dialogue : DialogueField
 no_dialogue = DialogueField.NoDialogue

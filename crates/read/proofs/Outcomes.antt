@@ -1,4 +1,6 @@
 -- The outcome of a reading, and the octets that are left. Assumes nothing.
+use Rattle.tcap.specs.Reading.{outcome_of}
+use Rattle.std.specs.Prelude.{Ok, Err}
 use Prim.Native.Nat.{ℕ}
 use native.Mathlib.Omega.{arith}
 use mathlib.Core.Path.{◌≡◌, refl, ap}
@@ -6,7 +8,7 @@ use mathlib.Core.List.{List}
 use lib.ListN.{replicate}
 use Rattle.element.specs.Fault.{Text, Fault}
 use Rattle.element.specs.Ask.{Got, got, bad}
-use Rattle.tcap.specs.declared.{Refusal.Refusal, Outcome.Outcome}
+use Rattle.tcap.specs.declared.{Refusal.Refusal}
 use Rattle.tcap.specs.Meaning.{Message}
 use Rattle.tcap.specs.WellFormed.{the93}
 use Rattle.tcap.specs.Reading.{located_up_to, answered, reading_up_to, reading}
@@ -41,18 +43,18 @@ module _ (m : List ℕ) (r : ℕ) (number : Answers m (located_up_to the93 m) r)
   unfolding Placed
   bad_far f e = let i : Answers m (bad f) r = rw e at number in omega (arith, i, far_fault f)
 
-  pub refused : Far r → (q : Refusal) → RefusedAs q (located_up_to the93 m) → (new : List ℕ) → (Outcome.Refused q ≡ (reading m).outcome) × Held (reading m).outcome (reading m).message new
+  pub refused : Far r → (q : Refusal) → RefusedAs q (located_up_to the93 m) → (new : List ℕ) → (Err q ≡ outcome_of (reading m)) × Held (reading m) new
   unfolding RefusedAs Held reading reading_up_to answered
   refused far q e new = go (located_up_to the93 m) refl e
     where
-      go : (x : Got (Message Text)) → located_up_to the93 m ≡ x → RefusedAs q x → (Outcome.Refused q ≡ (answered x).outcome) × Held (answered x).outcome (answered x).message new
+      go : (x : Got (Message Text)) → located_up_to the93 m ≡ x → RefusedAs q x → (Err q ≡ outcome_of (answered x)) × Held (answered x) new
       go (got v n) i e = absurd (omega (arith, got_near v n i, far))
-      go (bad g) i e = (ap Outcome.Refused e, tt)
+      go (bad g) i e = (ap Err e, tt)
 
-  pub accepted : Near r → (old new : List ℕ) → old ≡ replicate 428 0 → Left lay_accepted Blames (located_up_to the93 m) old new → (Outcome.Accepted ≡ (reading m).outcome) × Held (reading m).outcome (reading m).message new
+  pub accepted : Near r → (old new : List ℕ) → old ≡ replicate 428 0 → Left lay_accepted Blames (located_up_to the93 m) old new → (Ok tt ≡ outcome_of (reading m)) × Held (reading m) new
   unfolding Left Held reading reading_up_to answered
   accepted near old new blank e = go (located_up_to the93 m) refl e
     where
-      go : (x : Got (Message Text)) → located_up_to the93 m ≡ x → Left lay_accepted Blames x old new → (Outcome.Accepted ≡ (answered x).outcome) × Held (answered x).outcome (answered x).message new
+      go : (x : Got (Message Text)) → located_up_to the93 m ≡ x → Left lay_accepted Blames x old new → (Ok tt ≡ outcome_of (answered x)) × Held (answered x) new
       go (got v n) i e = (refl, rw (e, blank) (accepted_held m v n i))
       go (bad g) i e = absurd (omega (arith, bad_far g i, near))

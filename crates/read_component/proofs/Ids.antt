@@ -36,7 +36,8 @@ use Rattle.read_place.proofs.Items.{front_map, stands_here, stands_only, stands_
 use Rattle.read_place.proofs.Bodies.{placed_where}
 use Rattle.read_place.proofs.Optional.{entry_from, entry_to}
 use Rattle.read_row.specs.Component.{component_body_of}
-use Rattle.read_component.specs.Components.{Carries, id_in_number, KnowsId}
+use Rattle.std.specs.Prelude.{Some, None}
+use Rattle.read_component.specs.Components.{Carries, id_in_octet, KnowsId}
 use Rattle.read_place.proofs.Around.{around_ask}
 use Rattle.read_row.proofs.Contents.{lead, by_tag}
 use Rattle.read_component.proofs.Values.{value_id, id_is, head_first}
@@ -229,13 +230,13 @@ wrong_carries m at stop h b asked told =
 -- What `known_id` answers
 
 module _ (m : List ℕ) (at stop : ℕ) (h : until stop ≤ length m) where
-  pub told_wrong : (b : Bool) → b ≡ (component_item the93).mine (get_or m at 0) → b ≡ false → KnowsId m at stop 0
-  unfolding id_in_number
+  pub told_wrong : (b : Bool) → b ≡ (component_item the93).mine (get_or m at 0) → b ≡ false → KnowsId m at stop None
+  unfolding id_in_octet
   told_wrong b asked told = wrong_carries m at stop h b asked told
 
   module _ (here : at < until stop) (b : Bool) (asked : b ≡ (component_item the93).mine (get_or m at 0)) (told : b ≡ true) (inner : ℕ) (entry : inner ≡ entry_place true m at stop (get_or m at 0)) where
-    pub told_entry : Far inner → KnowsId m at stop 0
-    unfolding id_in_number
+    pub told_entry : Far inner → KnowsId m at stop None
+    unfolding id_in_octet
     told_entry f = entry_carries m at stop h here b asked told inner entry f
 
     module _ (top : length m ≤ 65535) (near : Near inner) (st : ℕ) (start : st ≡ at + 1 + length_size (get_or m (at + 1) 0)) (r : ℕ) (id : Reads (integer_item 2 1) m st inner r) where
@@ -245,13 +246,10 @@ module _ (m : List ℕ) (at stop : ℕ) (h : until stop ≤ length m) where
       pub octet_inside : Near r → st + 2 < length m
       octet_inside f = id_inside m st inner r fits.1 id f
 
-      pub told_none : Far r → KnowsId m at stop 0
-      unfolding id_in_number
+      pub told_none : Far r → KnowsId m at stop None
+      unfolding id_in_octet
       told_none f = component_carries m at stop h here b asked told inner entry top near st start none (first_none (get_or m at 0) m st inner fits.1 fits.0 r id f)
 
-      pub told_id : get_or m (st + 2) 0 < 256 → Near r → KnowsId m at stop (256 + get_or m (st + 2) 0)
-      unfolding id_in_number
-      told_id low f =
-          let some_id : (256 + get_or m (st + 2) 0) / 256 ≡ 1 = omega (arith, low) in
-          let octet : (256 + get_or m (st + 2) 0) % 256 ≡ get_or m (st + 2) 0 = omega (arith, low) in
-          rw (some_id, octet) (component_carries m at stop h here b asked told inner entry top near st start _ (first_id (get_or m at 0) m st inner fits.1 fits.0 r id f))
+      pub told_id : Near r → KnowsId m at stop (Some (get_or m (st + 2) 0))
+      unfolding id_in_octet
+      told_id f = component_carries m at stop h here b asked told inner entry top near st start _ (first_id (get_or m at 0) m st inner fits.1 fits.0 r id f)

@@ -29,30 +29,27 @@ use Rattle.read_place.proofs.Walks.{unfinished_is}
 use Rattle.read_place.proofs.Leaves.{left_where, left_next, left_far, left_near}
 use Rattle.read_row.specs.Component.{ReadsComponent, LeavesComponent}
 use Rattle.read_row.proofs.Pairs.{DoesAll}
-use Rattle.read_component.specs.Components.{ends_at, rows_body, Carries, CarriesHere, id_in_number}
+use Rattle.read_component.specs.Components.{ends_at, rows_body, Carries, CarriesHere, id_in_octet}
+use Rattle.std.specs.Prelude.{Some, None}
 use Rattle.read_component.proofs.Rows.{series_missing, series_whole, series_cut, series_full, kinds, wheres, more, owned_here, here, one_more}
 
 -- What `blame_component` stores
 
-module _ (k id : ℕ) where
-  abbrev blamed_in : List ℕ → List ℕ
-  blamed_in l = set (set (set (set l 0 2) 1 k) 2 (id / 256)) 3 (id % 256)
+module _ (k : ℕ) (m : List ℕ) (at stop : ℕ) where
+  pub blame_unknown : (l : List ℕ) → 4 ≤ length l → CarriesHere (id_in_octet None) m at stop → (owner_in (set (set (set l 0 2) 1 k) 2 0) ≡ component k) × CarriesHere (id_in (set (set (set l 0 2) 1 k) 2 0)) m at stop
+  unfolding owner_in id_in id_in_octet
+  blame_unknown [] h e = absurd (omega (arith, h))
+  blame_unknown (a ∷ []) h e = absurd (omega (arith, h))
+  blame_unknown (a ∷ b ∷ []) h e = absurd (omega (arith, h))
+  blame_unknown (a ∷ b ∷ c ∷ l) h e = (refl, e)
 
-  pub blame_owner : (l : List ℕ) → 4 ≤ length l → owner_in (blamed_in l) ≡ component k
-  unfolding owner_in
-  blame_owner [] h = absurd (omega (arith, h))
-  blame_owner (a ∷ []) h = absurd (omega (arith, h))
-  blame_owner (a ∷ b ∷ []) h = absurd (omega (arith, h))
-  blame_owner (a ∷ b ∷ c ∷ []) h = absurd (omega (arith, h))
-  blame_owner (a ∷ b ∷ c ∷ d ∷ l) h = refl
-
-  pub blame_id : (l : List ℕ) → 4 ≤ length l → (m : List ℕ) (at stop : ℕ) → CarriesHere (id_in_number id) m at stop → CarriesHere (id_in (blamed_in l)) m at stop
-  unfolding id_in id_in_number
-  blame_id [] h m at stop e = absurd (omega (arith, h))
-  blame_id (a ∷ []) h m at stop e = absurd (omega (arith, h))
-  blame_id (a ∷ b ∷ []) h m at stop e = absurd (omega (arith, h))
-  blame_id (a ∷ b ∷ c ∷ []) h m at stop e = absurd (omega (arith, h))
-  blame_id (a ∷ b ∷ c ∷ d ∷ l) h m at stop e = e
+  pub blame_known : (id : ℕ) (l : List ℕ) → 4 ≤ length l → CarriesHere (id_in_octet (Some id)) m at stop → (owner_in (set (set (set (set l 0 2) 1 k) 2 1) 3 id) ≡ component k) × CarriesHere (id_in (set (set (set (set l 0 2) 1 k) 2 1) 3 id)) m at stop
+  unfolding owner_in id_in id_in_octet
+  blame_known id [] h e = absurd (omega (arith, h))
+  blame_known id (a ∷ []) h e = absurd (omega (arith, h))
+  blame_known id (a ∷ b ∷ []) h e = absurd (omega (arith, h))
+  blame_known id (a ∷ b ∷ c ∷ []) h e = absurd (omega (arith, h))
+  blame_known id (a ∷ b ∷ c ∷ d ∷ l) h e = (refl, e)
 
 -- A fault of a component, told with its number and its invoke ID
 own_fault : {A : Type 0} (lay : A → List ℕ → List ℕ) (k : ℕ) (old new : List ℕ) → owner_in new ≡ component k → (x : Got A) (p end r : ℕ) → Placed p end x r → Near end → Far r → Carries (id_in new) x → Left lay Blames (blamed (in_component k) x) old new

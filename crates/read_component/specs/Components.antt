@@ -1,6 +1,6 @@
 -- What the readers of components answer, as their contracts cite it; the definition of reading rests on none of it.
 -- Assumes nothing: these are definitions.
-use Rattle.std.specs.Prelude.{ℕ, zero, suc, ◌/◌, ◌%◌}
+use Rattle.std.specs.Prelude.{Option as Optional, Some, None, ℕ, zero, suc}
 use mathlib.Core.{Path.◌≡◌, Bool.cond, List.List, List.[], List.◌∷◌, Option.Option, Option.none, Option.some}
 use lib.{Dec.eqb, IntN.ℤ}
 use Rattle.primitive.specs.Primitive.{signed_of}
@@ -21,14 +21,15 @@ unfoldable pub Carries : {A : Type 0} → Option ℤ → Got A → Type 0
 Carries j (got a n) = Unit {0}
 Carries j (bad (fault k q o i t)) = i ≡ j
 
--- an invoke ID told by a number: 0 is none, else 256 and its octet
-unfoldable pub id_in_number : ℕ → Option ℤ
-id_in_number r = cond (eqb (r / 256) 0) none (some (signed_of (r % 256 ∷ [])))
+-- an invoke ID told by its octet
+unfoldable pub id_in_octet : Optional ℕ → Option ℤ
+id_in_octet None = none
+id_in_octet (Some o) = some (signed_of (o ∷ []))
 
 -- the invoke ID goes with a fault of the component that stands at a place
 abbrev pub CarriesHere : Option ℤ → List ℕ → ℕ → ℕ → Type 0
 CarriesHere j m at stop = Carries j (ask (front (level 1) FaultKind.UnknownComponent (component_item the93)) (finite stop) at (part m at stop))
 
--- told by a number
-abbrev pub KnowsId : List ℕ → ℕ → ℕ → ℕ → Type 0
-KnowsId m at stop r = CarriesHere (id_in_number r) m at stop
+-- told by its octet
+abbrev pub KnowsId : List ℕ → ℕ → ℕ → Optional ℕ → Type 0
+KnowsId m at stop r = CarriesHere (id_in_octet r) m at stop

@@ -217,15 +217,11 @@ sound_name c false false i j f = absurd (f refl)
 pub name_other : (m : List ℕ) (at n k : ℕ) (xs : List ℕ) → xs ≡ take n (drop (at + 2) m) → k ≡ name_kind xs → k ≡ 0 → name_kind (take n (drop (at + 2) m)) ≡ 0
 name_other m at n k xs xs-is told z = ap name_kind (sym xs-is) ∙ sym told ∙ z
 
-pub name_counted : (m : List ℕ) (at stop n : ℕ) → n ≡ count_of (until stop) at (get_or m at 0) (get_or m (at + 1) 0) 6 most_identifier_octets → (n ≡ 0 → ⊥) → NameCounted m at stop n
-name_counted m at stop n is some = (is, positive n some)
-  where
-    positive : (k : ℕ) → (k ≡ 0 → ⊥) → 1 ≤ k
-    positive zero f = absurd (f refl)
-    positive (suc k) f = omega arith
+pub name_counted : (m : List ℕ) (at stop n : ℕ) → n ≡ count_of (until stop) at (get_or m at 0) (get_or m (at + 1) 0) 6 most_identifier_octets → 1 ≤ n → NameCounted m at stop n
+name_counted m at stop n is some = (is, some)
 
 pub name_to : (m : List ℕ) (at stop n : ℕ) → NameCounted m at stop n → at + 2 + n ≤ until stop
-name_to m at stop n counted = (count_room m at (until stop) 6 most_identifier_octets n counted.0 (λ z. omega (arith, z, counted.1))).0
+name_to m at stop n counted = (count_room m at (until stop) 6 most_identifier_octets n counted.0 counted.1).0
 
 name_bad_all : (m : List ℕ) (at stop r : ℕ) (old new : List ℕ) → Reads name_item m at stop r → Far r → TakesAll lay_dialogue (external_body the93) m at stop r old new
 name_bad_all m at stop r old new e f =
@@ -237,8 +233,8 @@ module _ (m : List ℕ) (at stop n : ℕ) (ready : Ready m at stop) where
   name_lacks is z r e old new = name_bad_all m at stop r old new (name_none m at stop n ready.0.0 ready.0.1 is z r e) (bad_far m at stop 6 r e)
 
   module _ (counted : NameCounted m at stop n) (xs : List ℕ) (xs-is : xs ≡ take n (drop (at + 2) m)) (old new : List ℕ) where
-    there : n ≡ 0 → ⊥
-    there z = omega (arith, z, counted.1)
+    there : 1 ≤ n
+    there = counted.1
 
     abbrev named : Text
     named = text_at m (at + 2) (at + 2 + n)

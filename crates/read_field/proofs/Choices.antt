@@ -173,7 +173,7 @@ module _ (m : List ℕ) (at stop tag n : ℕ) (g : at ≤ until stop) (h : until
   pub transaction_none : n ≡ 0 → (r : ℕ) → r ≡ bad_place m at stop tag → Reads (leaf_item tag id_ok) m at stop r
   transaction_none z r e = leaf_none m at stop tag _ n id_ok g h leads (plain tag kind) (omega arith) is z transaction_sized r e
 
-  pub transaction_good : (n ≡ 0 → ⊥) → Reads (leaf_item tag id_ok) m at stop (at + 2 + n)
+  pub transaction_good : 1 ≤ n → Reads (leaf_item tag id_ok) m at stop (at + 2 + n)
   transaction_good there =
       let i = counted m at (until stop) tag _ n is there in
       let all : length (take n (drop (at + 2) m)) ≡ n = length-take-le n (drop (at + 2) m) (omega (arith, length-drop (at + 2) m, i.room, h)) in

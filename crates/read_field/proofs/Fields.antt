@@ -1,4 +1,5 @@
 -- What the readers of primitives and codes answer. Assumes nothing.
+use Rattle.std.specs.Prelude.{Option as Optional, Some, None}
 use Prim.Native.Nat.{ℕ, ◌+◌, ◌/◌, ◌%◌, ◌≤◌, ◌<◌}
 use mathlib.Core.Path.{◌≡◌, refl, sym, ◌∙◌}
 use mathlib.Core.Bool.{Bool, true, false, cond, false≢true, ◌&&◌, and-eq-true_iff}
@@ -19,7 +20,6 @@ use Rattle.base.specs.Value.{Every, same}
 use Rattle.primitive.specs.Primitive.{most_integer_octets, most_identifier_octets, identifier_ok, numbers, integer_ok, integer_octets, signed_of}
 use Rattle.primitive.specs.inner.Answers.{integer_of}
 use Rattle.primitive.proofs.Integers.{fewest_range}
-use Rattle.primitive.specs.declared.IntegerRead.{IntegerRead}
 use Rattle.tcap.specs.Productions.{single?, octet_item, name_item}
 
 pub between_sized : (most : ℕ) (c : List ℕ) (x : Bool) → (leb 1 (length c) && leb (length c) most) && x ≡ true → (1 ≤ length c) × (length c ≤ most)
@@ -35,7 +35,7 @@ module _ (m : List ℕ) (at stop n : ℕ) (g : at ≤ until stop) (h : until sto
     unfolding identifier_ok constructor_of
     name_none z r e = leaf_none m at stop 6 _ n identifier_ok g h (omega arith, omega arith, omega arith) refl (omega arith) is z (λ c e. between_sized _ c (numbers c true) e) r e
 
-    module _ (there : n ≡ 0 → ⊥) (xs : List ℕ) (b : Bool) (xs-is : xs ≡ take n (drop (at + 2) m)) (told : b ≡ identifier_ok xs) where
+    module _ (there : 1 ≤ n) (xs : List ℕ) (b : Bool) (xs-is : xs ≡ take n (drop (at + 2) m)) (told : b ≡ identifier_ok xs) where
       pub name_good : b ≡ true → Reads name_item m at stop (at + 2 + n)
       unfolding constructor_of
       name_good t = leaf_good m at stop 6 _ n identifier_ok g h (omega arith, omega arith, omega arith) refl (omega arith) is there (rw xs-is at (sym told ∙ t))
@@ -44,13 +44,13 @@ module _ (m : List ℕ) (at stop n : ℕ) (g : at ≤ until stop) (h : until sto
       unfolding constructor_of
       name_bad t = leaf_bad m at stop 6 _ n identifier_ok g h (omega arith, omega arith, omega arith) refl (omega arith) is there (rw xs-is at (sym told ∙ t))
 
-pub count_room : (m : List ℕ) (at end tag most n : ℕ) → n ≡ count_of end at (get_or m at 0) (get_or m (at + 1) 0) tag most → (n ≡ 0 → ⊥) → (at + 2 + n ≤ end) × (n ≤ most)
+pub count_room : (m : List ℕ) (at end tag most n : ℕ) → n ≡ count_of end at (get_or m at 0) (get_or m (at + 1) 0) tag most → 1 ≤ n → (at + 2 + n ≤ end) × (n ≤ most)
 count_room m at end tag most n is there = let i = counted m at end tag most n is there in (i.room, i.few)
 
-pub count_more : (m : List ℕ) (at end tag most n : ℕ) → n ≡ count_of end at (get_or m at 0) (get_or m (at + 1) 0) tag most → (n ≡ 0 → ⊥) → end ≤ length m → at + 2 + n ≤ length m
+pub count_more : (m : List ℕ) (at end tag most n : ℕ) → n ≡ count_of end at (get_or m at 0) (get_or m (at + 1) 0) tag most → 1 ≤ n → end ≤ length m → at + 2 + n ≤ length m
 count_more m at end tag most n is there h = omega (arith, (counted m at end tag most n is there).room, h)
 
-pub count_third : (m : List ℕ) (at end tag most n : ℕ) → n ≡ count_of end at (get_or m at 0) (get_or m (at + 1) 0) tag most → (n ≡ 0 → ⊥) → end ≤ length m → at + 2 < length m
+pub count_third : (m : List ℕ) (at end tag most n : ℕ) → n ≡ count_of end at (get_or m at 0) (get_or m (at + 1) 0) tag most → 1 ≤ n → end ≤ length m → at + 2 < length m
 count_third m at end tag most n is there h = omega (arith, (counted m at end tag most n is there).room, there, h)
 
 pub plain : (tag : ℕ) → tag / 32 % 2 ≡ 0 → constructor_of tag ≡ false
@@ -81,7 +81,7 @@ module _ (m : List ℕ) (at stop tag n : ℕ) (g : at ≤ until stop) (h : until
   small_none most z r e = placed_item (level 1) FaultKind.Another (λ v. get_or v.1 0 0) (leaf_item tag (single? most)) (finite stop) at (part m at stop) (until stop) r
       (leaf_none m at stop tag 1 n (single? most) g h leads (plain tag kind) (omega arith) is z (single_sized most) r e)
 
-  module _ (there : n ≡ 0 → ⊥) where
+  module _ (there : 1 ≤ n) where
     one : n ≡ 1
     one = omega (arith, (counted m at (until stop) tag 1 n is there).few, there)
 
@@ -106,11 +106,11 @@ module _ (m : List ℕ) (at stop tag n : ℕ) (g : at ≤ until stop) (h : until
         (leaf_bad m at stop tag 1 n (single? most) g h leads (plain tag kind) (omega arith) is there (rw one_is (lt-leb (get_or m (at + 2) 0) most l)))
 
 -- a local code
-by_value : (b : Bool) (z v : ℤ) → cond b (IntegerRead.Value z) IntegerRead.Wrong ≡ IntegerRead.Value v → b ≡ true
+by_value : (b : Bool) (z v : ℤ) → cond b (Some z) None ≡ Some v → b ≡ true
 by_value true z v e = refl
 by_value false z v e = let q : ◌≡◌ {A = ℕ} 0 1 = cc in absurd (omega arith)
 
-by_wrong : (b : Bool) (z : ℤ) → cond b (IntegerRead.Value z) IntegerRead.Wrong ≡ IntegerRead.Wrong → b ≡ false
+by_wrong : (b : Bool) (z : ℤ) → cond b (Some z) None ≡ None → b ≡ false
 by_wrong true z e = let q : ◌≡◌ {A = ℕ} 0 1 = cc in absurd (omega arith)
 by_wrong false z e = refl
 
@@ -119,13 +119,13 @@ module _ (m : List ℕ) (at stop n : ℕ) (g : at ≤ until stop) (h : until sto
   local_none z r e = placed_item (level 1) FaultKind.Another (λ v. signed_of v.1) (leaf_item 2 (integer_ok most_integer_octets)) (finite stop) at (part m at stop) (until stop) r
       (leaf_none m at stop 2 _ n (integer_ok _) g h (omega arith, omega arith, omega arith) (plain 2 (omega arith)) (omega arith) is z (integer_sized _) r e)
 
-  module _ (there : n ≡ 0 → ⊥) (xs : List ℕ) (i : IntegerRead) (xs-is : xs ≡ take n (drop (at + 2) m)) (told : i ≡ integer_of most_integer_octets xs) where
-    pub local_good : (v : ℤ) → i ≡ IntegerRead.Value v → Reads (integer_item 2 most_integer_octets) m at stop (at + 2 + n)
+  module _ (there : 1 ≤ n) (xs : List ℕ) (i : Optional ℤ) (xs-is : xs ≡ take n (drop (at + 2) m)) (told : i ≡ integer_of most_integer_octets xs) where
+    pub local_good : (v : ℤ) → i ≡ Some v → Reads (integer_item 2 most_integer_octets) m at stop (at + 2 + n)
     unfolding integer_of
     local_good v t = placed_item (level 1) FaultKind.Another (λ v. signed_of v.1) (leaf_item 2 (integer_ok most_integer_octets)) (finite stop) at (part m at stop) (until stop) (at + 2 + n)
         (leaf_good m at stop 2 _ n (integer_ok _) g h (omega arith, omega arith, omega arith) (plain 2 (omega arith)) (omega arith) is there (rw xs-is at (by_value (integer_ok most_integer_octets xs) (signed_of xs) v (sym told ∙ t))))
 
-    pub local_bad : i ≡ IntegerRead.Wrong → Reads (integer_item 2 most_integer_octets) m at stop (bad_contents + at)
+    pub local_bad : i ≡ None → Reads (integer_item 2 most_integer_octets) m at stop (bad_contents + at)
     unfolding integer_of
     local_bad t = placed_item (level 1) FaultKind.Another (λ v. signed_of v.1) (leaf_item 2 (integer_ok most_integer_octets)) (finite stop) at (part m at stop) (until stop) (bad_contents + at)
         (leaf_bad m at stop 2 _ n (integer_ok _) g h (omega arith, omega arith, omega arith) (plain 2 (omega arith)) (omega arith) is there (rw xs-is at (by_wrong (integer_ok most_integer_octets xs) (signed_of xs) (sym told ∙ t))))

@@ -3,7 +3,7 @@
 
 ghost use Rattle.std.specs.Prelude.{◌≡◌, true, ◌+◌, ◌/◌, ◌%◌, ◌<◌, ◌≤◌, length, set};
 ghost use Rattle.element.specs.Parts.{then_body};
-ghost use Rattle.read_place.specs.Places.{Leads, Reads, Finishes, Ready, nothing};
+ghost use Rattle.read_place.specs.Places.{Tells, Leads, Reads, Finishes, Ready, nothing};
 ghost use Rattle.read_place.specs.Leaves.{Left, Leaves, LeavesAll, unlaid};
 ghost use Rattle.read_place.specs.Laying.{lay_dest, lay_components, lay_message, lay_accepted};
 ghost use Rattle.read_place.specs.Blames.{Blames};
@@ -18,32 +18,30 @@ use read_component::rows_at;
 use read_dialogue::dialogue_at;
 use read_field::{small_at, transaction_id_at};
 use read_place::{
-    CUT_OFF, FAULT, NO_MESSAGE, OCTETS_AFTER, OF_PORTION, OVERLONG, behind, ended, entry_at, leave,
-    length_at, put_text, stands, start_of,
+    CUT_OFF, FaultAt, NO_MESSAGE, OCTETS_AFTER, OF_PORTION, OVERLONG, RECORD, behind, ended,
+    entry_at, leave, length_at, put_text, stands, start_of,
 };
 use tcap::{MOST_CAUSE, MOST_OCTETS};
 
 // A fault of the transaction portion, told so.
-fn portion_fault(out: &mut [u8], r: usize) -> usize
-    requires { length out.old ≡ 428 }
-    ensures value { result ≡ r }
+fn portion_fault(out: &mut [u8; RECORD], fault: FaultAt) -> FaultAt
+    ensures value { result ≡ fault }
     ensures out_after { out.new ≡ set out.old 0 0 }
 {
     out[0] = OF_PORTION;
-    r
+    fault
 }
 
 // The end of contents of the transaction portion: what stands there instead is a fault of that portion.
-fn end_at(m: &[u8], at: usize, stop: usize, out: &mut [u8]) -> usize
-    requires { Ready m.now at stop × (length out.old ≡ 428) }
-    ensures finishes { Finishes nothing m.now at stop result }
+fn end_at(m: &[u8], at: usize, stop: usize, out: &mut [u8; RECORD]) -> Result<usize, FaultAt>
+    requires { Ready m.now at stop }
+    ensures finishes { Tells result (λ r. Finishes nothing m.now at stop r) }
     ensures leaves_all { LeavesAll unlaid Blames nothing m.now at stop out.old out.new }
 {
-    let r = leave(m, at, stop);
-    if r >= FAULT {
-        return portion_fault(out, r);
+    match leave(m, at, stop) {
+        Ok(r) => Ok(r),
+        Err(fault) => Err(portion_fault(out, fault)),
     }
-    r
 }
 
 // A transaction ID by its tag; `flag` is the octet that says that it stands, `o` where its place and length are laid out.
@@ -54,214 +52,179 @@ fn transaction_id_into(
     tag: u8,
     flag: usize,
     o: usize,
-    out: &mut [u8],
-) -> usize
-    requires { Ready m.now at stop × Leads tag × (tag / 32 % 2 ≡ 0) × (flag < 428) × (o + 8 ≤ 428) × (length out.old ≡ 428) }
-    ensures reads { Reads (transaction_id_item tag) m.now at stop result }
+    out: &mut [u8; RECORD],
+) -> Result<usize, FaultAt>
+    requires { Ready m.now at stop × Leads tag × (tag / 32 % 2 ≡ 0) × (flag < 428) × (o + 8 ≤ 428) }
+    ensures reads { Tells result (λ r. Reads (transaction_id_item tag) m.now at stop r) }
     ensures leaves { Leaves (lay_id_at flag o) Blames (transaction_id_item tag) m.now at stop out.old out.new }
 {
-    let r = transaction_id_at(m, at, stop, tag);
-    if r >= FAULT {
-        return portion_fault(out, r);
-    }
+    let r = match transaction_id_at(m, at, stop, tag) {
+        Ok(r) => r,
+        Err(fault) => return Err(portion_fault(out, fault)),
+    };
     out[flag] = 1;
     put_text(out, o, at + 2, r - at - 2);
-    r
+    Ok(r)
 }
 
 // 6C around components.
-fn components_at(m: &[u8], at: usize, stop: usize, out: &mut [u8]) -> usize
-    requires { Ready m.now at stop × (length out.old ≡ 428) }
-    ensures reads { Reads (components_item the93) m.now at stop result }
+fn components_at(m: &[u8], at: usize, stop: usize, out: &mut [u8; RECORD]) -> Result<usize, FaultAt>
+    requires { Ready m.now at stop }
+    ensures reads { Tells result (λ r. Reads (components_item the93) m.now at stop r) }
     ensures leaves { Leaves lay_components Blames (components_item the93) m.now at stop out.old out.new }
 {
-    let inner = entry_at(m, at, stop, 0x6C);
-    if inner >= FAULT {
-        return portion_fault(out, inner);
-    }
+    let inner = match entry_at(m, at, stop, 0x6C) {
+        Ok(inner) => inner,
+        Err(fault) => return Err(portion_fault(out, fault)),
+    };
     rows_at(m, start_of(m, at + 1), inner, out)
 }
 
 // The same or nothing, and nothing more: the place behind the contents.
-fn last_components_at(m: &[u8], at: usize, stop: usize, out: &mut [u8]) -> usize
-    requires { Ready m.now at stop × (length out.old ≡ 428) }
-    ensures finishes { Finishes components_body m.now at stop result }
+fn last_components_at(
+    m: &[u8],
+    at: usize,
+    stop: usize,
+    out: &mut [u8; RECORD],
+) -> Result<usize, FaultAt>
+    requires { Ready m.now at stop }
+    ensures finishes { Tells result (λ r. Finishes components_body m.now at stop r) }
     ensures leaves_all { LeavesAll lay_listed Blames components_body m.now at stop out.old out.new }
 {
     if ended(m, at, stop) {
-        return behind(at, stop);
+        return Ok(behind(at, stop));
     }
-    let r = components_at(m, at, stop, out);
-    if r >= FAULT {
-        return r;
-    }
+    let r = components_at(m, at, stop, out)?;
     end_at(m, r, stop, out)
 }
 
 // The place behind 6B, if it stands here.
-fn past_dialogue(m: &[u8], at: usize, stop: usize, out: &mut [u8]) -> usize
-    requires { Ready m.now at stop × (length out.old ≡ 428) }
-    ensures passes { Passes 0x6B (dialogue_item the93) m.now at stop result }
+fn past_dialogue(m: &[u8], at: usize, stop: usize, out: &mut [u8; RECORD]) -> Result<usize, FaultAt>
+    requires { Ready m.now at stop }
+    ensures passes { Tells result (λ r. Passes 0x6B (dialogue_item the93) m.now at stop r) }
     ensures lays_past { LaysPast m.now at stop out.old out.new }
 {
     if stands(m, at, stop, 0x6B) {
         return dialogue_at(m, at, stop, out);
     }
-    at
+    Ok(at)
 }
 
 // What follows the IDs: 6B or none, 6C or none.
-fn tail_at(m: &[u8], at: usize, stop: usize, out: &mut [u8]) -> usize
-    requires { Ready m.now at stop × (length out.old ≡ 428) }
-    ensures finishes { Finishes (tail_body the93) m.now at stop result }
+fn tail_at(m: &[u8], at: usize, stop: usize, out: &mut [u8; RECORD]) -> Result<usize, FaultAt>
+    requires { Ready m.now at stop }
+    ensures finishes { Tells result (λ r. Finishes (tail_body the93) m.now at stop r) }
     ensures leaves_all { LeavesAll lay_tail Blames (tail_body the93) m.now at stop out.old out.new }
 {
-    let r = past_dialogue(m, at, stop, out);
-    if r >= FAULT {
-        return r;
-    }
+    let r = past_dialogue(m, at, stop, out)?;
     last_components_at(m, r, stop, out)
 }
 
 // The contents of a Unidirectional.
-fn uni_at(m: &[u8], at: usize, stop: usize, out: &mut [u8]) -> usize
-    requires { Ready m.now at stop × (length out.old ≡ 428) }
-    ensures finishes { Finishes unidirectional_body m.now at stop result }
+fn uni_at(m: &[u8], at: usize, stop: usize, out: &mut [u8; RECORD]) -> Result<usize, FaultAt>
+    requires { Ready m.now at stop }
+    ensures finishes { Tells result (λ r. Finishes unidirectional_body m.now at stop r) }
     ensures leaves_all { LeavesAll lay_tail Blames unidirectional_body m.now at stop out.old out.new }
 {
-    let r = past_dialogue(m, at, stop, out);
-    if r >= FAULT {
-        return r;
-    }
-    let s = components_at(m, r, stop, out);
-    if s >= FAULT {
-        return s;
-    }
+    let r = past_dialogue(m, at, stop, out)?;
+    let s = components_at(m, r, stop, out)?;
     end_at(m, s, stop, out)
 }
 
 // What an Abort ends with: a cause, 6B or nothing; the place behind the contents.
-fn ending_at(m: &[u8], at: usize, stop: usize, out: &mut [u8]) -> usize
-    requires { Ready m.now at stop × (length out.old ≡ 428) }
-    ensures finishes { Finishes ending_body m.now at stop result }
+fn ending_at(m: &[u8], at: usize, stop: usize, out: &mut [u8; RECORD]) -> Result<usize, FaultAt>
+    requires { Ready m.now at stop }
+    ensures finishes { Tells result (λ r. Finishes ending_body m.now at stop r) }
     ensures leaves_all { LeavesAll lay_last Blames ending_body m.now at stop out.old out.new }
 {
     if ended(m, at, stop) {
-        return behind(at, stop);
+        return Ok(behind(at, stop));
     }
     if stands(m, at, stop, 0x6B) {
-        let r = dialogue_at(m, at, stop, out);
-        if r >= FAULT {
-            return r;
-        }
+        let r = dialogue_at(m, at, stop, out)?;
         return end_at(m, r, stop, out);
     }
-    let r = small_at(m, at, stop, 0x4A, MOST_CAUSE);
-    if r >= FAULT {
-        return portion_fault(out, r);
-    }
+    let r = match small_at(m, at, stop, 0x4A, MOST_CAUSE) {
+        Ok(r) => r,
+        Err(fault) => return Err(portion_fault(out, fault)),
+    };
     out[3] = 1;
     out[41] = m[at + 2];
     end_at(m, r, stop, out)
 }
 
 // The contents of an Abort.
-fn abort_at(m: &[u8], at: usize, stop: usize, out: &mut [u8]) -> usize
-    requires { Ready m.now at stop × (length out.old ≡ 428) }
-    ensures finishes { Finishes (then_body (level_at the93 2) dest_item ending_body) m.now at stop result }
+fn abort_at(m: &[u8], at: usize, stop: usize, out: &mut [u8; RECORD]) -> Result<usize, FaultAt>
+    requires { Ready m.now at stop }
+    ensures finishes { Tells result (λ r. Finishes (then_body (level_at the93 2) dest_item ending_body) m.now at stop r) }
     ensures leaves_all { LeavesAll (lay_both lay_dest lay_last) Blames (then_body (level_at the93 2) dest_item ending_body) m.now at stop out.old out.new }
 {
-    let r = transaction_id_into(m, at, stop, 0x49, 2, 16, out);
-    if r >= FAULT {
-        return r;
-    }
+    let r = transaction_id_into(m, at, stop, 0x49, 2, 16, out)?;
     ending_at(m, r, stop, out)
 }
 
 // The contents of a message by its tag: its IDs, and what follows them.
-fn message_contents_at(m: &[u8], at: usize, stop: usize, tag: u8, out: &mut [u8]) -> usize
-    requires { Ready m.now at stop × ((message_item the93).mine tag ≡ true) × (length out.old ≡ 428) }
-    ensures finishes { Finishes (message_body_of tag) m.now at stop result }
+fn message_contents_at(
+    m: &[u8],
+    at: usize,
+    stop: usize,
+    tag: u8,
+    out: &mut [u8; RECORD],
+) -> Result<usize, FaultAt>
+    requires { Ready m.now at stop × ((message_item the93).mine tag ≡ true) }
+    ensures finishes { Tells result (λ r. Finishes (message_body_of tag) m.now at stop r) }
     ensures leaves_all { LeavesAll lay_message Blames (message_body_of tag) m.now at stop out.old out.new }
 {
-    if tag == 0x62 {
-        let r = transaction_id_into(m, at, stop, 0x48, 1, 8, out);
-        if r >= FAULT {
-            return r;
+    match tag {
+        0x62 => {
+            let r = transaction_id_into(m, at, stop, 0x48, 1, 8, out)?;
+            tail_at(m, r, stop, out)
         }
-        return tail_at(m, r, stop, out);
-    }
-    if tag == 0x65 {
-        let r = transaction_id_into(m, at, stop, 0x48, 1, 8, out);
-        if r >= FAULT {
-            return r;
+        0x65 => {
+            let r = transaction_id_into(m, at, stop, 0x48, 1, 8, out)?;
+            let s = transaction_id_into(m, r, stop, 0x49, 2, 16, out)?;
+            tail_at(m, s, stop, out)
         }
-        let s = transaction_id_into(m, r, stop, 0x49, 2, 16, out);
-        if s >= FAULT {
-            return s;
+        0x64 => {
+            let r = transaction_id_into(m, at, stop, 0x49, 2, 16, out)?;
+            tail_at(m, r, stop, out)
         }
-        return tail_at(m, s, stop, out);
+        0x67 => abort_at(m, at, stop, out),
+        _ => uni_at(m, at, stop, out),
     }
-    if tag == 0x64 {
-        let r = transaction_id_into(m, at, stop, 0x49, 2, 16, out);
-        if r >= FAULT {
-            return r;
-        }
-        return tail_at(m, r, stop, out);
-    }
-    if tag == 0x67 {
-        return abort_at(m, at, stop, out);
-    }
-    uni_at(m, at, stop, out)
 }
 
 // Whether a first octet is the tag of a message.
 fn is_message(first: u8) -> bool
     ensures { result ≡ (message_item the93).mine first }
 {
-    if first == 0x61 {
-        return true;
-    }
-    if first == 0x62 {
-        return true;
-    }
-    if first == 0x64 {
-        return true;
-    }
-    if first == 0x65 {
-        return true;
-    }
-    first == 0x67
+    matches!(first, 0x61 | 0x62 | 0x64 | 0x65 | 0x67)
 }
 
 // A message that is all there is, of any octets: how many there are, or the first fault.
-pub fn message_at(m: &[u8], out: &mut [u8]) -> usize
-    requires { length out.old ≡ 428 }
-    ensures answers { Answers m.now (located_up_to the93 m.now) result }
+pub fn message_at(m: &[u8], out: &mut [u8; RECORD]) -> Result<usize, FaultAt>
+    ensures answers { Tells result (λ r. Answers m.now (located_up_to the93 m.now) r) }
     ensures left { Left lay_accepted Blames (located_up_to the93 m.now) out.old out.new }
 {
     let len = m.len();
     if len > MOST_OCTETS {
-        return portion_fault(out, OVERLONG + MOST_OCTETS);
+        return Err(portion_fault(out, FaultAt(OVERLONG + MOST_OCTETS)));
     }
     if len == 0 {
-        return portion_fault(out, CUT_OFF);
+        return Err(portion_fault(out, FaultAt(CUT_OFF)));
     }
     let tag = m[0];
     if is_message(tag) {
-        let inner = length_at(m, 0, 1, len, true);
-        if inner >= FAULT {
-            return portion_fault(out, inner);
-        }
-        let r = message_contents_at(m, start_of(m, 1), inner, tag, out);
-        if r >= FAULT {
-            return r;
-        }
+        let inner = match length_at(m, 0, 1, len, true) {
+            Ok(inner) => inner,
+            Err(fault) => return Err(portion_fault(out, fault)),
+        };
+        let r = message_contents_at(m, start_of(m, 1), inner, tag, out)?;
         if r == len {
             out[0] = tag;
-            return r;
+            return Ok(r);
         }
-        return portion_fault(out, OCTETS_AFTER + r);
+        return Err(portion_fault(out, FaultAt(OCTETS_AFTER + r)));
     }
-    portion_fault(out, NO_MESSAGE)
+    Err(portion_fault(out, FaultAt(NO_MESSAGE)))
 }

@@ -1,4 +1,5 @@
 -- What the readers of a component's fields lay out, and how its contents are put together. Assumes nothing.
+use Rattle.std.specs.Prelude.{Option as Optional, Some, None}
 use Prim.Native.Nat.{ℕ, suc, ◌+◌, ◌-◌, ◌*◌, ◌/◌, ◌%◌, ◌≤◌, ◌<◌}
 use mathlib.Core.Path.{◌≡◌, refl, sym, ap, ◌∙◌}
 use mathlib.Core.Bool.{Bool, true, false, cond}
@@ -15,7 +16,6 @@ use Rattle.base.specs.Value.{same}
 use Rattle.base.proofs.Numbers.{bits_signed}
 use Rattle.primitive.specs.Primitive.{most_integer_octets, most_identifier_octets, identifier_ok, integer_ok, signed_of}
 use Rattle.primitive.specs.inner.Answers.{integer_of}
-use Rattle.primitive.specs.declared.IntegerRead.{IntegerRead}
 use Rattle.element.specs.declared.FaultKind.{FaultKind}
 use Rattle.element.specs.Fault.{Text}
 use Rattle.element.specs.Head.{end_of}
@@ -165,12 +165,12 @@ named f x y lay out m at stop r old new is same e = (rw is (reads_map f x m at s
 
 -- A code
 
-value_is : (b : Bool) (z v : ℤ) → cond b (IntegerRead.Value z) IntegerRead.Wrong ≡ IntegerRead.Value v → z ≡ v
+value_is : (b : Bool) (z v : ℤ) → cond b (Some z) None ≡ Some v → z ≡ v
 value_is true z v e = cc
 value_is false z v e = let q : ◌≡◌ {A = ℕ} 0 1 = cc in absurd (omega arith)
 
-module _ (m : List ℕ) (at stop n : ℕ) (g : at ≤ until stop) (h : until stop ≤ length m) (is : n ≡ count_of (until stop) at (get_or m at 0) (get_or m (at + 1) 0) 2 most_integer_octets) (there : n ≡ 0 → ⊥)
-    (xs : List ℕ) (i : IntegerRead) (xs-is : xs ≡ take n (drop (at + 2) m)) (told : i ≡ integer_of most_integer_octets xs) (v : ℤ) (t : i ≡ IntegerRead.Value v) where
+module _ (m : List ℕ) (at stop n : ℕ) (g : at ≤ until stop) (h : until stop ≤ length m) (is : n ≡ count_of (until stop) at (get_or m at 0) (get_or m (at + 1) 0) 2 most_integer_octets) (there : 1 ≤ n)
+    (xs : List ℕ) (i : Optional ℤ) (xs-is : xs ≡ take n (drop (at + 2) m)) (told : i ≡ integer_of most_integer_octets xs) (v : ℤ) (t : i ≡ Some v) where
   value_here : v ≡ signed_of (take n (drop (at + 2) m))
   unfolding integer_of
   value_here = sym (value_is (integer_ok most_integer_octets xs) (signed_of xs) v (sym told ∙ t)) ∙ ap signed_of xs-is

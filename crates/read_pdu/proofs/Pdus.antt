@@ -42,7 +42,7 @@ module _ (m : List ℕ) (at stop n : ℕ) (g : at ≤ until stop) (h : until sto
   unfolding constructor_of
   version_none z r e = leaf_none m at stop 128 2 n (same version) g h (omega arith, omega arith, omega arith) refl (omega arith) is z version_sized r e
 
-  module _ (there : n ≡ 0 → ⊥) where
+  module _ (there : 1 ≤ n) where
     abbrev its : List ℕ
     its = take n (drop (at + 2) m)
 
@@ -58,12 +58,7 @@ module _ (m : List ℕ) (at stop n : ℕ) (g : at ≤ until stop) (h : until sto
 
     module _ (more : n ≡ 1 → ⊥) where
       both : n ≡ 2
-      both = go n there more (count_room m at (until stop) 128 2 n is there).1
-        where
-          go : (k : ℕ) → (k ≡ 0 → ⊥) → (k ≡ 1 → ⊥) → k ≤ 2 → k ≡ 2
-          go zero f e l = absurd (f refl)
-          go (suc zero) f e l = absurd (e refl)
-          go (suc (suc k)) f e l = omega (arith, l)
+      both = omega (arith, there, more, count_room m at (until stop) 128 2 n is there)
 
       pub version_room : at + 3 < length m
       version_room = omega (arith, both, count_room m at (until stop) 128 2 n is there, h)

@@ -95,6 +95,17 @@ asked_far mine goes other at EndRead.Unfinished t h n = omega (arith, far FaultK
 asked_far mine goes other at EndRead.More (TagRead.Fault k) h n = omega (arith, far k)
 asked_far mine goes other at EndRead.More (TagRead.Tag a s) h n = rw (n a) (omega (arith, h))
 
+pub wrong_is_far : (m : List ℕ) (at stop other : ℕ) → Far other → Far (wrong_place m at stop other)
+wrong_is_far m at stop other h = asked_far (λ a. false) (λ s. 0) other at (end_of (finite stop) (part m at stop)) (front_of 1 (part m at stop)) h (λ a. refl)
+
+pub behind_near : (at stop : ℕ) → at ≤ 65535 → Near (behind_of at stop)
+unfolding behind_of
+behind_near at stop h = go (finite stop)
+  where
+    go : (b : Bool) → Near (cond b at (at + 2))
+    go true = omega (arith, h)
+    go false = omega (arith, h)
+
 -- a tag whose answer is a place is read from its first octet
 pub record TagHere (m : List ℕ) (at end r : ℕ) : Type 0 where
   pub size : ℕ

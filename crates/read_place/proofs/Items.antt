@@ -133,17 +133,17 @@ pub record Counted (m : List ℕ) (at end tag most n : ℕ) : Type 0 where
   pub size : get_or m (at + 1) 0 ≡ n
   pub few : n ≤ most
 
-pub counted : (m : List ℕ) (at end tag most n : ℕ) → n ≡ count_of end at (get_or m at 0) (get_or m (at + 1) 0) tag most → (n ≡ 0 → ⊥) → Counted m at end tag most n
+pub counted : (m : List ℕ) (at end tag most n : ℕ) → n ≡ count_of end at (get_or m at 0) (get_or m (at + 1) 0) tag most → 1 ≤ n → Counted m at end tag most n
 unfolding count_of
 counted m at end tag most n is there =
     by_left (ltb end (at + 3)) (eqb (get_or m at 0) tag) (ltb most (get_or m (at + 1) 0)) (ltb end (at + 2 + get_or m (at + 1) 0)) refl refl refl refl is
   where
     by_left : (a b c d : Bool) → ltb end (at + 3) ≡ a → eqb (get_or m at 0) tag ≡ b → ltb most (get_or m (at + 1) 0) ≡ c → ltb end (at + 2 + get_or m (at + 1) 0) ≡ d
         → n ≡ cond a 0 (cond b (cond c 0 (cond d 0 (get_or m (at + 1) 0))) 0) → Counted m at end tag most n
-    by_left true b c d i j k l e = absurd (there e)
-    by_left false false c d i j k l e = absurd (there e)
-    by_left false true true d i j k l e = absurd (there e)
-    by_left false true false true i j k l e = absurd (there e)
+    by_left true b c d i j k l e = absurd (omega (arith, there, e))
+    by_left false false c d i j k l e = absurd (omega (arith, there, e))
+    by_left false true true d i j k l e = absurd (omega (arith, there, e))
+    by_left false true false true i j k l e = absurd (omega (arith, there, e))
     by_left false true false false i j k l e =
         record {
           room = omega (arith, ltb-false end (at + 2 + get_or m (at + 1) 0) l, e);
@@ -171,7 +171,7 @@ module _ (m : List ℕ) (at stop tag most n : ℕ) (fits : List ℕ → Bool) (g
   here_leaf = ask (front (level 1) FaultKind.Another (leaf_item tag fits)) (finite stop) at (part m at stop)
 
   module _ (is : n ≡ count_of (until stop) at (get_or m at 0) (get_or m (at + 1) 0) tag most) where
-    module _ (there : n ≡ 0 → ⊥) where
+    module _ (there : 1 ≤ n) where
       short_length : length_of (part m (at + 1) stop) false ≡ LengthRead.Definite 1 n
       unfolding length_by within
       short_length =

@@ -6,15 +6,15 @@ use mathlib.Core.List.{List}
 use native.Mathlib.Omega.{arith}
 use lib.ListN.{length, get_or}
 use lib.Dec.{eqb, leb}
-use borrow.Author.Tests.{eqb-false, eqb-true, lt-ltb, eq-eqb, ne_eqb}
+use borrow.Author.Tests.{eqb-false, eqb-true, lt-ltb, eq-eqb, ne_eqb, le-leb, lt-leb}
 use Rattle.element.specs.declared.FaultKind.{FaultKind}
 use Rattle.element.specs.declared.EndRead.{EndRead}
 use Rattle.element.specs.declared.LengthRead.{LengthRead}
 use Rattle.base.specs.Number.{number_from}
+use Rattle.element.specs.Form.{fewest_of}
 use Rattle.element.specs.Head.{end_of, within, length_of}
 use Rattle.walk.specs.Walks.{end_by_length}
-use Rattle.walk.proofs.Views.{long_more}
-use Rattle.element.proofs.Views.{length_by, length_view, length_octets, end_by, end_view}
+use Rattle.element.proofs.Views.{length_by, length_view, length_octets, long_place, one_place, end_by, end_view}
 use Rattle.element.specs.inner.Fronts.{span, long_read}
 use Rattle.read_place.specs.Places.{part, finite, ended_of, unfinished_of, base, length_place, until, Near, Endless, Finite, opening, passes_end}
 
@@ -55,6 +55,21 @@ pub unfinished_not : (b : Bool) → false ≡ unfinished_of (cond b EndRead.Ende
 unfolding unfinished_of
 unfinished_not true = refl
 unfinished_not false = refl
+
+-- a length of one octet, or of more, whose octets are there
+module _ (m : List ℕ) (from end k : ℕ) (b : from < end) (h : end ≤ length m) (l : 1 ≤ k) (most : k ≤ 126) (g : k ≤ end - from - 1) where
+  long_more : (get_or m (from + 1) 0 ≡ 0 → ⊥) → (k ≡ 1 → ⊥) → long_read (span m from end) k ≡ within (suc k) (number_from 0 (length_octets m from k)) (end - from - 1 - k)
+  unfolding fewest_of
+  long_more o n = long_place m from end k b h l most g (rw (ne_eqb (get_or m (from + 1) 0) 0 o, ne_eqb k 1 n))
+
+  module _ (n : k ≡ 1) (o : 128 ≤ get_or m (from + 1) 0) where
+    pub long_one : get_or m (from + 1) 0 < end - from - 1 → long_read (span m from end) k ≡ LengthRead.Definite 2 (get_or m (from + 1) 0)
+    unfolding within
+    long_one q = one_place m from end k b h l most g n o ∙ rw (le-leb (get_or m (from + 1) 0) (end - from - 1 - 1) (omega (arith, q)))
+
+    pub long_past : end - from - 1 ≤ get_or m (from + 1) 0 → long_read (span m from end) k ≡ LengthRead.Fault FaultKind.PassesEnd
+    unfolding within
+    long_past q = one_place m from end k b h l most g n o ∙ rw (lt-leb (get_or m (from + 1) 0) (end - from - 1 - 1) (omega (arith, q, g, n)))
 
 -- a length whose octets are there passes the end, or it does not
 count_place : (at from end size n room : ℕ) → end_by_length from (passes_end + at) (within size n room) ≡ length_place at from end (within size n room)

@@ -1,8 +1,9 @@
 -- A reader's answer as one number: the place behind what was read, or the fault, by kind and place. Contents stand from a place to a stop:
 -- the place where they end, or `opening` and the end of what is around them, if they are indefinite. Assumes nothing: these are definitions.
-use Rattle.std.specs.Prelude.{ℕ, ◌+◌, ◌-◌, ◌%◌, ◌≤◌, ◌<◌}
+use Rattle.std.specs.Prelude.{Result, Ok, Err, Option as Optional, Some, None, ℕ, ◌+◌, ◌-◌, ◌%◌, ◌≤◌, ◌<◌}
 use mathlib.Core.{Path.◌≡◌, Bool.Bool, Bool.true, Bool.false, Bool.cond, List.List, Option.none}
 use lib.{ListN.length, ListN.get_or, Dec.eqb, Dec.ltb, Dec.leb}
+use Rattle.read_place.specs.declared.FaultAt.{FaultAt}
 use Rattle.element.specs.{declared.FaultKind.FaultKind, declared.EndRead.EndRead, declared.TagRead.TagRead, declared.LengthRead.LengthRead, declared.Walk.Walk, Fault.Fault, Fault.fault, Head.end_of, Head.length_of, inner.Fronts.front_of, inner.Fronts.span, Ask.Got, Ask.got, Ask.bad, Ask.Body, Ask.ask, Ask.blamed, Parts.Item, Parts.Where, Parts.place, Parts.done, Parts.level}
 
 -- Numbers: a place is below `opening`, an open stop between it and `faults`, a fault from there on, each kind in a block of its own
@@ -82,6 +83,18 @@ Near r = r < faults
 
 abbrev pub Far : ℕ → Type 0
 Far r = faults ≤ r
+
+-- the number of an answer, which is below `faults` if it is a place; what is so of it
+abbrev pub number : Result ℕ FaultAt → ℕ
+number (Ok n) = n
+number (Err f) = f.0
+
+abbrev pub Sorted : Result ℕ FaultAt → Type 0
+Sorted (Ok n) = Near n
+Sorted (Err f) = Far f.0
+
+abbrev pub Tells : Result ℕ FaultAt → (ℕ → Type 0) → Type 0
+Tells r P = P (number r) × Sorted r
 
 -- a stop tells whether contents are definite, and where they end or what is around them does
 abbrev pub Finite : ℕ → Type 0
@@ -192,6 +205,11 @@ bad_place m at stop tag = cond (leb faults (entry_place false m at stop tag)) (e
 -- how many contents octets a primitive of this tag has, if they are 1 to `most`; else 0
 unfoldable pub count_of : ℕ → ℕ → ℕ → ℕ → ℕ → ℕ → ℕ
 count_of end at a b tag most = cond (ltb end (at + 3)) 0 (cond (eqb a tag) (cond (ltb most b) 0 (cond (ltb end (at + 2 + b)) 0 b)) 0)
+
+-- it is told where it is not 0
+abbrev pub CountIs : Optional ℕ → ℕ → Type 0
+CountIs None k = 0 ≡ k
+CountIs (Some n) k = (n ≡ k) × (1 ≤ n)
 
 -- a tag of one octet, not of code 0
 abbrev pub Leads : ℕ → Type 0

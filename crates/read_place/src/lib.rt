@@ -1,13 +1,14 @@
 // Where a reader stands, and what may stand there: ends, tags, lengths; `elements` walks those that may be any.
 // Contents stand from a place to a `stop`: the place where they end, or, if they are indefinite, OPEN and the end of what is around them.
-// An answer below FAULT is the place behind what was read, or a stop; from FAULT on it is a fault: kind and place, each kind in a block of OPEN.
+// Message, place and stop are three arguments, since a struct of them crosses each call by memory, and these cross by registers.
+// An answer is the place behind what was read, or a stop, and below FAULT; or a fault: kind and place, each kind in a block of OPEN from FAULT on.
 #![tactic(auto)]
 
 pub mod elements;
 
-ghost use Rattle.std.specs.Prelude.{◌≡◌, true, false, ◌+◌, ◌<◌, ◌≤◌, length, get_or};
+ghost use Rattle.std.specs.Prelude.{Err, ◌≡◌, true, false, ◌+◌, ◌<◌, ◌≤◌, length, get_or};
 ghost use Rattle.element.specs.Head.{end_of, tag_of, length_of};
-ghost use Rattle.read_place.specs.Places.{part, finite, Stands, ended_of, unfinished_of, behind_of, tag_place, length_place, wrong_place, stands_of, entry_place, bad_place, count_of, Finishes, nothing, until, Ready};
+ghost use Rattle.read_place.specs.Places.{Tells, part, finite, Stands, ended_of, unfinished_of, behind_of, tag_place, length_place, wrong_place, stands_of, entry_place, bad_place, count_of, CountIs, Finishes, nothing, until, Ready};
 ghost use Rattle.element.specs.inner.Fronts.{span, long_read};
 ghost use Rattle.read_place.specs.Laying.{lay_text};
 
@@ -17,39 +18,48 @@ pub use walk::start_of;
 
 pub const OPEN: usize = 65536;
 
-pub const FAULT: usize = 131072;
+pub const FAULT: usize = 2 * OPEN;
 
-pub const CUT_OFF: usize = 131072;
+pub const CUT_OFF: usize = 2 * OPEN;
 
-pub const BAD_TAG: usize = 196608;
+pub const BAD_TAG: usize = 3 * OPEN;
 
-pub const BAD_LENGTH: usize = 262144;
+pub const BAD_LENGTH: usize = 4 * OPEN;
 
-pub const PASSES_END: usize = 327680;
+pub const PASSES_END: usize = 5 * OPEN;
 
-pub const TOO_DEEP: usize = 393216;
+pub const TOO_DEEP: usize = 6 * OPEN;
 
-pub const CODE_ZERO: usize = 458752;
+pub const CODE_ZERO: usize = 7 * OPEN;
 
-pub const OVERLONG: usize = 524288;
+pub const OVERLONG: usize = 8 * OPEN;
 
-pub const NO_MESSAGE: usize = 589824;
+pub const NO_MESSAGE: usize = 9 * OPEN;
 
-pub const OCTETS_AFTER: usize = 655360;
+pub const OCTETS_AFTER: usize = 10 * OPEN;
 
-pub const MISSING: usize = 720896;
+pub const MISSING: usize = 11 * OPEN;
 
-pub const ANOTHER: usize = 786432;
+pub const ANOTHER: usize = 12 * OPEN;
 
-pub const TOO_MANY: usize = 851968;
+pub const TOO_MANY: usize = 13 * OPEN;
 
-pub const BAD_CONTENTS: usize = 917504;
+pub const BAD_CONTENTS: usize = 14 * OPEN;
 
-pub const SEVENTEENTH: usize = 983040;
+pub const SEVENTEENTH: usize = 15 * OPEN;
 
-pub const UNKNOWN_COMPONENT: usize = 1048576;
+pub const UNKNOWN_COMPONENT: usize = 16 * OPEN;
 
-// Whom a fault belongs to, as it is told in the first of the octets lent to a reader; for a component its number follows.
+// The octets of a record, and those of one of its rows (docs/LAYOUT.md).
+pub const RECORD: usize = 428;
+
+pub const ROW: usize = 24;
+
+// A fault, by kind and place in one word: so a Result crosses a call in two registers, which a kind beside a place does not.
+#[derive(Clone, Copy)]
+pub struct FaultAt(pub usize);
+
+// Whom a fault belongs to, as it is told in the first of the octets lent to a reader; for a component its number follows. An enum would be turned into its octet here and back in read_refusal.
 pub const OF_PORTION: u8 = 0;
 
 pub const OF_DIALOGUE: u8 = 1;
@@ -65,16 +75,7 @@ pub fn ended(m: &[u8], at: usize, stop: usize) -> bool
         return at == stop;
     }
     let left = stop - OPEN - at;
-    if left == 0 {
-        return false;
-    }
-    if m[at] != 0 {
-        return false;
-    }
-    if left == 1 {
-        return false;
-    }
-    m[at + 1] == 0
+    left >= 2 && m[at] == 0 && m[at + 1] == 0
 }
 
 // Whether contents lack their end pair here.
@@ -86,13 +87,7 @@ pub fn unfinished(m: &[u8], at: usize, stop: usize) -> bool
         return false;
     }
     let left = stop - OPEN - at;
-    if left == 0 {
-        return true;
-    }
-    if m[at] != 0 {
-        return false;
-    }
-    left == 1
+    left == 0 || left == 1 && m[at] == 0
 }
 
 // The place behind contents that end here.
@@ -106,141 +101,146 @@ pub fn behind(at: usize, stop: usize) -> usize
     at + 2
 }
 
-// The place behind the tag here.
-pub fn tag_at(m: &[u8], at: usize, end: usize) -> usize
+// The place behind the tag here, octet by octet: a match on the slice asks for its length first, and proves each case once for each length.
+pub fn tag_at(m: &[u8], at: usize, end: usize) -> Result<usize, FaultAt>
     requires { Stands m.now at end }
-    ensures { result ≡ tag_place at (tag_of (span m.now at end)) }
+    ensures { Tells result (λ r. r ≡ tag_place at (tag_of (span m.now at end))) }
 {
     let left = end - at;
     if left == 0 {
-        return CUT_OFF + at;
+        return Err(FaultAt(CUT_OFF + at));
     }
     if m[at] % 32 != 31 {
-        return at + 1;
+        return Ok(at + 1);
     }
     if left <= 1 {
-        return CUT_OFF + at;
+        return Err(FaultAt(CUT_OFF + at));
     }
     let one = m[at + 1];
-    if one == 128 {
-        return BAD_TAG + at;
-    }
-    if one < 31 {
-        return BAD_TAG + at;
+    if one == 128 || one < 31 {
+        return Err(FaultAt(BAD_TAG + at));
     }
     if one < 128 {
-        return at + 2;
+        return Ok(at + 2);
     }
     if left <= 2 {
-        return CUT_OFF + at;
+        return Err(FaultAt(CUT_OFF + at));
     }
     if m[at + 2] < 128 {
-        return at + 3;
+        return Ok(at + 3);
     }
     if left <= 3 {
-        return CUT_OFF + at;
+        return Err(FaultAt(CUT_OFF + at));
     }
     if m[at + 3] < 128 {
-        return at + 4;
+        return Ok(at + 4);
     }
-    BAD_TAG + at
+    Err(FaultAt(BAD_TAG + at))
 }
 
 // The stop of contents whose length takes `k` octets behind `from`. Most take one.
-fn long_length(m: &[u8], at: usize, from: usize, end: usize, k: usize) -> usize
+fn long_length(m: &[u8], at: usize, from: usize, end: usize, k: usize) -> Result<usize, FaultAt>
     requires { Stands m.now from end × (from < end) × (1 ≤ k) × (at ≤ 65535) }
-    ensures { result ≡ length_place at from end (long_read (span m.now from end) k) }
+    ensures { Tells result (λ r. r ≡ length_place at from end (long_read (span m.now from end) k)) }
 {
     if k > 126 {
-        return BAD_LENGTH + at;
+        return Err(FaultAt(BAD_LENGTH + at));
     }
     let left = end - from - 1;
     if left < k {
-        return CUT_OFF + at;
+        return Err(FaultAt(CUT_OFF + at));
     }
     let one = m[from + 1] as usize;
     if k == 1 {
         if one < 128 {
-            return BAD_LENGTH + at;
+            return Err(FaultAt(BAD_LENGTH + at));
         }
         if one < left {
-            return from + (2 + one);
+            return Ok(from + (2 + one));
         }
-        return PASSES_END + at;
+        return Err(FaultAt(PASSES_END + at));
     }
     if one == 0 {
-        return BAD_LENGTH + at;
+        return Err(FaultAt(BAD_LENGTH + at));
     }
-    long_count(m, from, k, left - k, PASSES_END + at)
+    let r = long_count(m, from, k, left - k, PASSES_END + at);
+    if r >= FAULT {
+        return Err(FaultAt(r));
+    }
+    Ok(r)
 }
 
 // The stop of contents whose length stands at `from`; the element stands at `at`.
-pub fn length_at(m: &[u8], at: usize, from: usize, end: usize, constructor: bool) -> usize
+pub fn length_at(
+    m: &[u8],
+    at: usize,
+    from: usize,
+    end: usize,
+    constructor: bool,
+) -> Result<usize, FaultAt>
     requires { Stands m.now from end × (at ≤ 65535) }
-    ensures { result ≡ length_place at from end (length_of (span m.now from end) constructor) }
+    ensures { Tells result (λ r. r ≡ length_place at from end (length_of (span m.now from end) constructor)) }
 {
     if from < end {
         let b = m[from] as usize;
         if b < 128 {
             if from + (1 + b) <= end {
-                return from + (1 + b);
+                return Ok(from + (1 + b));
             }
-            return PASSES_END + at;
+            return Err(FaultAt(PASSES_END + at));
         }
         if b == 128 {
             if constructor {
-                return OPEN + end;
+                return Ok(OPEN + end);
             }
-            return BAD_LENGTH + at;
+            return Err(FaultAt(BAD_LENGTH + at));
         }
         return long_length(m, at, from, end, b - 128);
     }
-    CUT_OFF + at
+    Err(FaultAt(CUT_OFF + at))
 }
 
 // What is wrong where none of the expected elements stands: the end (14), a missing end pair (1), a bad tag, code 0, else `other`.
 // The level is not asked: what the page names stands at level 8 at most.
-pub fn wrong_at(m: &[u8], at: usize, stop: usize, other: usize) -> usize
+pub fn wrong_at(m: &[u8], at: usize, stop: usize, other: usize) -> FaultAt
     requires { Ready m.now at stop × (other ≤ 1048576) }
-    ensures { result ≡ wrong_place m.now at stop other }
+    ensures { result.0 ≡ wrong_place m.now at stop other }
 {
     if ended(m, at, stop) {
-        return MISSING + at;
+        return FaultAt(MISSING + at);
     }
     if unfinished(m, at, stop) {
-        return CUT_OFF + at;
+        return FaultAt(CUT_OFF + at);
     }
-    let r = tag_at(m, at, stop % OPEN);
-    if r >= FAULT {
-        return r;
+    match tag_at(m, at, stop % OPEN) {
+        Err(fault) => fault,
+        Ok(_) => {
+            if m[at] == 0 || m[at] == 32 {
+                return FaultAt(CODE_ZERO + at);
+            }
+            FaultAt(other + at)
+        }
     }
-    if m[at] == 0 {
-        return CODE_ZERO + at;
-    }
-    if m[at] == 32 {
-        return CODE_ZERO + at;
-    }
-    other + at
 }
 
 // Nothing more may come: the place behind the contents.
-fn left_at(m: &[u8], at: usize, stop: usize) -> usize
+fn left_at(m: &[u8], at: usize, stop: usize) -> Result<usize, FaultAt>
     requires { Ready m.now at stop }
-    ensures { Finishes nothing m.now at stop result }
+    ensures { Tells result (λ r. Finishes nothing m.now at stop r) }
 {
     if ended(m, at, stop) {
-        return behind(at, stop);
+        return Ok(behind(at, stop));
     }
-    wrong_at(m, at, stop, TOO_MANY)
+    Err(wrong_at(m, at, stop, TOO_MANY))
 }
 
 // The same; most contents end where they are said to.
-pub fn leave(m: &[u8], at: usize, stop: usize) -> usize
+pub fn leave(m: &[u8], at: usize, stop: usize) -> Result<usize, FaultAt>
     requires { Ready m.now at stop }
-    ensures { Finishes nothing m.now at stop result }
+    ensures { Tells result (λ r. Finishes nothing m.now at stop r) }
 {
     if at == stop {
-        return at;
+        return Ok(at);
     }
     left_at(m, at, stop)
 }
@@ -250,89 +250,69 @@ pub fn stands(m: &[u8], at: usize, stop: usize, tag: u8) -> bool
     requires { Stands m.now at (until stop) }
     ensures { result ≡ stands_of m.now at stop tag }
 {
-    if at == stop % OPEN {
-        return false;
-    }
-    m[at] == tag
+    at != stop % OPEN && m[at] == tag
 }
 
 // A constructor of this tag must stand here: the stop of its contents. Most lengths take one octet.
-// Places are compared, so that the compiler sees that none is a fault.
-pub fn entry_at(m: &[u8], at: usize, stop: usize, tag: u8) -> usize
+pub fn entry_at(m: &[u8], at: usize, stop: usize, tag: u8) -> Result<usize, FaultAt>
     requires { Ready m.now at stop }
-    ensures { result ≡ entry_place true m.now at stop tag }
+    ensures { Tells result (λ r. r ≡ entry_place true m.now at stop tag) }
 {
     let end = stop % OPEN;
-    if at + 2 <= end {
-        if m[at] == tag {
-            let b = m[at + 1] as usize;
-            if b == 128 {
-                return OPEN + end;
-            }
-            if b < 128 {
-                if at + 2 + b <= end {
-                    return at + 2 + b;
-                }
-            }
+    if at + 2 <= end && m[at] == tag {
+        let b = m[at + 1] as usize;
+        if b == 128 {
+            return Ok(OPEN + end);
+        }
+        if b < 128 && at + 2 + b <= end {
+            return Ok(at + 2 + b);
         }
     }
-    entry_asked(m, at, stop, tag)
+    asked_at(m, at, stop, tag, true)
 }
 
-// The same by the questions in their order.
-pub fn entry_asked(m: &[u8], at: usize, stop: usize, tag: u8) -> usize
+// A constructor or a primitive of this tag must stand here, by the questions in their order: the stop of its contents, which is the place behind a primitive.
+pub fn asked_at(
+    m: &[u8],
+    at: usize,
+    stop: usize,
+    tag: u8,
+    constructor: bool,
+) -> Result<usize, FaultAt>
     requires { Ready m.now at stop }
-    ensures { result ≡ entry_place true m.now at stop tag }
+    ensures { Tells result (λ r. r ≡ entry_place constructor m.now at stop tag) }
 {
     if stands(m, at, stop, tag) {
-        return length_at(m, at, at + 1, stop % OPEN, true);
+        return length_at(m, at, at + 1, stop % OPEN, constructor);
     }
-    wrong_at(m, at, stop, ANOTHER)
+    Err(wrong_at(m, at, stop, ANOTHER))
 }
 
-// A primitive of this tag must stand here: the place behind it.
-pub fn field_asked(m: &[u8], at: usize, stop: usize, tag: u8) -> usize
+// A primitive of this tag must stand here, and its contents are not as wanted.
+pub fn bad_field(m: &[u8], at: usize, stop: usize, tag: u8) -> FaultAt
     requires { Ready m.now at stop }
-    ensures { result ≡ entry_place false m.now at stop tag }
+    ensures { Tells (Err result) (λ r. r ≡ bad_place m.now at stop tag) }
 {
-    if stands(m, at, stop, tag) {
-        return length_at(m, at, at + 1, stop % OPEN, false);
+    match asked_at(m, at, stop, tag, false) {
+        Err(fault) => fault,
+        Ok(_) => FaultAt(BAD_CONTENTS + at),
     }
-    wrong_at(m, at, stop, ANOTHER)
 }
 
-// The same where its contents are not as wanted.
-pub fn bad_field(m: &[u8], at: usize, stop: usize, tag: u8) -> usize
-    requires { Ready m.now at stop }
-    ensures { result ≡ bad_place m.now at stop tag }
-{
-    let r = field_asked(m, at, stop, tag);
-    if r >= FAULT {
-        return r;
-    }
-    BAD_CONTENTS + at
-}
-
-// How many contents octets the primitive of this tag has, if they are 1 to `most`, at most 127; else 0.
-pub fn count_at(m: &[u8], at: usize, stop: usize, tag: u8, most: usize) -> usize
+// How many contents octets the primitive of this tag has, if they are 1 to `most`, at most 127.
+pub fn count_at(m: &[u8], at: usize, stop: usize, tag: u8, most: usize) -> Option<usize>
     requires { Stands m.now at (until stop) }
-    ensures { result ≡ count_of (until stop) at (get_or m.now at 0) (get_or m.now (at + 1) 0) tag most }
+    ensures { CountIs result (count_of (until stop) at (get_or m.now at 0) (get_or m.now (at + 1) 0) tag most) }
 {
     let end = stop % OPEN;
-    if end < at + 3 {
-        return 0;
-    }
-    if m[at] != tag {
-        return 0;
+    if end < at + 3 || m[at] != tag {
+        return None;
     }
     let n = m[at + 1] as usize;
-    if n > most {
-        return 0;
+    if n == 0 || n > most || end < at + 2 + n {
+        return None;
     }
-    if end < at + 2 + n {
-        return 0;
-    }
-    n
+    Some(n)
 }
 
 // A place and a length of at most 65,535 as they lie in a record's octets, where the upper two octets of each number are 0.

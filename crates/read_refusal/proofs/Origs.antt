@@ -1,4 +1,5 @@
 -- Which originating ID a fault of a message carries: that of a Begin, of a Continue or of a constructor that is no message, if it was read before. Assumes nothing.
+use Rattle.std.specs.Prelude.{Some, None}
 use Prim.Native.Nat.{ℕ, ◌+◌, ◌-◌, ◌≤◌, ◌<◌}
 use mathlib.Core.Path.{◌≡◌, refl, sym, ap, ◌∙◌}
 use mathlib.Core.Bool.{Bool, true, false, cond, not, ◌&&◌, false≢true}
@@ -23,7 +24,6 @@ use Rattle.element.specs.Parts.{Item, level, leaf_item, inside, around_item, bin
 use Rattle.element.proofs.Asking.{Then, the_fact, fact, then_next, then_blamed, ask_sound}
 use Rattle.element.proofs.Reading.{definite_size}
 use Rattle.element.proofs.Views.{span_length, span_take}
-use Rattle.tcap.specs.declared.OptionalOrig.{OptionalOrig}
 use Rattle.tcap.specs.Meaning.{Originating, orig, Message, unidirectional, begin, finish, continue, abort, silent}
 use Rattle.tcap.specs.WellFormed.{most_transaction_id_octets, the93, id_ok}
 use Rattle.tcap.specs.Productions.{orig_item, dest_item, carried, tail_body, begin_body, continue_body, message_item}
@@ -272,24 +272,24 @@ module _ (m : List ℕ) (len : ℕ) (is : len ≡ length m) (any : 1 ≤ len) (s
 
 -- What `orig_of` answers
 
-told_by_lem : (t : Option Text) (x : Got (Message Text)) → Said Any t x → OrigTold (Option.get_or (map (λ s. orig_field (orig s)) t) OptionalOrig.NoOrig) x
+told_by_lem : (t : Option Text) (x : Got (Message Text)) → Said Any t x → OrigTold (Option.get_or (map (λ s. orig_field (orig s)) t) None) x
 unfolding Said OrigTold
 told_by_lem t (got v n) e = tt
-told_by_lem t (bad (fault k p o i u)) e = ap (λ (w : Option Text). Option.get_or (map (λ s. orig_field (orig s)) w) OptionalOrig.NoOrig) (sym e)
+told_by_lem t (bad (fault k p o i u)) e = ap (λ (w : Option Text). Option.get_or (map (λ s. orig_field (orig s)) w) None) (sym e)
 
 module _ (m : List ℕ) (len : ℕ) (is : len ≡ length m) where
-  pub orig_long : 255 < len → OrigTold OptionalOrig.NoOrig (located_up_to the93 m)
+  pub orig_long : 255 < len → OrigTold None (located_up_to the93 m)
   unfolding located_up_to check Said
   orig_long l = told_by_lem none (located_up_to the93 m) (rw (lt-leb (length m) 255 (omega (arith, l, is))))
 
-  pub orig_empty : len ≡ 0 → OrigTold OptionalOrig.NoOrig (located_up_to the93 m)
+  pub orig_empty : len ≡ 0 → OrigTold None (located_up_to the93 m)
   orig_empty l = told_by_lem none (located_up_to the93 m) (go m (omega (arith, is, l)))
     where
       go : (l : List ℕ) → length l ≡ 0 → Said Any none (located_up_to the93 l)
       go [] e = unfold located_up_to read_first check Said in refl
       go (a ∷ r) e = absurd (omega (arith, e))
 
-  pub orig_other : len ≤ 255 → (len ≡ 0 → ⊥) → (b : Bool) → b ≡ id_sought (get_or m 0 0) → b ≡ false → OrigTold OptionalOrig.NoOrig (located_up_to the93 m)
+  pub orig_other : len ≤ 255 → (len ≡ 0 → ⊥) → (b : Bool) → b ≡ id_sought (get_or m 0 0) → b ≡ false → OrigTold None (located_up_to the93 m)
   unfolding id_sought message_body_of
   orig_other short any b asked t = told_by_lem none (located_up_to the93 m) (go (eqb (get_or m 0 0) 98) (eqb (get_or m 0 0) 101) (eqb (get_or m 0 0) 100) (eqb (get_or m 0 0) 103) (eqb (get_or m 0 0) 97) refl refl refl refl refl (sym asked ∙ t))
     where
@@ -332,7 +332,7 @@ module _ (m : List ℕ) (len : ℕ) (is : len ≡ length m) where
     sent : (k : ℕ) → tag ≡ k → kinds.mine k ≡ true → (t : Option Text) → Said (Learnt t) t (ask (front (level 1) FaultKind.Another (around_item k (message_body_of k))) (finite len) 0 (part m 0 len)) → Said Any t (located_up_to the93 m)
     sent k e = sent_as m len is any short k (sym first ∙ e)
 
-    pub orig_entry : Far inner → OrigTold OptionalOrig.NoOrig (located_up_to the93 m)
+    pub orig_entry : Far inner → OrigTold None (located_up_to the93 m)
     unfolding constructor_of message_body_of
     orig_entry f =
         told_by_lem none (located_up_to the93 m) (by_tag
@@ -344,7 +344,7 @@ module _ (m : List ℕ) (len : ℕ) (is : len ≡ length m) where
       to : until inner ≤ length m
       to = alone_to m len tag inner is short entry near st start
 
-      pub orig_unread : Far r → OrigTold OptionalOrig.NoOrig (located_up_to the93 m)
+      pub orig_unread : Far r → OrigTold None (located_up_to the93 m)
       unfolding constructor_of message_body_of
       orig_unread f =
           told_by_lem none (located_up_to the93 m) (by_tag
@@ -360,7 +360,7 @@ module _ (m : List ℕ) (len : ℕ) (is : len ≡ length m) where
       pub orig_within : Near r → (st + 3 ≤ r) × (r ≤ 255)
       orig_within f = let l = id_long m st inner r to e f in (omega (arith, l), omega (arith, l, to, is, short))
 
-      pub orig_read : Near r → OrigTold (OptionalOrig.Orig (record { 0 = record { octets = record { place = st + 2; len = r - (st + 2) } } })) (located_up_to the93 m)
+      pub orig_read : Near r → OrigTold (Some (record { 0 = record { octets = record { place = st + 2; len = r - (st + 2) } } })) (located_up_to the93 m)
       unfolding constructor_of message_body_of
       orig_read f =
           let l = orig_within f in

@@ -1,4 +1,6 @@
 -- The refusal of a fault, from its number and what is told of it. Assumes nothing.
+use Rattle.tcap.specs.declared.OrigTransactionId.{OrigTransactionId}
+use Rattle.std.specs.Prelude.{Option as Optional, Some, None}
 use Prim.Native.Nat.{ℕ, ◌%◌, ◌≤◌}
 use native.Mathlib.Omega.{arith}
 use mathlib.Core.Path.{◌≡◌, refl, sym, ap, ◌∙◌}
@@ -14,7 +16,7 @@ use Rattle.primitive.proofs.Integers.{signed_one}
 use Rattle.element.specs.declared.FaultKind.{FaultKind}
 use Rattle.element.specs.Fault.{Text, Owner, Fault, fault}
 use Rattle.element.specs.Ask.{Got, got, bad, check}
-use Rattle.tcap.specs.declared.{InvokeId.InvokeId, Answer.Answer, Ground.Ground, OptionalOrig.OptionalOrig}
+use Rattle.tcap.specs.declared.{Answer.Answer, Ground.Ground}
 use Rattle.tcap.specs.Meaning.{Message}
 use Rattle.tcap.specs.WellFormed.{the93}
 use Rattle.tcap.specs.Record.{id_field}
@@ -31,13 +33,13 @@ use Rattle.read_refusal.specs.Refusals.{id_told, OrigTold, Blamed, RefusedAs}
 -- The answer, by the owner told
 
 module _ (flag octet : ℕ) where
-  pub id_null : flag ≡ 0 → InvokeId.Null ≡ id_field (id_told flag octet)
+  pub id_null : flag ≡ 0 → None ≡ id_field (id_told flag octet)
   unfolding id_told
   id_null e = rw (eq-eqb flag 0 e)
 
-  pub id_known : (flag ≡ 0 → ⊥) → (z : ℤ) → z ≡ signed_at 255 octet → InvokeId.Id z ≡ id_field (id_told flag octet)
+  pub id_known : (flag ≡ 0 → ⊥) → (z : ℤ) → z ≡ signed_at 255 octet → Some z ≡ id_field (id_told flag octet)
   unfolding id_told
-  id_known e z is = rw (ne_eqb flag 0 e) (ap InvokeId.Id (signed_one z (octet ∷ []) octet refl is refl))
+  id_known e z is = rw (ne_eqb flag 0 e) (ap Some (is ∙ signed_one (octet ∷ []) octet refl refl))
 
 module _ (l : List ℕ) (problem cause : ℕ) where
   pub by_portion : get_or l 0 0 ≡ 0 → Answer.AbortCause cause ≡ by_owner problem cause (owner_in l) (id_in l)
@@ -49,7 +51,7 @@ module _ (l : List ℕ) (problem cause : ℕ) where
     unfolding by_owner owner_in
     by_dialogue e = rw (ne_eqb (get_or l 0 0) 0 a, eq-eqb (get_or l 0 0) 1 e)
 
-    pub by_component : (get_or l 0 0 ≡ 1 → ⊥) → (i : InvokeId) → i ≡ id_field (id_told (get_or l 2 0) (get_or l 3 0)) → Answer.RejectProblem problem (get_or l 1 0) i ≡ by_owner problem cause (owner_in l) (id_in l)
+    pub by_component : (get_or l 0 0 ≡ 1 → ⊥) → (i : Optional ℤ) → i ≡ id_field (id_told (get_or l 2 0) (get_or l 3 0)) → Answer.RejectProblem problem (get_or l 1 0) i ≡ by_owner problem cause (owner_in l) (id_in l)
     unfolding by_owner owner_in id_in id_told
     by_component b i is = rw (ne_eqb (get_or l 0 0) 0 a, ne_eqb (get_or l 0 0) 1 b, is)
 
@@ -64,7 +66,7 @@ module _ (m : List ℕ) where
       go false q = unfold located_up_to check in (let z : fault FaultKind.Overlong 255 Owner.portion none none ≡ f = cc in rw (← z) (omega arith))
 
   module _ (out : List ℕ) (r : ℕ) (number : Answers m (located_up_to the93 m) r) (told : Blamed (located_up_to the93 m) out) where
-    pub refused_as : (k : FaultKind) → k ≡ kind_from r → (o : OptionalOrig) → OrigTold o (located_up_to the93 m) → (g : Ground) → g ≡ ground_of k → (a : Answer) → a ≡ answer_for g (owner_in out) (id_in out)
+    pub refused_as : (k : FaultKind) → k ≡ kind_from r → (o : Optional OrigTransactionId) → OrigTold o (located_up_to the93 m) → (g : Ground) → g ≡ ground_of k → (a : Answer) → a ≡ answer_for g (owner_in out) (id_in out)
         → RefusedAs (record { kind = k; place = r % opening; orig = o; answer = a }) (located_up_to the93 m)
     unfolding Placed Blamed Blames OrigTold RefusedAs refusal_of
     refused_as k is o carries g ground a answer = go (located_up_to the93 m) refl number told carries

@@ -8,7 +8,7 @@ use native.Mathlib.Omega.{arith}
 use lib.ListN.{length, get_or, set}
 use lib.Dec.{eqb}
 use lib.IntN.{ℤ}
-use borrow.Author.Tests.{eqb-true, ne_eqb}
+use borrow.Author.Tests.{eqb-true, eqb-false, ne_eqb}
 use Rattle.base.specs.Number.{top_of, bits_at}
 use Rattle.element.specs.declared.{FaultKind.FaultKind, EndRead.EndRead, TagRead.TagRead}
 use Rattle.element.specs.Element.{constructor_of}
@@ -169,6 +169,15 @@ module _ (tag : ℕ) (m : List ℕ) (at stop r : ℕ) (old new : List ℕ) where
       go : (d : Bool) → eqb tag 162 ≡ d → (d || eqb tag 167) ≡ true → Contents
       go true i o = by_name (λ v. last v.0 v.1) _ _ (ap component_body_of (eqb-true tag 162 i)) (λ v. ap (λ (a : ℕ). lay_both lay_id lay_returned v (set old 0 a)) (eqb-true tag 162 i)) e
       go false i o = by_name (λ v. not_last v.0 v.1) _ _ (ap component_body_of (eqb-true tag 167 o)) (λ v. ap (λ (a : ℕ). lay_both lay_id lay_returned v (set old 0 a)) (eqb-true tag 167 o)) e
+
+-- the invoke ID, which all but a Reject must have, cannot be read
+pub id_far : (tag : ℕ) (m : List ℕ) (at stop r : ℕ) (old new : List ℕ) → (tag ≡ 164 → ⊥) → (component_item the93).mine tag ≡ true → Does untold lay_id id_item m at stop r (set old 0 tag) new → Far r → DoesAll untold lay_component (component_body_of tag) m at stop r old new
+id_far tag m at stop r old new not_164 mine e f = go (eqb tag 161) (eqb tag 163) refl refl
+  where
+    go : (b c : Bool) → eqb tag 161 ≡ b → eqb tag 163 ≡ c → DoesAll untold lay_component (component_body_of tag) m at stop r old new
+    go true c i j = of_invoke tag m at stop r old new (eqb-true tag 161 i) (id_fault linked_body (lay_both lay_linked (lay_coded false)) _ _ _ _ _ _ e f)
+    go false true i j = of_error tag m at stop r old new (eqb-true tag 163 j) (id_fault (coded_body false 13) (lay_coded false) _ _ _ _ _ _ e f)
+    go false false i j = of_result tag m at stop r old new (eqb-false tag 161 i) (eqb-false tag 163 j) not_164 mine (id_fault results_body lay_returned _ _ _ _ _ _ e f)
 
 -- A component that must stand here
 

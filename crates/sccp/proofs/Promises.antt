@@ -1,4 +1,5 @@
 -- What reading and writing a unitdata promise: document 02, §6. Assumes nothing.
+use Rattle.std.specs.Prelude.{Result, Ok, Err}
 use Prim.Native.Nat.{ℕ, ◌≤◌, ◌<◌}
 use native.Mathlib.Omega.{arith}
 use mathlib.Core.Path.{◌≡◌, refl, sym, ap, ◌∙◌}
@@ -8,7 +9,7 @@ use mathlib.Core.List.{List}
 use lib.ListN.{length, get_or, drop}
 use lib.Dec.{leb, eqb}
 use borrow.Author.Tests.{eqb-true, eq-eqb, leb-true, leb-false, le-leb, lt-leb}
-use Rattle.sccp.specs.declared.{Unitdata.Unitdata, UnitdataFault.UnitdataFault, UnitdataRead.UnitdataRead, UnitdataWriteFault.UnitdataWriteFault, UnitdataWritten.UnitdataWritten}
+use Rattle.sccp.specs.declared.{Unitdata.Unitdata, UnitdataFault.UnitdataFault, UnitdataWriteFault.UnitdataWriteFault}
 use Rattle.sccp.specs.Unitdata.{part_at, inside, separate, addressed, unless, judged, read_unitdata, unitdata_number, unitdata_status}
 use Rattle.sccp.specs.Standing.{Inside, Separate, Addressed, unitdata_at, Stands, Ranged, laid_out, octets_of}
 use Rattle.sccp.specs.Writing.{unitdata_octets, in_range, writing_unitdata, behind, leaves_unitdata, unitdata_write_number, unitdata_write_status}
@@ -19,9 +20,9 @@ use Rattle.sccp.proofs.Standing.{named_is, inside_exactly, separate_exactly, add
 -- Reading
 
 -- what is not refused has passed the test
-passed : {u : Unitdata} (b : Bool) (f : UnitdataFault) (r : UnitdataRead) → unless b (UnitdataRead.Refused f) r ≡ UnitdataRead.Read u → (b ≡ true) × (r ≡ UnitdataRead.Read u)
+passed : {u : Unitdata} (b : Bool) (f : UnitdataFault) (r : Result Unitdata UnitdataFault) → unless b (Err f) r ≡ Ok u → (b ≡ true) × (r ≡ Ok u)
 passed true f r e = (refl, e)
-passed false f r e = let z : ◌≡◌ {A = ℕ} 0 1 = cc in absurd (omega arith)
+passed false f r e = absurd cc
 
 -- the numbers by the four tests, and which of them fails first
 abbrev ladder : Bool → Bool → Bool → Bool → ℕ
@@ -29,11 +30,11 @@ ladder t l s a = cond t (cond l (cond s (cond a 0 34) 33) 32) 31
 
 first_fails : (t l s a : Bool)
     → (ladder t l s a ≡ 31 → t ≡ false) × (ladder t l s a ≡ 32 → (t ≡ true) × (l ≡ false)) × (ladder t l s a ≡ 33 → (t ≡ true) × (l ≡ true) × (s ≡ false)) × (ladder t l s a ≡ 34 → (t ≡ true) × (l ≡ true) × (s ≡ true) × (a ≡ false))
-first_fails false l s a = (λ e. refl, λ e. absurd (omega arith), λ e. absurd (omega arith), λ e. absurd (omega arith))
-first_fails true false s a = (λ e. absurd (omega arith), λ e. (refl, refl), λ e. absurd (omega arith), λ e. absurd (omega arith))
-first_fails true true false a = (λ e. absurd (omega arith), λ e. absurd (omega arith), λ e. (refl, refl, refl), λ e. absurd (omega arith))
-first_fails true true true false = (λ e. absurd (omega arith), λ e. absurd (omega arith), λ e. absurd (omega arith), λ e. (refl, refl, refl, refl))
-first_fails true true true true = (λ e. absurd (omega arith), λ e. absurd (omega arith), λ e. absurd (omega arith), λ e. absurd (omega arith))
+first_fails false l s a = grind arith
+first_fails true false s a = grind arith
+first_fails true true false a = grind arith
+first_fails true true true false = grind arith
+first_fails true true true true = grind arith
 
 -- a test that fails, and what it tests
 fails : {b : Bool} {P : Type 0} → ((b ≡ true) ↔ P) → b ≡ false → P → ⊥
@@ -60,14 +61,14 @@ module _ (m : List ℕ) where
   sent = addressed (part_at m 2) (part_at m 3)
 
   -- a message is read exactly if it is a unitdata of the page, and as that
-  stands : (u : Unitdata) → read_unitdata m ≡ UnitdataRead.Read u → Stands m u
+  stands : (u : Unitdata) → read_unitdata m ≡ Ok u → Stands m u
   unfolding read_unitdata judged
   stands u e =
       let a = passed typed UnitdataFault.OtherType _ e in
       let b = passed lies UnitdataFault.PastEnd _ a.1 in
       let c = passed disjoint UnitdataFault.Overlap _ b.1 in
       let d = passed sent UnitdataFault.EmptyAddress _ c.1 in
-      let q : UnitdataRead.Read (unitdata_at m) ≡ UnitdataRead.Read u = d.1 in
+      let q : Ok (unitdata_at m) ≡ Ok u = d.1 in
       let s : unitdata_at m ≡ u = cc in
       let w : Stands m (unitdata_at m) = record {
         typed = eqb-true (get_or m 0 0) 9 a.0;
@@ -82,14 +83,14 @@ module _ (m : List ℕ) where
   is_named : (u : Unitdata) → Stands m u → u ≡ unitdata_at m
   is_named u s = rw (← s.classed, ← named_is m 2 s.lies.called_lies, ← named_is m 3 s.lies.calling_lies, ← named_is m 4 s.lies.data_lies)
 
-  all_pass : Stands m (unitdata_at m) → read_unitdata m ≡ UnitdataRead.Read (unitdata_at m)
+  all_pass : Stands m (unitdata_at m) → read_unitdata m ≡ Ok (unitdata_at m)
   unfolding read_unitdata judged
   all_pass s = rw (eq-eqb (get_or m 0 0) 9 s.typed, (inside_exactly m).1 s.lies, (separate_exactly m).1 s.separate, (addressed_exactly m).1 s.addressed)
 
-  reads : (u : Unitdata) → Stands m u → read_unitdata m ≡ UnitdataRead.Read u
-  reads u s = let e = is_named u s in let w : Stands m (unitdata_at m) = rw e at s in all_pass w ∙ ap UnitdataRead.Read (sym e)
+  reads : (u : Unitdata) → Stands m u → read_unitdata m ≡ Ok u
+  reads u s = let e = is_named u s in let w : Stands m (unitdata_at m) = rw e at s in all_pass w ∙ ap Ok (sym e)
 
-  pub read_exactly : (u : Unitdata) → (read_unitdata m ≡ UnitdataRead.Read u) ↔ Stands m u
+  pub read_exactly : (u : Unitdata) → (read_unitdata m ≡ Ok u) ↔ Stands m u
   read_exactly u = (stands u, reads u)
 
   -- no octets are two unitdata
@@ -101,7 +102,7 @@ module _ (m : List ℕ) where
   unfolding read_unitdata judged unitdata_status unitdata_number
   status_is = by typed lies disjoint sent
     where
-      by : (t l s a : Bool) → unitdata_status (unless t (UnitdataRead.Refused UnitdataFault.OtherType) (unless l (UnitdataRead.Refused UnitdataFault.PastEnd) (unless s (UnitdataRead.Refused UnitdataFault.Overlap) (unless a (UnitdataRead.Refused UnitdataFault.EmptyAddress) (UnitdataRead.Read (unitdata_at m)))))) ≡ ladder t l s a
+      by : (t l s a : Bool) → unitdata_status (unless t (Err UnitdataFault.OtherType) (unless l (Err UnitdataFault.PastEnd) (unless s (Err UnitdataFault.Overlap) (unless a (Err UnitdataFault.EmptyAddress) (Ok (unitdata_at m)))))) ≡ ladder t l s a
       by false l s a = refl
       by true false s a = refl
       by true true false a = refl
@@ -145,9 +146,9 @@ abbrev rungs : Bool → Bool → ℕ
 rungs t r = cond t (cond r 0 25) 35
 
 writes_first : (t r : Bool) → (rungs t r ≡ 35 → t ≡ false) × (rungs t r ≡ 25 → (t ≡ true) × (r ≡ false))
-writes_first false r = (λ e. refl, λ e. absurd (omega arith))
-writes_first true false = (λ e. absurd (omega arith), λ e. (refl, refl))
-writes_first true true = (λ e. absurd (omega arith), λ e. absurd (omega arith))
+writes_first false r = grind arith
+writes_first true false = grind arith
+writes_first true true = grind arith
 
 module _ (c : ℕ) (a b d out : List ℕ) where
   abbrev ok : Bool
@@ -156,7 +157,7 @@ module _ (c : ℕ) (a b d out : List ℕ) where
   abbrev n : ℕ
   n = length (unitdata_octets c a b d)
 
-  abbrev answer : UnitdataWritten
+  abbrev answer : Result ℕ UnitdataWriteFault
   answer = writing_unitdata c a b d (length out)
 
   range_exactly : (ok ≡ true) ↔ Ranged (length a) (length b) (length d)
@@ -169,7 +170,7 @@ module _ (c : ℕ) (a b d out : List ℕ) where
   unfolding writing_unitdata unitdata_write_status unitdata_write_number
   status_by = by ok (leb n (length out))
     where
-      by : (t r : Bool) → unitdata_write_status (unless t (UnitdataWritten.Refused UnitdataWriteFault.OutOfRange) (unless r (UnitdataWritten.Refused UnitdataWriteFault.NoRoom) (UnitdataWritten.Length n))) ≡ rungs t r
+      by : (t r : Bool) → unitdata_write_status (unless t (Err UnitdataWriteFault.OutOfRange) (unless r (Err UnitdataWriteFault.NoRoom) (Ok n))) ≡ rungs t r
       by false r = refl
       by true false = refl
       by true true = refl
@@ -186,21 +187,21 @@ module _ (c : ℕ) (a b d out : List ℕ) where
   )
 
   -- written exactly otherwise: 8 octets and those of the parts, from the front of the buffer
-  pub written_exactly : (k : ℕ) → (answer ≡ UnitdataWritten.Length k) ↔ (Ranged (length a) (length b) (length d) × (k ≡ n) × (n ≤ length out))
+  pub written_exactly : (k : ℕ) → (answer ≡ Ok k) ↔ (Ranged (length a) (length b) (length d) × (k ≡ n) × (n ≤ length out))
   unfolding writing_unitdata
   written_exactly k = (by ok refl (leb n (length out)) refl, λ h. rw (range_exactly.1 h.0, le-leb n (length out) h.2, h.1))
     where
-      by : (t : Bool) → ok ≡ t → (r : Bool) → leb n (length out) ≡ r → unless t (UnitdataWritten.Refused UnitdataWriteFault.OutOfRange) (unless r (UnitdataWritten.Refused UnitdataWriteFault.NoRoom) (UnitdataWritten.Length n)) ≡ UnitdataWritten.Length k → Ranged (length a) (length b) (length d) × (k ≡ n) × (n ≤ length out)
-      by false f r g e = let z : ◌≡◌ {A = ℕ} 0 1 = cc in absurd (omega arith)
-      by true f false g e = let z : ◌≡◌ {A = ℕ} 0 1 = cc in absurd (omega arith)
+      by : (t : Bool) → ok ≡ t → (r : Bool) → leb n (length out) ≡ r → unless t (Err UnitdataWriteFault.OutOfRange) (unless r (Err UnitdataWriteFault.NoRoom) (Ok n)) ≡ Ok k → Ranged (length a) (length b) (length d) × (k ≡ n) × (n ≤ length out)
+      by false f r g e = absurd cc
+      by true f false g e = absurd cc
       by true f true g e = (range_exactly.0 f, cc, leb-true n (length out) g)
 
-  pub refused_leaves : (f : UnitdataWriteFault) → answer ≡ UnitdataWritten.Refused f → leaves_unitdata c a b d out ≡ out
+  pub refused_leaves : (f : UnitdataWriteFault) → answer ≡ Err f → leaves_unitdata c a b d out ≡ out
   unfolding leaves_unitdata behind
   refused_leaves f e = rw e
 
   -- what the buffer then holds is read back, and its three parts are those written
-  pub written_reads : (k : ℕ) → answer ≡ UnitdataWritten.Length k → (read_unitdata (leaves_unitdata c a b d out) ≡ UnitdataRead.Read (laid_out c a b d)) × (octets_of (leaves_unitdata c a b d out) (laid_out c a b d).called ≡ a) × (octets_of (leaves_unitdata c a b d out) (laid_out c a b d).calling ≡ b) × (octets_of (leaves_unitdata c a b d out) (laid_out c a b d).userdata ≡ d)
+  pub written_reads : (k : ℕ) → answer ≡ Ok k → (read_unitdata (leaves_unitdata c a b d out) ≡ Ok (laid_out c a b d)) × (octets_of (leaves_unitdata c a b d out) (laid_out c a b d).called ≡ a) × (octets_of (leaves_unitdata c a b d out) (laid_out c a b d).calling ≡ b) × (octets_of (leaves_unitdata c a b d out) (laid_out c a b d).userdata ≡ d)
   unfolding leaves_unitdata behind
   written_reads k e =
       let s = parts_stand c a b d (drop k out) in

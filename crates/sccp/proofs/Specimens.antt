@@ -1,17 +1,18 @@
 -- Unitdata that turn on what the page leaves open (docs/DECISIONS.md), read and written, each table under one statement; the check computes them.
 -- Assumes nothing.
+use Rattle.sccp.specs.declared.{Unitdata.Unitdata, UnitdataFault.UnitdataFault, UnitdataWriteFault.UnitdataWriteFault}
+use Rattle.std.specs.Prelude.{Result, Ok, Err}
 use Prim.Native.Nat.{ℕ}
 use mathlib.Core.Path.{◌≡◌, refl}
 use mathlib.Core.List.{List, [], ◌∷◌, ◌++◌, map}
 use lib.ListN.{take, replicate}
-use Rattle.sccp.specs.declared.{UnitdataRead.UnitdataRead, UnitdataWritten.UnitdataWritten}
 use Rattle.sccp.specs.Unitdata.{apart, separate, judged, read_unitdata, unitdata_number}
 use Rattle.sccp.specs.Writing.{unitdata_octets, in_range, writing_unitdata, behind, leaves_unitdata, unitdata_write_number}
 
 -- the number of a refusal; or 0, class, and place and length of called address, calling address and data
-abbrev pub told_read : UnitdataRead → List ℕ
-told_read (UnitdataRead.Refused f) = unitdata_number f ∷ []
-told_read (UnitdataRead.Read u) = 0 ∷ u.class ∷ u.called.place ∷ u.called.len ∷ u.calling.place ∷ u.calling.len ∷ u.userdata.place ∷ u.userdata.len ∷ []
+abbrev pub told_read : Result Unitdata UnitdataFault → List ℕ
+told_read (Err f) = unitdata_number f ∷ []
+told_read (Ok u) = 0 ∷ u.class ∷ u.called.place ∷ u.called.len ∷ u.calling.place ∷ u.calling.len ∷ u.userdata.place ∷ u.userdata.len ∷ []
 
 abbrev pub readings : List (List ℕ × List ℕ)
 readings =
@@ -55,9 +56,9 @@ pub record Sizes : Type 0 where
   pub room : ℕ
 
 -- the number of a refusal, or 0 and the length; then the first five octets of the buffer
-abbrev pub told_written : UnitdataWritten → List ℕ
-told_written (UnitdataWritten.Refused f) = unitdata_write_number f ∷ []
-told_written (UnitdataWritten.Length n) = 0 ∷ n ∷ []
+abbrev pub told_written : Result ℕ UnitdataWriteFault → List ℕ
+told_written (Err f) = unitdata_write_number f ∷ []
+told_written (Ok n) = 0 ∷ n ∷ []
 
 abbrev pub written : Sizes → List ℕ
 written s =

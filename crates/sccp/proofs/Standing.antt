@@ -5,6 +5,7 @@ use mathlib.Core.Path.{◌≡◌, refl}
 use mathlib.Core.Logic.{◌↔◌}
 use mathlib.Core.Bool.{Bool, true, false, ◌&&◌, ◌||◌, and-eq-true_iff}
 use mathlib.Core.List.{List}
+use Rattle.std.proofs.lemmas.Bool.Decides.{nat_tests}
 use lib.ListN.{length, get_or}
 use lib.Dec.{ltb, leb}
 use borrow.Author.Tests.{ltb-true, ltb-false, leb-true, leb-false, lt-ltb, le-leb}
@@ -43,11 +44,7 @@ module _ (p : Part) (h : 1 ≤ p.place) where
   module _ (q : Part) (i : 1 ≤ q.place) where
     pub test_disjoint : apart p q ≡ true → Disjoint p q
     unfolding apart Disjoint Covers
-    test_disjoint e k c d = by (ltb (p.place + p.len) q.place) refl e
-      where
-        by : (b : Bool) → ltb (p.place + p.len) q.place ≡ b → (b || ltb (q.place + q.len) p.place) ≡ true → ⊥
-        by true f g = omega (arith, c.0, c.1, d.0, d.1, ltb-true (p.place + p.len) q.place f)
-        by false f g = omega (arith, c.0, c.1, d.0, d.1, ltb-true (q.place + q.len) p.place g)
+    test_disjoint e k c d = grind (arith, nat_tests)
 
     -- if neither ends before the other begins, the later length octet belongs to both
     pub disjoint_test : Disjoint p q → apart p q ≡ true
@@ -79,30 +76,21 @@ module _ (m : List ℕ) where
 
   pub inside_exactly : ((inside m a && (inside m b && inside m d)) ≡ true) ↔ Inside m (unitdata_at m)
   inside_exactly = (
-    λ e.
-        let (f, r) = (and-eq-true_iff (inside m a) (inside m b && inside m d)).0 e in
-        let (g, h) = (and-eq-true_iff (inside m b) (inside m d)).0 r in
-        record { called_lies = named m 2 f; calling_lies = named m 3 g; data_lies = named m 4 h },
+    λ e. record { called_lies = named m 2 (grind (arith, nat_tests)); calling_lies = named m 3 (grind (arith, nat_tests)); data_lies = named m 4 (grind (arith, nat_tests)) },
     λ i. both (named_inside m 2 i.called_lies) (both (named_inside m 3 i.calling_lies) (named_inside m 4 i.data_lies)),
   )
 
   pub separate_exactly : (separate a b d ≡ true) ↔ Separate (unitdata_at m)
   unfolding separate
   separate_exactly = (
-    λ e.
-        let (f, r) = (and-eq-true_iff (clear a) (clear b && (clear d && (apart a b && (apart a d && apart b d))))).0 e in
-        let (g, s) = (and-eq-true_iff (clear b) (clear d && (apart a b && (apart a d && apart b d)))).0 r in
-        let (h, t) = (and-eq-true_iff (clear d) (apart a b && (apart a d && apart b d))).0 s in
-        let (i, u) = (and-eq-true_iff (apart a b) (apart a d && apart b d)).0 t in
-        let (j, k) = (and-eq-true_iff (apart a d) (apart b d)).0 u in
-        record {
-          called_clear = test_clear a (omega arith) f;
-          calling_clear = test_clear b (omega arith) g;
-          data_clear = test_clear d (omega arith) h;
-          addresses = test_disjoint a (omega arith) b (omega arith) i;
-          called_data = test_disjoint a (omega arith) d (omega arith) j;
-          calling_data = test_disjoint b (omega arith) d (omega arith) k;
-        },
+    λ e. record {
+      called_clear = test_clear a (omega arith) (grind (arith, nat_tests));
+      calling_clear = test_clear b (omega arith) (grind (arith, nat_tests));
+      data_clear = test_clear d (omega arith) (grind (arith, nat_tests));
+      addresses = test_disjoint a (omega arith) b (omega arith) (grind (arith, nat_tests));
+      called_data = test_disjoint a (omega arith) d (omega arith) (grind (arith, nat_tests));
+      calling_data = test_disjoint b (omega arith) d (omega arith) (grind (arith, nat_tests));
+    },
     λ s.
         both (clear_test a (omega arith) s.called_clear)
         (both (clear_test b (omega arith) s.calling_clear)
@@ -113,8 +101,6 @@ module _ (m : List ℕ) where
 
   pub addressed_exactly : (addressed a b ≡ true) ↔ Addressed (unitdata_at m)
   addressed_exactly = (
-    λ e.
-        let (f, g) = (and-eq-true_iff (leb 1 a.len) (leb 1 b.len)).0 e in
-        record { called_some = leb-true 1 a.len f; calling_some = leb-true 1 b.len g },
-    λ s. both (le-leb 1 a.len s.called_some) (le-leb 1 b.len s.calling_some),
+    λ e. record { called_some = grind (arith, nat_tests); calling_some = grind (arith, nat_tests) },
+    λ s. grind (arith, nat_tests),
   )

@@ -1,4 +1,5 @@
 -- What is written is read back, whatever stands behind it. Assumes nothing.
+use Rattle.std.specs.Prelude.{Ok}
 use Prim.Native.Nat.{ℕ, suc, ◌+◌, ◌≤◌, ◌<◌}
 use native.Mathlib.Omega.{arith}
 use native.Mathlib.Nat.{add-zero}
@@ -8,15 +9,15 @@ use mathlib.Core.Bool.{true, ◌&&◌}
 use mathlib.Core.List.{List, [], ◌∷◌, ◌++◌, append_assoc}
 use lib.ListN.{length, get_or, drop, length-append}
 use lib.Seq.{get_or-drop, drop-drop, drop-append_seam, take-append_seam}
-use borrow.Author.Tests.{lt-ltb, le-leb, eq-eqb}
+use borrow.Author.Tests.{eq-eqb}
+use Rattle.std.proofs.lemmas.Bool.Decides.{nat_tests}
 use Rattle.base.specs.Value.{Every}
 use Rattle.base.proofs.Numbers.{Octets, octets_append}
-use Rattle.sccp.specs.declared.{Part.Part, Unitdata.Unitdata, UnitdataRead.UnitdataRead}
+use Rattle.sccp.specs.declared.{Part.Part, Unitdata.Unitdata}
 use Rattle.sccp.specs.Unitdata.{part_at, inside, addressed, apart, separate, judged, read_unitdata}
 use Rattle.sccp.specs.Standing.{laid_out, octets_of}
 use Rattle.sccp.specs.Writing.{most_addressed, counted, unitdata_octets, in_range}
 use Rattle.sccp.proofs.Ranges.{ranged, octets_length}
-use Rattle.sccp.proofs.Standing.{both}
 
 -- what stands behind a run of octets, and the octet at a place
 onward : (l s r : List ℕ) (k n : ℕ) → drop k l ≡ s ++ r → n ≡ k + length s → drop n l ≡ r
@@ -30,7 +31,7 @@ module _ (l : List ℕ) where
   part_named : (i k p x : ℕ) → i + get_or l i 0 ≡ k → suc k ≡ p → get_or l k 0 ≡ x → part_at l i ≡ record { place = p; len = x }
   part_named i k p x e g f = rw (e, g, f)
 
-  read_parts : (a b d : Part) → get_or l 0 0 ≡ 9 → part_at l 2 ≡ a → part_at l 3 ≡ b → part_at l 4 ≡ d → (inside l a && (inside l b && inside l d)) ≡ true → separate a b d ≡ true → addressed a b ≡ true → read_unitdata l ≡ UnitdataRead.Read (record { class = get_or l 1 0; called = a; calling = b; userdata = d })
+  read_parts : (a b d : Part) → get_or l 0 0 ≡ 9 → part_at l 2 ≡ a → part_at l 3 ≡ b → part_at l 4 ≡ d → (inside l a && (inside l b && inside l d)) ≡ true → separate a b d ≡ true → addressed a b ≡ true → read_unitdata l ≡ Ok (record { class = get_or l 1 0; called = a; calling = b; userdata = d })
   unfolding read_unitdata judged
   read_parts a b d t e f g i s n =
       let i' : (inside l (part_at l 2) && (inside l (part_at l 3) && inside l (part_at l 4))) ≡ true = rw (← e, ← f, ← g) at i in
@@ -84,21 +85,18 @@ module _ (c : ℕ) (a b d rest : List ℕ) where
   u = laid_out c a b d
 
   inside_all : (inside m u.called && (inside m u.calling && inside m u.userdata)) ≡ true
-  inside_all =
-      let w = whole in
-      rw (le-leb (6 + length a) (length m) (omega arith), le-leb (7 + length a + length b) (length m) (omega arith), le-leb (8 + (length a + length b) + length d) (length m) (omega arith))
+  inside_all = let w = whole in grind (arith, nat_tests)
 
   separate_all : separate u.called u.calling u.userdata ≡ true
   unfolding separate apart
-  separate_all =
-      rw (lt-ltb 5 (7 + length a) (omega arith), lt-ltb 5 (8 + (length a + length b)) (omega arith), lt-ltb (6 + length a) (7 + length a) (omega arith), lt-ltb (6 + length a) (8 + (length a + length b)) (omega arith), lt-ltb (7 + length a + length b) (8 + (length a + length b)) (omega arith))
+  separate_all = grind (arith, nat_tests)
 
   -- what is written is read back
-  pub reads_back : in_range (length a) (length b) (length d) ≡ true → read_unitdata m ≡ UnitdataRead.Read (laid_out c a b d)
+  pub reads_back : in_range (length a) (length b) (length d) ≡ true → read_unitdata m ≡ Ok (laid_out c a b d)
   unfolding unitdata_octets
   reads_back e =
       let r = ranged (length a) (length b) (length d) e in
-      read_parts m u.called u.calling u.userdata refl called_is calling_is data_is inside_all separate_all (both (le-leb 1 (length a) r.called_some) (le-leb 1 (length b) r.calling_some))
+      read_parts m u.called u.calling u.userdata refl called_is calling_is data_is inside_all separate_all (grind (arith, nat_tests))
 
 -- Pointers
 

@@ -1,8 +1,8 @@
 -- Reading SCCP unitdata, message type 09 of Recommendation Q.713: document 02, §6. Places count from 0. Assumes nothing: these are definitions.
-use Rattle.std.specs.Prelude.{ℕ, suc, ◌+◌}
+use Rattle.std.specs.Prelude.{Result, Ok, Err, ℕ, suc, ◌+◌}
 use mathlib.Core.{Bool.Bool, Bool.◌&&◌, Bool.◌||◌, Bool.cond, List.List}
 use lib.{ListN.length, ListN.get_or, Dec.leb, Dec.ltb, Dec.eqb}
-use Rattle.sccp.specs.declared.{Part.Part, UnitdataFault.UnitdataFault, UnitdataRead.UnitdataRead}
+use Rattle.sccp.specs.declared.{Part.Part, Unitdata.Unitdata, UnitdataFault.UnitdataFault}
 
 -- the numbers of document 02
 unfoldable pub unitdata_number : UnitdataFault → ℕ
@@ -48,23 +48,23 @@ abbrev pub unless : {A : Type 0} → Bool → A → A → A
 unless b this otherwise = cond b otherwise this
 
 -- parts that lie in the message: 33, then 34
-unfoldable pub judged : ℕ → Part → Part → Part → UnitdataRead
+unfoldable pub judged : ℕ → Part → Part → Part → Result Unitdata UnitdataFault
 judged c a b d =
-    unless (separate a b d) (UnitdataRead.Refused UnitdataFault.Overlap)
-    (unless (addressed a b) (UnitdataRead.Refused UnitdataFault.EmptyAddress)
-    (UnitdataRead.Read (record { class = c; called = a; calling = b; userdata = d })))
+    unless (separate a b d) (Err UnitdataFault.Overlap)
+    (unless (addressed a b) (Err UnitdataFault.EmptyAddress)
+    (Ok (record { class = c; called = a; calling = b; userdata = d })))
 
 -- each number over all three parts before the next; no octets are not type 09
-unfoldable pub read_unitdata : List ℕ → UnitdataRead
+unfoldable pub read_unitdata : List ℕ → Result Unitdata UnitdataFault
 read_unitdata m =
     let a = part_at m 2 in
     let b = part_at m 3 in
     let d = part_at m 4 in
-    unless (eqb (get_or m 0 0) type_octet) (UnitdataRead.Refused UnitdataFault.OtherType)
-    (unless (inside m a && (inside m b && inside m d)) (UnitdataRead.Refused UnitdataFault.PastEnd)
+    unless (eqb (get_or m 0 0) type_octet) (Err UnitdataFault.OtherType)
+    (unless (inside m a && (inside m b && inside m d)) (Err UnitdataFault.PastEnd)
     (judged (get_or m 1 0) a b d))
 
 -- the answer as a number: 0 for a unitdata that was read
-unfoldable pub unitdata_status : UnitdataRead → ℕ
-unitdata_status (UnitdataRead.Read u) = 0
-unitdata_status (UnitdataRead.Refused f) = unitdata_number f
+unfoldable pub unitdata_status : Result Unitdata UnitdataFault → ℕ
+unitdata_status (Ok u) = 0
+unitdata_status (Err f) = unitdata_number f

@@ -1,8 +1,8 @@
 -- Writing SCCP unitdata: document 02, §6. Room is the number of octets there are. Assumes nothing: these are definitions.
-use Rattle.std.specs.Prelude.{ℕ, ◌+◌}
+use Rattle.std.specs.Prelude.{Result, Ok, Err, ℕ, ◌+◌}
 use mathlib.Core.{Bool.Bool, Bool.◌&&◌, List.List, List.◌∷◌, List.◌++◌}
 use lib.{ListN.length, ListN.drop, Dec.leb}
-use Rattle.sccp.specs.declared.{UnitdataWriteFault.UnitdataWriteFault, UnitdataWritten.UnitdataWritten}
+use Rattle.sccp.specs.declared.{UnitdataWriteFault.UnitdataWriteFault}
 use Rattle.sccp.specs.Unitdata.{type_octet, unless}
 
 -- the numbers of document 02
@@ -29,22 +29,22 @@ unfoldable pub in_range : ℕ → ℕ → ℕ → Bool
 in_range a b d = leb 1 a && (leb 1 b && (leb (a + b) most_addressed && leb d most_data))
 
 -- 35 of any part, then 25
-unfoldable pub writing_unitdata : ℕ → List ℕ → List ℕ → List ℕ → ℕ → UnitdataWritten
+unfoldable pub writing_unitdata : ℕ → List ℕ → List ℕ → List ℕ → ℕ → Result ℕ UnitdataWriteFault
 writing_unitdata c a b d room =
     let n = length (unitdata_octets c a b d) in
-    unless (in_range (length a) (length b) (length d)) (UnitdataWritten.Refused UnitdataWriteFault.OutOfRange)
-    (unless (leb n room) (UnitdataWritten.Refused UnitdataWriteFault.NoRoom)
-    (UnitdataWritten.Length n))
+    unless (in_range (length a) (length b) (length d)) (Err UnitdataWriteFault.OutOfRange)
+    (unless (leb n room) (Err UnitdataWriteFault.NoRoom)
+    (Ok n))
 
 -- octets past the unitdata stay; a refusal leaves all as it was
-unfoldable pub behind : UnitdataWritten → List ℕ → List ℕ → List ℕ
-behind (UnitdataWritten.Length n) s out = s ++ drop n out
-behind (UnitdataWritten.Refused f) s out = out
+unfoldable pub behind : Result ℕ UnitdataWriteFault → List ℕ → List ℕ → List ℕ
+behind (Ok n) s out = s ++ drop n out
+behind (Err f) s out = out
 
 unfoldable pub leaves_unitdata : ℕ → List ℕ → List ℕ → List ℕ → List ℕ → List ℕ
 leaves_unitdata c a b d out = behind (writing_unitdata c a b d (length out)) (unitdata_octets c a b d) out
 
 -- the answer as a number: 0 for a unitdata that was written
-unfoldable pub unitdata_write_status : UnitdataWritten → ℕ
-unitdata_write_status (UnitdataWritten.Length n) = 0
-unitdata_write_status (UnitdataWritten.Refused f) = unitdata_write_number f
+unfoldable pub unitdata_write_status : Result ℕ UnitdataWriteFault → ℕ
+unitdata_write_status (Ok n) = 0
+unitdata_write_status (Err f) = unitdata_write_number f

@@ -16,38 +16,18 @@ pub struct Unitdata {
     pub userdata: Part,
 }
 
-// Why octets are no unitdata; document 02 numbers these 31 to 34.
+// Why octets are no unitdata, with the numbers of document 02.
 #[derive(Clone, Copy)]
 pub enum UnitdataFault {
-    OtherType,
-    PastEnd,
-    Overlap,
-    EmptyAddress,
+    OtherType = 31,
+    PastEnd = 32,
+    Overlap = 33,
+    EmptyAddress = 34,
 }
 
-#[derive(Clone, Copy)]
-pub enum UnitdataRead {
-    Refused(UnitdataFault),
-    Read(Unitdata),
-}
-
-// The part that a pointer names, if it lies in the message.
-#[derive(Clone, Copy)]
-pub enum PartRead {
-    PastEnd,
-    Inside(Part),
-}
-
-// Why a unitdata is not written; document 02 numbers these 35 and 25.
+// Why a unitdata is not written, with the numbers of document 02.
 #[derive(Clone, Copy)]
 pub enum UnitdataWriteFault {
-    OutOfRange,
-    NoRoom,
-}
-
-// How many octets were written, or why none were.
-#[derive(Clone, Copy)]
-pub enum UnitdataWritten {
-    Length(usize),
-    Refused(UnitdataWriteFault),
+    OutOfRange = 35,
+    NoRoom = 25,
 }

@@ -2,118 +2,75 @@
 #![tactic(auto)]
 
 ghost use Rattle.std.specs.Prelude.{◌≡◌};
-ghost use Rattle.sccp.specs.Unitdata.{apart, separate, judged, read_unitdata, unitdata_number};
+ghost use Rattle.sccp.specs.Unitdata.{apart, separate, read_unitdata, unitdata_number};
 ghost use Rattle.sccp.specs.inner.Parts.{part_read};
 
-use base::wide;
-use sccp::{Part, PartRead, Unitdata, UnitdataFault, UnitdataRead};
+use sccp::{Part, Unitdata, UnitdataFault};
 
 // The number of a refusal.
+#[tactic(auto, unfolding(sccp::specs::Unitdata::unitdata_number))]
 pub fn unitdata_number(fault: UnitdataFault) -> u8
     ensures { result ≡ unitdata_number fault }
 {
-    match fault {
-        UnitdataFault::OtherType => 31,
-        UnitdataFault::PastEnd => 32,
-        UnitdataFault::Overlap => 33,
-        UnitdataFault::EmptyAddress => 34,
-    }
+    fault as u8
 }
 
-// Each test leaves room for the next sum, so that none wraps.
-fn part_at(message: &[u8], at: usize) -> PartRead
+// The part that the pointer at a place names, if all of it lies in the message.
+#[tactic(auto, unfolding(sccp::specs::inner::Parts::part_read))]
+fn part_at(message: &[u8], at: usize) -> Option<Part>
     ensures { result ≡ part_read message.now at }
 {
-    if message.len() <= at {
-        return PartRead::PastEnd;
-    }
-    let steps = wide(message[at]);
-    if message.len() - at <= steps {
-        return PartRead::PastEnd;
-    }
-    let named = at + steps;
-    let len = wide(message[named]);
-    if message.len() - named <= len {
-        return PartRead::PastEnd;
-    }
-    PartRead::Inside(Part {
-        place: named + 1,
-        len: len,
-    })
+    let named = at + usize::from(*message.get(at)?);
+    let len = usize::from(*message.get(named)?);
+    let place = named + 1;
+    (place + len <= message.len()).then_some(Part { place, len })
 }
 
 // The one that begins first ends before the other's length octet.
+#[tactic(auto, unfolding(sccp::specs::Unitdata::apart))]
 fn are_apart(one: Part, other: Part) -> bool
     ensures { result ≡ apart one other }
 {
     if one.place < other.place {
-        return one.len < other.place - one.place;
+        one.len < other.place - one.place
+    } else {
+        other.len < one.place - other.place
     }
-    other.len < one.place - other.place
 }
 
+#[tactic(auto, unfolding(sccp::specs::Unitdata::separate))]
 fn are_separate(called: Part, calling: Part, userdata: Part) -> bool
     ensures { result ≡ separate called calling userdata }
 {
-    if called.place <= 5 {
-        return false;
-    }
-    if calling.place <= 5 {
-        return false;
-    }
-    if userdata.place <= 5 {
-        return false;
-    }
-    if !are_apart(called, calling) {
-        return false;
-    }
-    if !are_apart(called, userdata) {
-        return false;
-    }
-    are_apart(calling, userdata)
-}
-
-// Parts that lie in the message.
-fn parts_judged(class: u8, called: Part, calling: Part, userdata: Part) -> UnitdataRead
-    ensures { result ≡ judged class called calling userdata }
-{
-    if !are_separate(called, calling, userdata) {
-        return UnitdataRead::Refused(UnitdataFault::Overlap);
-    }
-    if called.len < 1 {
-        return UnitdataRead::Refused(UnitdataFault::EmptyAddress);
-    }
-    if calling.len < 1 {
-        return UnitdataRead::Refused(UnitdataFault::EmptyAddress);
-    }
-    UnitdataRead::Read(Unitdata {
-        class: class,
-        called: called,
-        calling: calling,
-        userdata: userdata,
-    })
+    called.place > 5
+        && calling.place > 5
+        && userdata.place > 5
+        && are_apart(called, calling)
+        && are_apart(called, userdata)
+        && are_apart(calling, userdata)
 }
 
 // A unitdata's class and where its three parts stand, or the refusal.
-pub fn read_unitdata(message: &[u8]) -> UnitdataRead
+#[tactic(auto, unfolding(sccp::specs::Unitdata::read_unitdata, sccp::specs::Unitdata::judged, sccp::specs::inner::Parts::part_read))]
+pub fn read_unitdata(message: &[u8]) -> Result<Unitdata, UnitdataFault>
     ensures { result ≡ read_unitdata message.now }
 {
-    if message.len() == 0 {
-        return UnitdataRead::Refused(UnitdataFault::OtherType);
+    if message.first() != Some(&9) {
+        return Err(UnitdataFault::OtherType);
     }
-    if message[0] != 9 {
-        return UnitdataRead::Refused(UnitdataFault::OtherType);
+    let called = part_at(message, 2).ok_or(UnitdataFault::PastEnd)?;
+    let calling = part_at(message, 3).ok_or(UnitdataFault::PastEnd)?;
+    let userdata = part_at(message, 4).ok_or(UnitdataFault::PastEnd)?;
+    if !are_separate(called, calling, userdata) {
+        return Err(UnitdataFault::Overlap);
     }
-    match part_at(message, 2) {
-        PartRead::PastEnd => UnitdataRead::Refused(UnitdataFault::PastEnd),
-        PartRead::Inside(called) => match part_at(message, 3) {
-            PartRead::PastEnd => UnitdataRead::Refused(UnitdataFault::PastEnd),
-            PartRead::Inside(calling) => match part_at(message, 4) {
-                PartRead::PastEnd => UnitdataRead::Refused(UnitdataFault::PastEnd),
-                PartRead::Inside(userdata) => {
-                    parts_judged(message[1], called, calling, userdata)
-                }
-            },
-        },
+    if called.len == 0 || calling.len == 0 {
+        return Err(UnitdataFault::EmptyAddress);
     }
+    Ok(Unitdata {
+        class: message[1],
+        called,
+        calling,
+        userdata,
+    })
 }

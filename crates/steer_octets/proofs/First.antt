@@ -1,4 +1,5 @@
 -- The key of a message that was read stands in the octets of its record: its tag, and the code in the first row, if there is one. Assumes nothing.
+use Rattle.std.specs.Prelude.{ℤ, Option as Optional, Some, None, Result, Ok, Err}
 use Prim.Native.Nat.{ℕ, zero, suc}
 use native.Mathlib.Omega.{arith}
 use mathlib.Core.Path.{◌≡◌, refl, sym, ap, ◌∙◌}
@@ -10,9 +11,9 @@ use lib.Dec.{eqb}
 use Rattle.base.specs.Value.{Every}
 use Rattle.base.specs.Number.{octets_in}
 use Rattle.primitive.specs.Primitive.{signed_of}
-use Rattle.tcap.specs.declared.{Code.Code, InvokeId.InvokeId, ComponentKind.ComponentKind, Row.Row, Record.Record, Outcome.Outcome}
+use Rattle.tcap.specs.declared.{Code.Code, ComponentKind.ComponentKind, Row.Row, Record.Record, Refusal.Refusal}
 use Rattle.tcap.specs.Record.{blank_row, message_tag}
-use Rattle.tcap.specs.Reading.{reading}
+use Rattle.tcap.specs.Reading.{reading, outcome_of, handed_back}
 use Rattle.layout.specs.Layout.{head_size, most_rows, octet, code_tag, code_span, span_octets, ids_octets, parts_octets, coded_octets, kind_octets, row_octets, rows_octets, head_octets, record_octets}
 use Rattle.layout.specs.Fits.{KindFits, RowFits, RecordFits}
 use Rattle.layout.proofs.RoundTrip.{head_length}
@@ -20,18 +21,18 @@ use Rattle.layout.proofs.Readings.{reading_fits}
 use Rattle.read.specs.Octets.{Held}
 use Rattle.read.proofs.Octets.{count_octet, held_front}
 use Rattle.read.proofs.Few.{reading_few}
-use Rattle.steering.specs.declared.{Rule.Rule, FirstCode.FirstCode, Key.Key, Choice.Choice, Steered.Steered}
-use Rattle.steering.specs.Steering.{local_of, invoked, first_of, key_of, first_fit, answered, steered_by, steering}
-use Rattle.steering.specs.inner.Looked.{first_in, KeyIs}
+use Rattle.steering.specs.declared.{Key.Key}
+use Rattle.steering.specs.Steering.{local_of, invoked, first_of, key_of, keyed}
+use Rattle.steering.specs.inner.Looked.{first_in}
 use Rattle.steering.proofs.Layouts.{signed_back}
 
 -- the code in the octets of a row
-abbrev row_code : List ℕ → FirstCode
-row_code l = cond (eqb (octet l 0) 0xA1) (cond (eqb (octet l 5) 0x02) (FirstCode.Local (signed_of (take 4 (drop 8 l)))) FirstCode.Other) FirstCode.Other
+abbrev row_code : List ℕ → Optional ℤ
+row_code l = cond (eqb (octet l 0) 0xA1) (cond (eqb (octet l 5) 0x02) (Some (signed_of (take 4 (drop 8 l)))) None) None
 
-row_code_lem : (i : InvokeId) (k : ComponentKind) (rest : List ℕ) → KindFits k → row_code (kind_octets i k ++ rest) ≡ invoked k
+row_code_lem : (i : Optional ℤ) (k : ComponentKind) (rest : List ℕ) → KindFits k → row_code (kind_octets i k ++ rest) ≡ invoked k
 unfolding kind_octets ids_octets coded_octets parts_octets span_octets code_tag code_span octets_in invoked local_of
-row_code_lem i (ComponentKind.Invoke l (Code.Local z) p) rest h = ap FirstCode.Local (signed_back z h.1)
+row_code_lem i (ComponentKind.Invoke l (Code.Local z) p) rest h = ap Some (signed_back z h.1)
 row_code_lem i (ComponentKind.Invoke l (Code.Global s) p) rest h = refl
 row_code_lem i (ComponentKind.ResultLast r) rest h = refl
 row_code_lem i (ComponentKind.ReturnError c p) rest h = refl
@@ -44,7 +45,7 @@ rows_code zero rows rest e s h = absurd (false≢true (sym e))
 rows_code (suc n) [] rest e s h = absurd (omega (arith, s))
 rows_code (suc n) (r ∷ rows) rest e s h = rw append_assoc (row_code_lem r.id r.kind (rows_octets (take n rows) ++ rest) h.0.1)
 
-first_row : (o : List ℕ) → first_in o ≡ cond (eqb (octet o 7) 0) FirstCode.Other (row_code (drop 44 o))
+first_row : (o : List ℕ) → first_in o ≡ cond (eqb (octet o 7) 0) None (row_code (drop 44 o))
 unfolding first_in
 first_row o = rw (get_or-drop 44 o 0 0, get_or-drop 44 o 5 0, drop-drop 8 44 o)
 
@@ -61,35 +62,23 @@ module _ (r : Record) (rest : List ℕ) where
   unfolding first_of
   first_octets k f = first_row (record_octets r ++ rest) ∙ rw (k, behind_head) (by_count (eqb r.count 0) refl)
     where
-      by_count : (b : Bool) → eqb r.count 0 ≡ b → cond (eqb r.count 0) FirstCode.Other (row_code (rows_octets (take r.count r.rows) ++ rest)) ≡ cond (eqb r.count 0) FirstCode.Other (invoked (get_or r.rows 0 blank_row).kind)
+      by_count : (b : Bool) → eqb r.count 0 ≡ b → cond (eqb r.count 0) None (row_code (rows_octets (take r.count r.rows) ++ rest)) ≡ cond (eqb r.count 0) None (invoked (get_or r.rows 0 blank_row).kind)
       by_count true e = rw e
       by_count false e = rw e (rows_code r.count r.rows rest e f.sixteen f.rows)
 
-module _ (m new : List ℕ) (o : Outcome) (first : FirstCode) (e : o ≡ (reading m).outcome) (d : first ≡ first_in new) where
-  abbrev told : Key
-  told = record { outcome = o; tag = get_or new 0 0; first = first }
+keyed_read : (x : Result Record Refusal) → outcome_of x ≡ Ok tt → keyed x ≡ Ok (key_of (handed_back x))
+unfolding keyed
+keyed_read (Ok r) a = refl
+keyed_read (Err f) a = let z : ◌≡◌ {A = ℕ} 0 1 = cc in absurd (omega arith)
 
-  by_outcome : (x : Outcome) → (reading m).outcome ≡ x → Held (reading m).outcome (reading m).message new → KeyIs x (reading m) told
-  unfolding KeyIs key_of
-  by_outcome Outcome.Accepted a h =
-      let r = (reading m).message in
-      let rest = drop (length (record_octets r)) new in
-      let k : octet (record_octets r ++ rest) 7 ≡ r.count = count_octet r rest (reading_few m) in
-      let f : first ≡ first_of r.count (get_or r.rows 0 blank_row).kind = d ∙ ap first_in (sym (held_front m new a h)) ∙ first_octets r rest k (reading_fits m a) in
-      let t : get_or new 0 0 ≡ message_tag r.kind = ap (λ (l : List ℕ). get_or l 0 0) (sym (held_front m new a h)) ∙ tag_octet r rest in
-      rw (e, f, t)
-  by_outcome (Outcome.Refused f) a h = e
-
-  -- what was read and what stands in the octets make the key
-  pub key_told : Held (reading m).outcome (reading m).message new → KeyIs (reading m).outcome (reading m) told
-  key_told h = by_outcome (reading m).outcome refl h
-
--- key, choice and answer make the whole: a refusal does not look at the choice
-module _ (m : List ℕ) (rules : List Rule) (key : Key) (choice : Choice) (r : Steered) (e : choice ≡ first_fit rules key.tag key.first) (f : r ≡ answered key.outcome choice) where
-  whole_by : (x : Outcome) → (reading m).outcome ≡ x → KeyIs x (reading m) key → r ≡ steering m rules
-  unfolding KeyIs key_of answered steered_by steering
-  whole_by Outcome.Accepted a k = rw (f, e, k)
-  whole_by (Outcome.Refused g) a k = rw (f, k, a)
-
-  pub whole_answer : KeyIs (reading m).outcome (reading m) key → r ≡ steering m rules
-  whole_answer k = whole_by (reading m).outcome refl k
+-- what was read and what stands in the octets make the key
+pub key_told : (m new : List ℕ) → Ok tt ≡ outcome_of (reading m) → Held (reading m) new → (first : Optional ℤ) → first ≡ first_in new → ◌≡◌ {A = Result Key Refusal} (Ok (record { tag = get_or new 0 0; first = first })) (keyed (reading m))
+unfolding key_of
+key_told m new b h first d =
+    let a : outcome_of (reading m) ≡ Ok tt = sym b in
+    let r = handed_back (reading m) in
+    let rest = drop (length (record_octets r)) new in
+    let k : octet (record_octets r ++ rest) 7 ≡ r.count = count_octet r rest (reading_few m) in
+    let f : first ≡ first_of r.count (get_or r.rows 0 blank_row).kind = d ∙ ap first_in (sym (held_front m new a h)) ∙ first_octets r rest k (reading_fits m a) in
+    let t : get_or new 0 0 ≡ message_tag r.kind = ap (λ (l : List ℕ). get_or l 0 0) (sym (held_front m new a h)) ∙ tag_octet r rest in
+    rw (f, t) (sym (keyed_read (reading m) a))

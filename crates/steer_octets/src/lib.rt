@@ -4,33 +4,30 @@
 ghost use Rattle.std.specs.Prelude.{◌≡◌};
 ghost use Rattle.tcap.specs.Reading.{reading};
 ghost use Rattle.steering.specs.Layout.{rules_in};
-ghost use Rattle.steering.specs.inner.Looked.{KeyIs};
-ghost use Rattle.steering.specs.Steering.{steering};
+ghost use Rattle.steering.specs.Steering.{keyed, steering};
 
-use steering::{Key, Steered, answer, first_in};
+use steering::Key;
+use steering::octets::first_in;
+use tcap::Refusal;
 
-// Reads a message, once, for what the rules look at. Of a refused one nothing but the outcome matters.
-pub fn key_of(message: &[u8]) -> Key
-    ensures { KeyIs (reading message.now).outcome (reading message.now) result }
+// Reads a message, once, for what the rules look at.
+#[tactic(auto, using(crate::proofs::First::key_told), unfolding(steering::specs::Steering::keyed))]
+pub fn key_of(message: &[u8]) -> Result<Key, Refusal>
+    ensures { result ≡ keyed (reading message.now) }
 {
-    let mut octets = [0u8; 428];
-    let outcome = read::read_octets(message, &mut octets);
-    let tag = octets[0];
-    let first = first_in(&octets);
-    Key {
-        outcome: outcome,
-        tag: tag,
-        first: first,
-    }
+    let mut octets = [0; 428];
+    read::read_octets(message, &mut octets)?;
+    Ok(Key {
+        tag: octets[0],
+        first: steering::first_in(&octets),
+    })
 }
 
 // The link of the first rule that fits the message, over rules as octets.
-pub fn steer_octets(message: &[u8], rules: &[u8]) -> Steered
+#[tactic(auto, unfolding(steering::specs::Steering::steering, steering::specs::Steering::steered_by))]
+pub fn steer_octets(message: &[u8], rules: &[u8]) -> Result<Option<u32>, Refusal>
     ensures { result ≡ steering message.now (rules_in rules.now) }
 {
-    let key = key_of(message);
-    let outcome = key.outcome;
-    let first = key.first;
-    let choice = steering::octets::first_in(rules, key.tag, first);
-    answer(outcome, choice)
+    let key = key_of(message)?;
+    Ok(first_in(rules, key.tag, key.first))
 }

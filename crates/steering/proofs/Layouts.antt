@@ -1,5 +1,6 @@
 -- Rules that the layout has room for are read back from their octets: so steering by these octets is steering by the rules.
 -- Assumes nothing.
+use Rattle.std.specs.Prelude.{Option as Optional, Some, None}
 use Prim.Native.Nat.{ℕ, ◌*◌, ◌/◌, ◌≤◌}
 use native.Mathlib.Omega.{arith}
 use mathlib.Core.Path.{◌≡◌, refl}
@@ -12,7 +13,7 @@ use Rattle.base.specs.Number.{number_from, octets_in, top_of, bits_at, holds}
 use Rattle.base.specs.Value.{Every}
 use Rattle.base.proofs.Numbers.{signed_bits, bits_within, top_odd, holds_small, number_octets, length_octets_lem}
 use Rattle.primitive.specs.Primitive.{signed_of}
-use Rattle.steering.specs.declared.{RuleCode.RuleCode, Rule.Rule}
+use Rattle.steering.specs.declared.{Rule.Rule}
 use Rattle.steering.specs.Layout.{rule_size, kind_in, code_in, rule_of, rules_from, rules_in, code_octets, rule_octets, rules_octets, CodeRoom, RuleRoom}
 
 -- a code from its four octets
@@ -22,10 +23,10 @@ signed_back z h =
     let small = holds_small 4 z h in
     rw (length_octets_lem 4 (bits_at (top_of 4) z), number_octets 4 (bits_at (top_of 4) z) (bits_within (top_of 4) z small)) (signed_bits (top_of 4) z small (top_odd 4 (omega arith)))
 
-code_size : (c : RuleCode) → length (code_octets c) ≡ 7
+code_size : (c : Optional ℤ) → length (code_octets c) ≡ 7
 unfolding code_octets
-code_size RuleCode.Any = omega (arith, length_octets_lem 4 0)
-code_size (RuleCode.Local z) = omega (arith, length_octets_lem 4 (bits_at (top_of 4) z))
+code_size None = omega (arith, length_octets_lem 4 0)
+code_size (Some z) = omega (arith, length_octets_lem 4 (bits_at (top_of 4) z))
 
 rule_size_lem : (r : Rule) → length (rule_octets r) ≡ rule_size
 unfolding rule_octets
@@ -37,10 +38,10 @@ link_back n bits rest h l = rw (append_assoc bits (octets_in 4 n) rest, drop_at 
 bits_back : (n : ℕ) (bits rest : List ℕ) → length bits ≡ 4 → take 4 ((bits ++ octets_in 4 n) ++ rest) ≡ bits
 bits_back n bits rest h = rw (append_assoc bits (octets_in 4 n) rest) (take_at bits (octets_in 4 n ++ rest) 4 h)
 
-rule_from : (k n : ℕ) (c : RuleCode) (rest : List ℕ) → CodeRoom c → n ≤ top_of 4 → rule_of ((k ∷ code_octets c ++ octets_in 4 n) ++ rest) ≡ record { kind = k; code = c; link = n }
+rule_from : (k n : ℕ) (c : Optional ℤ) (rest : List ℕ) → CodeRoom c → n ≤ top_of 4 → rule_of ((k ∷ code_octets c ++ octets_in 4 n) ++ rest) ≡ record { kind = k; code = c; link = n }
 unfolding rule_of kind_in code_in code_octets
-rule_from k n RuleCode.Any rest o l = rw (link_back n (octets_in 4 0) rest (length_octets_lem 4 0) l)
-rule_from k n (RuleCode.Local z) rest o l =
+rule_from k n None rest o l = rw (link_back n (octets_in 4 0) rest (length_octets_lem 4 0) l)
+rule_from k n (Some z) rest o l =
     let bits = octets_in 4 (bits_at (top_of 4) z) in
     let size = length_octets_lem 4 (bits_at (top_of 4) z) in
     rw (link_back n bits rest size l, bits_back n bits rest size, signed_back z o)

@@ -1,11 +1,11 @@
 -- The rules that octets hold, in the layout of docs/LAYOUT.md: 12 octets a rule. Octets that are no rule fit nothing, and what is left behind the last whole rule is none.
 -- Assumes nothing: these are definitions.
-use Rattle.std.specs.Prelude.{ℕ, zero, suc, ◌/◌, ◌≤◌}
+use Rattle.std.specs.Prelude.{ℤ, Option as Optional, Some, None, ℕ, zero, suc, ◌/◌, ◌≤◌}
 use mathlib.Core.{Path.◌≡◌, Bool.true, Bool.cond, List.List, List.[], List.◌∷◌, List.◌++◌}
 use lib.{ListN.length, ListN.take, ListN.drop, ListN.get_or, Dec.leb, Dec.eqb}
 use Rattle.base.specs.Number.{number_from, octets_in, top_of, bits_at, holds}
 use Rattle.primitive.specs.Primitive.{signed_of}
-use Rattle.steering.specs.declared.{RuleCode.RuleCode, Rule.Rule}
+use Rattle.steering.specs.declared.{Rule.Rule}
 
 abbrev pub rule_size : ℕ
 rule_size = 12
@@ -18,8 +18,8 @@ no_kind = 255
 unfoldable pub kind_in : ℕ → ℕ → ℕ
 kind_in kind flag = cond (leb flag 1) kind no_kind
 
-unfoldable pub code_in : ℕ → List ℕ → RuleCode
-code_in flag c = cond (eqb flag 0) RuleCode.Any (RuleCode.Local (signed_of c))
+unfoldable pub code_in : ℕ → List ℕ → Optional ℤ
+code_in flag c = cond (eqb flag 0) None (Some (signed_of c))
 
 -- the rule that octets begin with
 unfoldable pub rule_of : List ℕ → Rule
@@ -34,9 +34,9 @@ rules_in o = rules_from (length o / rule_size) o
 
 -- The octets of rules: what is not used is 0
 
-unfoldable pub code_octets : RuleCode → List ℕ
-code_octets RuleCode.Any = 0 ∷ 0 ∷ 0 ∷ octets_in 4 0
-code_octets (RuleCode.Local z) = 1 ∷ 0 ∷ 0 ∷ octets_in 4 (bits_at (top_of 4) z)
+unfoldable pub code_octets : Optional ℤ → List ℕ
+code_octets None = 0 ∷ 0 ∷ 0 ∷ octets_in 4 0
+code_octets (Some z) = 1 ∷ 0 ∷ 0 ∷ octets_in 4 (bits_at (top_of 4) z)
 
 unfoldable pub rule_octets : Rule → List ℕ
 rule_octets r = r.kind ∷ code_octets r.code ++ octets_in 4 r.link
@@ -46,9 +46,9 @@ rules_octets [] = []
 rules_octets (r ∷ rs) = rule_octets r ++ rules_octets rs
 
 -- a rule that the layout has room for: its code and its link in four octets each
-abbrev pub CodeRoom : RuleCode → Type 0
-CodeRoom RuleCode.Any = Unit {0}
-CodeRoom (RuleCode.Local z) = holds 4 z ≡ true
+abbrev pub CodeRoom : Optional ℤ → Type 0
+CodeRoom None = Unit {0}
+CodeRoom (Some z) = holds 4 z ≡ true
 
 abbrev pub RuleRoom : Rule → Type 0
 RuleRoom r = CodeRoom r.code × (r.link ≤ top_of 4)

@@ -1,4 +1,5 @@
 -- The entries that octets hold, one at a time, and the code's comparison of an ID. Assumes nothing.
+use Rattle.std.specs.Prelude.{Some, None}
 use Prim.Native.Nat.{ℕ, zero, suc, ◌+◌, ◌*◌, ◌<◌, ◌≤◌}
 use native.Mathlib.Omega.{arith}
 use native.Mathlib.Nat.{add-zero}
@@ -9,15 +10,12 @@ use lib.ListN.{length, get_or, drop}
 use lib.Seq.{get_or-drop}
 use lib.Dec.{eqb}
 use borrow.Author.Tests.{eqb-true, eqb-false, eq-eqb, ne_eqb}
-use Rattle.transaction_states.specs.declared.{State.State, Event.Event, Move.Move, Room.Room, Deed.Deed}
+use Rattle.transaction_states.specs.declared.{State.State}
 use Rattle.open_transactions.specs.declared.{Entry.Entry}
-use Rattle.transaction_states.specs.Events.{is_open, move_of, moving}
-use Rattle.open_transactions.specs.Table.{blank_entry, is_free, holds, same_id, find_from, other_deed}
-use Rattle.open_transactions.specs.inner.Steps.{Inside}
+use Rattle.transaction_states.specs.Events.{state_in, is_open}
+use Rattle.open_transactions.specs.Table.{blank_entry, is_free, holds, same_id, find_from}
 use Rattle.open_transactions.proofs.Finding.{find_here, find_next, find_none}
-use Rattle.open_transactions.proofs.Doing.{inside_at}
 use Rattle.entry_octets.proofs.Putting.{Octet}
-use Rattle.entry_octets.specs.Entries.{state_in}
 use Rattle.entry_octets.specs.inner.Words.{word_from, word_of, held_in}
 use Rattle.table_layout.specs.Octets.{entry_of, entries_from, entries_in}
 
@@ -38,13 +36,13 @@ pub entry_at : (l : List ℕ) (i : ℕ) (d : Entry) → i < 64 → get_or (entri
 entry_at l i d h = let e : 0 + i ≡ i = omega arith in entry_from l 64 0 i d h ∙ rw e
 
 module _ (t : Entry → Bool) (l : List ℕ) (i : ℕ) where
-  pub at_here : i < 64 → t (entry_of (drop (i * 12) l)) ≡ true → find_from t i (drop i (entries_in l)) ≡ Room.At i
+  pub at_here : i < 64 → t (entry_of (drop (i * 12) l)) ≡ true → find_from t i (drop i (entries_in l)) ≡ Some i
   at_here h e = find_here t (entries_in l) i blank_entry (omega (arith, h, length_entries l 64 0)) (rw (entry_at l i blank_entry h) e)
 
   pub at_next : i < 64 → t (entry_of (drop (i * 12) l)) ≡ false → find_from t i (drop i (entries_in l)) ≡ find_from t (i + 1) (drop (i + 1) (entries_in l))
   at_next h e = find_next t (entries_in l) i blank_entry (omega (arith, h, length_entries l 64 0)) (rw (entry_at l i blank_entry h) e)
 
-  pub at_none : 64 ≤ i → find_from t i (drop i (entries_in l)) ≡ Room.Nowhere
+  pub at_none : 64 ≤ i → find_from t i (drop i (entries_in l)) ≡ None
   at_none h = find_none t (entries_in l) i blank_entry (omega (arith, h, length_entries l 64 0))
 
 -- The state of an entry
@@ -56,10 +54,6 @@ state_at l n = rw (get_or-drop, add-zero)
 pub free_at : (l : List ℕ) (n : ℕ) {s : State} {b c : Bool} → s ≡ state_in (get_or l n 0) → b ≡ is_open s → not b ≡ c → is_free (entry_of (drop n l)) ≡ c
 unfolding is_free
 free_at l n q h e = rw (state_at l n, ← q, ← h) e
-
-pub other_in : (l : List ℕ) (e : Event) (r : Room) (i : ℕ) {s : State} {v : Move} {d : Deed} → Inside r → r ≡ Room.At i → s ≡ state_in (get_or l (i * 12) 0) → v ≡ move_of e s → d ≡ moving i v → d ≡ other_deed (entries_in l) e r
-unfolding other_deed
-other_in l e r i k f q m h = rw (f, entry_at l i blank_entry (inside_at r i f k), state_at l (i * 12), ← q, ← m) h
 
 -- Four octets as one number
 

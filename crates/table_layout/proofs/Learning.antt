@@ -1,4 +1,5 @@
 -- A partner's ID is put beside ours, which stands there. Assumes nothing.
+use Rattle.std.specs.Prelude.{Option as Optional, Some, None, Ok}
 use Prim.Native.Nat.{ℕ, suc, ◌+◌, ◌*◌, ◌<◌, ◌≤◌}
 use native.Mathlib.Omega.{arith}
 use mathlib.Core.Path.{◌≡◌, refl, sym, ◌∙◌}
@@ -9,11 +10,11 @@ use lib.ListN.{length, get_or, set, drop}
 use lib.Seq.{sets, get_or-drop, get_or-set_other, set-get_or}
 use lib.Dec.{eqb}
 use borrow.Author.Tests.{eqb-true}
-use Rattle.transaction_states.specs.declared.{State.State, Event.Event, Move.Move, Room.Room, Begins.Begins, Deed.Deed}
-use Rattle.transaction_states.specs.Events.{is_open, move_of, begins_of, ids_ok, opening, moving}
+use Rattle.transaction_states.specs.declared.{State.State, Event.Event, Move.Move, Deed.Deed}
+use Rattle.transaction_states.specs.Events.{state_in, is_open, move_of, begins_of, ids_ok, opening, moving}
 use Rattle.open_transactions.specs.Table.{blank_entry, is_free, holds, same_id, find_from, begin_deed, other_deed, found_deed, deed_of}
 use Rattle.open_transactions.proofs.Counting.{first_of_lem}
-use Rattle.entry_octets.specs.Entries.{state_in, four_of, entry_octets}
+use Rattle.entry_octets.specs.Entries.{four_of, entry_octets}
 use Rattle.entry_octets.specs.inner.Words.{partner_put}
 use Rattle.table_layout.specs.Octets.{entry_of, entries_in, octets_done}
 use Rattle.table_layout.specs.inner.Steps.{HoldsOurs}
@@ -90,7 +91,7 @@ beside l n o p s =
     (outside (header o p) l n (suc (suc (suc (suc (suc (suc (suc n))))))) (inr (omega arith)) ∙ rw d s.four) ∙
     rw e)
 
-pub learns_done : (l o p : List ℕ) (i : ℕ) (d : Deed) {m : List ℕ} → d ≡ Deed.Learns i → HoldsOurs l o d → m ≡ partner_put l (i * 12) o p → m ≡ octets_done l o p d
+pub learns_done : (l o p : List ℕ) (i : ℕ) (d : Deed) {m : List ℕ} → d ≡ Deed.Learns i → HoldsOurs l o (Ok d) → m ≡ partner_put l (i * 12) o p → m ≡ octets_done l o p (Ok d)
 unfolding octets_done
 learns_done l o p i d e k q =
     let h : holds o (entry_of (drop (i * 12) l)) ≡ true = rw e at k in
@@ -106,16 +107,16 @@ module _ (l : List ℕ) (e : Event) (o p : List ℕ) where
   moving_known i Move.Learn h = h
   moving_known i Move.Close h = tt
 
-  opening_known : (s : State) (r : Room) → HoldsOurs l o (opening s r)
-  opening_known s Room.Nowhere = tt
-  opening_known s (Room.At i) = tt
+  opening_known : (s : State) (r : Optional ℕ) → HoldsOurs l o (opening s r)
+  opening_known s None = tt
+  opening_known s (Some i) = tt
 
-  found_known : (b : Begins) (r : Room) → find_from (holds o) 0 (entries_in l) ≡ r → HoldsOurs l o (found_deed (entries_in l) e b r)
+  found_known : (b : Optional State) (r : Optional ℕ) → find_from (holds o) 0 (entries_in l) ≡ r → HoldsOurs l o (found_deed (entries_in l) e b r)
   unfolding found_deed begin_deed other_deed
-  found_known (Begins.In s) (Room.At i) q = tt
-  found_known (Begins.In s) Room.Nowhere q = opening_known s (find_from is_free 0 (entries_in l))
-  found_known Begins.Never Room.Nowhere q = tt
-  found_known Begins.Never (Room.At i) q =
+  found_known (Some s) (Some i) q = tt
+  found_known (Some s) None q = opening_known s (find_from is_free 0 (entries_in l))
+  found_known None None q = tt
+  found_known None (Some i) q =
       let f = first_of_lem (holds o) i (entries_in l) q in
       let z : i < 64 = omega (arith, f.within, length_entries l 64 0) in
       moving_known i (move_of e (get_or (entries_in l) i blank_entry).state) (rw (entry_at l i blank_entry z) at f.passes)

@@ -1,4 +1,5 @@
 -- The octets' table steps as the table does. Assumes nothing.
+use Rattle.std.specs.Prelude.{Result, Ok, Err}
 use Prim.Native.Nat.{ℕ, suc, ◌+◌, ◌*◌, ◌<◌, ◌≤◌}
 use native.Mathlib.Omega.{arith}
 use native.Mathlib.Nat.{add-zero}
@@ -10,19 +11,19 @@ use lib.ListN.{length, get_or, set, take, drop, replicate, length-set, length-ap
 use lib.Seq.{sets, length-take-le, sets-eq, length-sets, get_or-drop, get_or-set_same, get_or-set_other, ext_get_or, drop-cons, drop-set-add, drop_at, drop-set-lt}
 use lib.Dec.{ltb, eqb}
 use borrow.Author.Tests.{le-ltb, lt-ltb, ltb-true, ltb-false, eqb-true, eqb-false}
-use Rattle.transaction_states.specs.declared.{State.State, Deed.Deed}
+use Rattle.transaction_states.specs.declared.{State.State, TableRefusal.TableRefusal, Deed.Deed}
 use Rattle.open_transactions.specs.declared.{Entry.Entry, Table.Table}
-use Rattle.transaction_states.specs.Events.{told_by}
+use Rattle.transaction_states.specs.Events.{state_in, state_octet, event_in, told_by}
 use Rattle.open_transactions.specs.Table.{blank_entry, empty_table, partner_of, entry_for, active_now, deed_of, done, stepped}
 use Rattle.open_transactions.specs.inner.Steps.{Doable}
 use Rattle.open_transactions.specs.History.{Happening, table_from, reached}
 use Rattle.open_transactions.proofs.Doing.{deed_doable}
-use Rattle.table_layout.specs.declared.{Reply.Reply}
-use Rattle.entry_octets.specs.Entries.{state_in, state_octet, entry_octets, blank_octets}
-use Rattle.table_layout.specs.Octets.{event_in, entry_of, entries_from, entries_in, table_in, octets_done, replying, leaving, reply_number, InTable}
+use Rattle.table_layout.specs.declared.{StepFault.StepFault}
+use Rattle.entry_octets.specs.Entries.{entry_octets, blank_octets}
+use Rattle.table_layout.specs.Octets.{entry_of, entries_from, entries_in, table_in, octets_done, with_fault, replying, leaving, reply_number, InTable}
 use Rattle.table_layout.proofs.Entries.{length_entries, entry_at}
 use Rattle.table_layout.proofs.Learning.{outside}
-use Rattle.table_layout.proofs.Numbers.{reply_room, Fields, taken_fields}
+use Rattle.table_layout.proofs.Numbers.{answer_room, Fields, taken_fields}
 
 -- All zeros is the empty table
 
@@ -95,14 +96,14 @@ unfolding entry_of partner_of
 blanked rest = refl
 
 -- a deed on octets is that deed on the table
-octets_done_lem : (l : List ℕ) → 768 ≤ length l → (o p : List ℕ) (d : Deed) → Doable o p d → table_in (octets_done l o p d) ≡ done (table_in l) o p d
+octets_done_lem : (l : List ℕ) → 768 ≤ length l → (o p : List ℕ) (d : Result Deed TableRefusal) → Doable o p d → table_in (octets_done l o p d) ≡ done (table_in l) o p d
 unfolding octets_done done
-octets_done_lem l h o p (Deed.Refused k) w = refl
-octets_done_lem l h o p (Deed.Opens i s) w = ap (λ (es : List Entry). record { entries = es }) (put_in_room l i w.inside h (entry_octets s o p) refl (entry_for s o p) (made s o p (drop (i * 12 + 12) l)))
-octets_done_lem l h o p (Deed.Keeps i) w = refl
-octets_done_lem l h o p (Deed.Activates i) w = ap (λ (es : List Entry). record { entries = es }) (activate_in_room l i w.inside h)
-octets_done_lem l h o p (Deed.Learns i) w = ap (λ (es : List Entry). record { entries = es }) (put_in_room l i w.inside h (entry_octets State.Active o p) refl (entry_for State.Active o p) (made State.Active o p (drop (i * 12 + 12) l)))
-octets_done_lem l h o p (Deed.Closes i) w = ap (λ (es : List Entry). record { entries = es }) (put_in_room l i w.inside h blank_octets refl blank_entry (blanked (drop (i * 12 + 12) l)))
+octets_done_lem l h o p (Err k) w = refl
+octets_done_lem l h o p (Ok (Deed.Opens i s)) w = ap (λ (es : List Entry). record { entries = es }) (put_in_room l i w.inside h (entry_octets s o p) refl (entry_for s o p) (made s o p (drop (i * 12 + 12) l)))
+octets_done_lem l h o p (Ok (Deed.Keeps i)) w = refl
+octets_done_lem l h o p (Ok (Deed.Activates i)) w = ap (λ (es : List Entry). record { entries = es }) (activate_in_room l i w.inside h)
+octets_done_lem l h o p (Ok (Deed.Learns i)) w = ap (λ (es : List Entry). record { entries = es }) (put_in_room l i w.inside h (entry_octets State.Active o p) refl (entry_for State.Active o p) (made State.Active o p (drop (i * 12 + 12) l)))
+octets_done_lem l h o p (Ok (Deed.Closes i)) w = ap (λ (es : List Entry). record { entries = es }) (put_in_room l i w.inside h blank_octets refl blank_entry (blanked (drop (i * 12 + 12) l)))
 
 -- The octets' table steps as the table does, and answers the same
 
@@ -111,19 +112,20 @@ module _ (l : List ℕ) (h : 768 ≤ length l) (n : ℕ) (o p : List ℕ) where
   unfolding leaving stepped
   steps_alike = rw (le-ltb (length l) 768 h) (octets_done_lem l h o (told_by (event_in n) p) (deed_of (entries_in l) (event_in n) o p) (deed_doable (entries_in l) (event_in n) o p (length_entries l 64 0)))
 
-  pub answers_alike : replying l n o p ≡ Reply.Answer (stepped (table_in l) (event_in n) o p).taken
+  pub answers_alike : replying l n o p ≡ with_fault (stepped (table_in l) (event_in n) o p).taken
   unfolding replying stepped
   answers_alike = rw (le-ltb (length l) 768 h)
 
   -- and its number tells the answer whole: status, deed and entry, which is one of the table's
   pub number_told : let k = (stepped (table_in l) (event_in n) o p).taken in Fields k (reply_number (replying l n o p)) × InTable k
+  unfolding stepped
   number_told =
       let k = (stepped (table_in l) (event_in n) o p).taken in
-      (rw answers_alike (taken_fields k), reply_room l n o p k refl answers_alike)
+      (rw answers_alike (taken_fields k), answer_room l n o p)
 
 -- Too little room: nothing is changed
 
-pub no_room : (l : List ℕ) → length l < 768 → (n : ℕ) (o p : List ℕ) → (replying l n o p ≡ Reply.NoRoom) × (leaving l n o p ≡ l)
+pub no_room : (l : List ℕ) → length l < 768 → (n : ℕ) (o p : List ℕ) → (replying l n o p ≡ Err StepFault.NoRoom) × (leaving l n o p ≡ l)
 unfolding replying leaving
 no_room l h n o p = (rw (lt-ltb (length l) 768 h), rw (lt-ltb (length l) 768 h))
 
@@ -136,23 +138,23 @@ drop_sets : (xs l : List ℕ) (at m : ℕ) → at + length xs ≤ m → drop m (
 drop_sets [] l at m h = refl
 drop_sets (x ∷ xs) l at m h = drop_sets xs (set l at x) (suc at) m (omega (arith, h)) ∙ drop-set-lt m l at x (omega (arith, h))
 
-done_length : (l o p : List ℕ) (d : Deed) → length (octets_done l o p d) ≡ length l
+done_length : (l o p : List ℕ) (d : Result Deed TableRefusal) → length (octets_done l o p d) ≡ length l
 unfolding octets_done
-done_length l o p (Deed.Refused k) = refl
-done_length l o p (Deed.Opens i s) = length-sets l (i * 12) (entry_octets s o p)
-done_length l o p (Deed.Keeps i) = refl
-done_length l o p (Deed.Activates i) = length-set l (i * 12) 3
-done_length l o p (Deed.Learns i) = length-sets l (i * 12) (entry_octets State.Active o p)
-done_length l o p (Deed.Closes i) = length-sets l (i * 12) blank_octets
+done_length l o p (Err k) = refl
+done_length l o p (Ok (Deed.Opens i s)) = length-sets l (i * 12) (entry_octets s o p)
+done_length l o p (Ok (Deed.Keeps i)) = refl
+done_length l o p (Ok (Deed.Activates i)) = length-set l (i * 12) 3
+done_length l o p (Ok (Deed.Learns i)) = length-sets l (i * 12) (entry_octets State.Active o p)
+done_length l o p (Ok (Deed.Closes i)) = length-sets l (i * 12) blank_octets
 
-done_behind : (l o p : List ℕ) (d : Deed) → Doable o p d → drop 768 (octets_done l o p d) ≡ drop 768 l
+done_behind : (l o p : List ℕ) (d : Result Deed TableRefusal) → Doable o p d → drop 768 (octets_done l o p d) ≡ drop 768 l
 unfolding octets_done
-done_behind l o p (Deed.Refused k) w = refl
-done_behind l o p (Deed.Opens i s) w = drop_sets (entry_octets s o p) l (i * 12) 768 (omega (arith, w.inside))
-done_behind l o p (Deed.Keeps i) w = refl
-done_behind l o p (Deed.Activates i) w = drop-set-lt 768 l (i * 12) 3 (omega (arith, w.inside))
-done_behind l o p (Deed.Learns i) w = drop_sets (entry_octets State.Active o p) l (i * 12) 768 (omega (arith, w.inside))
-done_behind l o p (Deed.Closes i) w = drop_sets blank_octets l (i * 12) 768 (omega (arith, w.inside))
+done_behind l o p (Err k) w = refl
+done_behind l o p (Ok (Deed.Opens i s)) w = drop_sets (entry_octets s o p) l (i * 12) 768 (omega (arith, w.inside))
+done_behind l o p (Ok (Deed.Keeps i)) w = refl
+done_behind l o p (Ok (Deed.Activates i)) w = drop-set-lt 768 l (i * 12) 3 (omega (arith, w.inside))
+done_behind l o p (Ok (Deed.Learns i)) w = drop_sets (entry_octets State.Active o p) l (i * 12) 768 (omega (arith, w.inside))
+done_behind l o p (Ok (Deed.Closes i)) w = drop_sets blank_octets l (i * 12) 768 (omega (arith, w.inside))
 
 pub length_stays : (l : List ℕ) (n : ℕ) (o p : List ℕ) → length (leaving l n o p) ≡ length l
 unfolding leaving

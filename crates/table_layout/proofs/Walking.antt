@@ -1,4 +1,5 @@
 -- What a walk over the entries finds. Assumes nothing.
+use Rattle.std.specs.Prelude.{Some}
 use Prim.Native.Nat.{ℕ, zero, suc, ◌+◌, ◌*◌, ◌<◌, ◌≤◌}
 use native.Mathlib.Omega.{arith}
 use native.Mathlib.Nat.{add-zero}
@@ -7,7 +8,6 @@ use mathlib.Core.Bool.{Bool, true, false}
 use mathlib.Core.List.{List}
 use lib.ListN.{length, drop}
 use lib.Seq.{drop-drop}
-use Rattle.transaction_states.specs.declared.{Room.Room}
 use Rattle.open_transactions.specs.Table.{holds, find_from}
 use Rattle.entry_octets.proofs.Putting.{Octet}
 use Rattle.entry_octets.specs.inner.Words.{word_of, held_in, passed_in}
@@ -28,17 +28,17 @@ module _ (l id : List ℕ) (h : Octet l) (k : Octet id) where
       let z : drop 12 (drop (i * 12) l) ≡ drop ((i + 1) * 12) l = drop-drop 12 (i * 12) l ∙ rw q in
       rw (e, z)
 
-  walk_here : (n i : ℕ) → i + n ≤ 64 → passed i n < n → find_from (holds id) i (drop i (entries_in l)) ≡ Room.At (i + passed i n)
+  walk_here : (n i : ℕ) → i + n ≤ 64 → passed i n < n → find_from (holds id) i (drop i (entries_in l)) ≡ Some (i + passed i n)
   unfolding passed_in
   walk_here zero i s t = absurd (omega (arith, t))
   walk_here (suc n) i s t = by_held (held_in (drop (i * 12) l) (word_of id) (length id)) refl (walk_here n (i + 1))
     where
-      by_held : (b : Bool) → held_in (drop (i * 12) l) (word_of id) (length id) ≡ b → (i + 1 + n ≤ 64 → passed (i + 1) n < n → find_from (holds id) (i + 1) (drop (i + 1) (entries_in l)) ≡ Room.At (i + 1 + passed (i + 1) n)) → find_from (holds id) i (drop i (entries_in l)) ≡ Room.At (i + passed i (suc n))
+      by_held : (b : Bool) → held_in (drop (i * 12) l) (word_of id) (length id) ≡ b → (i + 1 + n ≤ 64 → passed (i + 1) n < n → find_from (holds id) (i + 1) (drop (i + 1) (entries_in l)) ≡ Some (i + 1 + passed (i + 1) n)) → find_from (holds id) i (drop i (entries_in l)) ≡ Some (i + passed i (suc n))
       by_held true e r = rw (e, add-zero) (at_here (holds id) l i (omega (arith, s)) (held i e))
       by_held false e r =
           let q = further i n e in
           let z : i + 1 + passed (i + 1) n ≡ i + passed i (suc n) = omega (arith, q) in
-          at_next (holds id) l i (omega (arith, s)) (held i e) ∙ r (omega (arith, s)) (omega (arith, t, q)) ∙ ap Room.At z
+          at_next (holds id) l i (omega (arith, s)) (held i e) ∙ r (omega (arith, s)) (omega (arith, t, q)) ∙ ap Some z
 
   walk_past : (n i : ℕ) → i + n ≤ 64 → n ≤ passed i n → find_from (holds id) i (drop i (entries_in l)) ≡ find_from (holds id) (i + n) (drop (i + n) (entries_in l))
   unfolding passed_in
@@ -57,7 +57,7 @@ module _ (l id : List ℕ) (i : ℕ) {w r : ℕ} {part : List ℕ} (h : Octet l)
   told : r ≡ passed_in (drop (i * 12) l) (word_of id) (length id) 8
   told = p ∙ rw (q, e)
 
-  pub walk_found : r < 8 → find_from (holds id) i (drop i (entries_in l)) ≡ Room.At (i + r)
+  pub walk_found : r < 8 → find_from (holds id) i (drop i (entries_in l)) ≡ Some (i + r)
   walk_found t = rw told (walk_here l id h k 8 i s (omega (arith, t, told)))
 
   pub walk_on : 8 ≤ r → find_from (holds id) i (drop i (entries_in l)) ≡ find_from (holds id) (i + 8) (drop (i + 8) (entries_in l))

@@ -1,27 +1,16 @@
 -- The table of open transactions as octets, in the layout of docs/LAYOUT.md: 64 entries of 12 octets. Assumes nothing: these are definitions.
-use Rattle.std.specs.Prelude.{ℕ, zero, suc, ◌+◌, ◌*◌, ◌<◌}
+use Rattle.std.specs.Prelude.{ℕ, zero, suc, ◌+◌, ◌*◌, ◌<◌, Result, Ok, Err}
 use mathlib.Core.{Bool.cond, List.List, List.[], List.◌∷◌}
-use lib.{ListN.set, ListN.length, ListN.get_or, ListN.drop, Seq.sets, Dec.eqb, Dec.ltb}
-use Rattle.transaction_states.specs.Events.{told_by, taken_of}
-use Rattle.open_transactions.specs.Table.{capacity, partner_of, refusal_number, deed_of}
-use Rattle.transaction_states.specs.declared.{State.State, Event.Event, Deed.Deed, Taken.Taken}
+use lib.{ListN.set, ListN.length, ListN.get_or, ListN.drop, Seq.sets, Dec.ltb}
+use Rattle.transaction_states.specs.Events.{state_in, event_in, told_by, answered, refusal_number}
+use Rattle.open_transactions.specs.Table.{capacity, partner_of, deed_of}
+use Rattle.transaction_states.specs.declared.{State.State, TableRefusal.TableRefusal, Deed.Deed, Taken.Taken}
 use Rattle.open_transactions.specs.declared.{Entry.Entry, Table.Table}
-use Rattle.table_layout.specs.declared.{Reply.Reply}
-use Rattle.entry_octets.specs.Entries.{state_in, entry_octets, blank_octets}
+use Rattle.table_layout.specs.declared.{StepFault.StepFault}
+use Rattle.entry_octets.specs.Entries.{entry_octets, blank_octets}
 
 abbrev pub table_size : ℕ
 table_size = 768
-
--- events 1 to 9 in the page's order, each sent then received; every other number is an event that is not named
-unfoldable pub event_in : ℕ → Event
-event_in n =
-    cond (eqb n 1) Event.BeginSent
-    (cond (eqb n 2) Event.BeginReceived
-    (cond (eqb n 3) Event.ContinueSent
-    (cond (eqb n 4) Event.ContinueReceived
-    (cond (eqb n 5) Event.EndSent
-    (cond (eqb n 6) Event.EndReceived
-    (cond (eqb n 7) Event.AbortSent (cond (eqb n 8) Event.AbortReceived (cond (eqb n 9) Event.LocalClose Event.Other))))))))
 
 -- The table that octets hold
 
@@ -46,17 +35,21 @@ table_in l = record { entries = entries_in l }
 
 -- What is left of the octets, and what is answered
 
-unfoldable pub octets_done : List ℕ → List ℕ → List ℕ → Deed → List ℕ
-octets_done l o p (Deed.Refused k) = l
-octets_done l o p (Deed.Opens i s) = sets l (i * 12) (entry_octets s o p)
-octets_done l o p (Deed.Keeps i) = l
-octets_done l o p (Deed.Activates i) = set l (i * 12) 3
-octets_done l o p (Deed.Learns i) = sets l (i * 12) (entry_octets State.Active o p)
-octets_done l o p (Deed.Closes i) = sets l (i * 12) blank_octets
+unfoldable pub octets_done : List ℕ → List ℕ → List ℕ → Result Deed TableRefusal → List ℕ
+octets_done l o p (Err k) = l
+octets_done l o p (Ok (Deed.Opens i s)) = sets l (i * 12) (entry_octets s o p)
+octets_done l o p (Ok (Deed.Keeps i)) = l
+octets_done l o p (Ok (Deed.Activates i)) = set l (i * 12) 3
+octets_done l o p (Ok (Deed.Learns i)) = sets l (i * 12) (entry_octets State.Active o p)
+octets_done l o p (Ok (Deed.Closes i)) = sets l (i * 12) blank_octets
+
+abbrev pub with_fault : Result Taken TableRefusal → Result Taken StepFault
+with_fault (Ok k) = Ok k
+with_fault (Err k) = Err (StepFault.Refused k)
 
 -- 25 before all else
-unfoldable pub replying : List ℕ → ℕ → List ℕ → List ℕ → Reply
-replying l n o p = cond (ltb (length l) table_size) Reply.NoRoom (Reply.Answer (taken_of (deed_of (entries_in l) (event_in n) o p)))
+unfoldable pub replying : List ℕ → ℕ → List ℕ → List ℕ → Result Taken StepFault
+replying l n o p = cond (ltb (length l) table_size) (Err StepFault.NoRoom) (with_fault (answered (deed_of (entries_in l) (event_in n) o p)))
 
 unfoldable pub leaving : List ℕ → ℕ → List ℕ → List ℕ → List ℕ
 leaving l n o p = cond (ltb (length l) table_size) l (octets_done l o (told_by (event_in n) p) (deed_of (entries_in l) (event_in n) o p))
@@ -67,18 +60,21 @@ abbrev pub done_number : ℕ → ℕ → ℕ
 done_number what room = what * 256 + room * 65536
 
 abbrev pub taken_number : Taken → ℕ
-taken_number (Taken.Refused k) = refusal_number k
 taken_number (Taken.Opened i) = done_number 1 i
 taken_number (Taken.Kept i) = done_number 2 i
 taken_number (Taken.Closed i) = done_number 3 i
 
-abbrev pub reply_number : Reply → ℕ
-reply_number Reply.NoRoom = 25
-reply_number (Reply.Answer k) = taken_number k
+abbrev pub fault_number : StepFault → ℕ
+fault_number StepFault.NoRoom = 25
+fault_number (StepFault.Refused k) = refusal_number k
+
+abbrev pub reply_number : Result Taken StepFault → ℕ
+reply_number (Ok k) = taken_number k
+reply_number (Err f) = fault_number f
 
 -- the room is one of the table's
-abbrev pub InTable : Taken → Type 0
-InTable (Taken.Refused k) = Unit {0}
-InTable (Taken.Opened i) = i < capacity
-InTable (Taken.Kept i) = i < capacity
-InTable (Taken.Closed i) = i < capacity
+abbrev pub InTable : Result Taken TableRefusal → Type 0
+InTable (Err k) = Unit {0}
+InTable (Ok (Taken.Opened i)) = i < capacity
+InTable (Ok (Taken.Kept i)) = i < capacity
+InTable (Ok (Taken.Closed i)) = i < capacity

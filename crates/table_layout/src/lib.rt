@@ -1,11 +1,34 @@
-// The table of open transactions as octets: what they hold, and how a step on them is answered. The code is in table_octets and table_number.
+// The table of open transactions as octets: what they hold, and how a step on them is refused. The code is in table_octets and table_number.
 #![tactic(auto)]
 
-use transaction_states::Taken;
+ghost use Rattle.std.specs.Prelude.{◌≡◌};
+ghost use Rattle.table_layout.specs.declared.StepFault.TheVariants.{Refused};
+ghost use Rattle.table_layout.specs.Octets.{fault_number};
 
-// How a call on lent octets ends.
+use transaction_states::TableRefusal;
+
+// Why a step on lent octets is refused: for want of room before all else.
 #[derive(Clone, Copy)]
-pub enum Reply {
+pub enum StepFault {
     NoRoom,
-    Answer(Taken),
+    Refused(TableRefusal),
+}
+
+impl From<TableRefusal> for StepFault {
+    ghost from_gives = { λ refusal fault. fault ≡ Refused refusal };
+
+    fn from(refusal: TableRefusal) -> StepFault {
+        StepFault::Refused(refusal)
+    }
+}
+
+impl From<StepFault> for u64 {
+    ghost from_gives = { λ fault number. number ≡ fault_number fault };
+
+    fn from(fault: StepFault) -> u64 {
+        match fault {
+            StepFault::NoRoom => 25,
+            StepFault::Refused(refusal) => refusal.into(),
+        }
+    }
 }

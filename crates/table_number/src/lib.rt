@@ -2,24 +2,10 @@
 #![tactic(auto)]
 
 ghost use Rattle.std.specs.Prelude.{◌≡◌, ◌<◌};
-ghost use Rattle.open_transactions.specs.Table.{refusal_number};
 ghost use Rattle.table_layout.specs.Octets.{replying, leaving, done_number, taken_number, reply_number, InTable};
 
-use table_layout::Reply;
 use table_octets::step_octets;
-use transaction_states::{TableRefusal, Taken};
-
-fn refusal_number(refusal: TableRefusal) -> u64
-    ensures { result ≡ refusal_number refusal }
-{
-    match refusal {
-        TableRefusal::BadId => 40,
-        TableRefusal::InUse => 41,
-        TableRefusal::Unknown => 41,
-        TableRefusal::NotAllowed => 42,
-        TableRefusal::Full => 43,
-    }
-}
+use transaction_states::Taken;
 
 // What was done in which room, above the status, which is 0.
 fn done_number(what: u64, room: usize) -> u64
@@ -30,11 +16,10 @@ fn done_number(what: u64, room: usize) -> u64
 }
 
 fn taken_number(taken: Taken) -> u64
-    requires { InTable taken }
+    requires { InTable (Ok taken) }
     ensures { result ≡ taken_number taken }
 {
     match taken {
-        Taken::Refused(refusal) => refusal_number(refusal),
         Taken::Opened(room) => done_number(1, room),
         Taken::Kept(room) => done_number(2, room),
         Taken::Closed(room) => done_number(3, room),
@@ -47,7 +32,7 @@ pub fn step_number(table: &mut [u8], number: u8, ours: &[u8], partner: &[u8]) ->
     ensures table_after { table.new ≡ leaving table.old number ours.now partner.now }
 {
     match step_octets(table, number, ours, partner) {
-        Reply::NoRoom => 25,
-        Reply::Answer(taken) => taken_number(taken),
+        Ok(taken) => taken_number(taken),
+        Err(fault) => fault.into(),
     }
 }

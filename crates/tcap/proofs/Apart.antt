@@ -1,5 +1,7 @@
 -- Missing, wrong and too many told apart by their numbers (document 02, §1): 14 exactly where the contents end and something mandatory is due, 15 exactly
 -- where an element stands that may not and some other may, 16 exactly where none may. Assumes nothing.
+use Rattle.tcap.specs.Reading.{outcome_of}
+use Rattle.std.specs.Prelude.{Err}
 use Prim.Native.Nat.{ℕ}
 use mathlib.Core.Path.{◌≡◌, refl, sym, ap, ◌∙◌}
 use mathlib.Core.Logic.{◌↔◌}
@@ -11,7 +13,7 @@ use lib.IntN.{ℤ}
 use Rattle.element.specs.Fault.{number_of, Text, Owner, Fault, fault}
 use Rattle.element.specs.declared.FaultKind.{FaultKind}
 use Rattle.element.specs.Ask.{bad}
-use Rattle.tcap.specs.declared.{Refusal.Refusal, Outcome.Outcome}
+use Rattle.tcap.specs.declared.{Refusal.Refusal}
 use Rattle.tcap.specs.WellFormed.{the93}
 use Rattle.tcap.specs.Reading.{located_up_to, refusal_of, answered, reading_up_to, reading}
 use Rattle.tcap.proofs.FaultExactly.{fault_exactly, refused_checked}
@@ -60,14 +62,14 @@ one_kind k l e = sym (kind_back k) ∙ ap kind_at e ∙ kind_back l
 
 -- reading refuses m, by this number and at this place
 abbrev pub RefusedAt : ℕ → List ℕ → ℕ → Type 0
-RefusedAt n m p = (r : Refusal) × ((reading m).outcome ≡ Outcome.Refused r) × (number_of r.kind ≡ n) × (r.place ≡ p)
+RefusedAt n m p = (r : Refusal) × (outcome_of (reading m) ≡ Err r) × (number_of r.kind ≡ n) × (r.place ≡ p)
 
 -- of some owner and with some IDs
 abbrev Of : (Owner → Option ℤ → Option Text → Type 0) → Type 0
 Of P = (w : Owner) × (i : Option ℤ) × (t : Option Text) × P w i t
 
 module _ (m : List ℕ) (p : ℕ) where
-  refused_located : (f : Fault) → located_up_to the93 m ≡ bad f → (reading m).outcome ≡ Outcome.Refused (refusal_of f)
+  refused_located : (f : Fault) → located_up_to the93 m ≡ bad f → outcome_of (reading m) ≡ Err (refusal_of f)
   unfolding reading reading_up_to answered
   refused_located f e = rw e refl
 

@@ -1,4 +1,9 @@
 -- Why a record has no meaning over the octets beside it: exactly for one of these causes. Assumes nothing.
+use Rattle.std.specs.Prelude.{ℤ}
+use Rattle.tcap.specs.declared.Code.{Code}
+use Rattle.tcap.specs.declared.DestTransactionId.{DestTransactionId}
+use Rattle.tcap.specs.declared.OrigTransactionId.{OrigTransactionId}
+use Rattle.std.specs.Prelude.{Option as Optional, Some, None}
 use Prim.Native.Nat.{ℕ, ◌+◌, ◌<◌}
 use mathlib.Core.Path.{◌≡◌, refl, sym, ◌∙◌}
 use mathlib.Core.Logic.{◌⊎◌, inl, inr, ◌↔◌}
@@ -9,7 +14,7 @@ use native.Mathlib.Omega.{arith}
 use lib.ListN.{length, take, drop}
 use lib.Dec.{leb}
 use borrow.Author.Tests.{leb-true, leb-false}
-use Rattle.tcap.specs.declared.{Span.Span, OptionalSpan.OptionalSpan, OptionalOrig.OptionalOrig, OptionalDest.OptionalDest, InvokeId.InvokeId, Code.Code as CodeField, Returned.Returned, ComponentKind.ComponentKind, Row.Row, Dialogue.Dialogue as DialogueField, MessageKind.MessageKind, Record.Record}
+use Rattle.tcap.specs.declared.{Span.Span, Code.Code as CodeField, ComponentKind.ComponentKind, Row.Row, Dialogue.Dialogue as DialogueField, MessageKind.MessageKind, Record.Record}
 use Rattle.tcap.specs.Meaning.{Originating, orig, Destination, dest, local, global, Component, invoke, last, not_last, error, reject, Dialogue, request, unidialogue, response, aborted, single, octets, Ending, silent, cause, says, unidirectional, begin, finish, continue, abort}
 use Rattle.tcap.specs.WellFormed.{most_components}
 use Rattle.tcap.specs.Record.{octets_at, span_means, code_means, both_means, id_means, linked_means, row_means, rows_mean, ending_means, portion_of, orig_means, dest_means, lacks, lacks_all, parts_mean, meaning_of, Same}
@@ -19,25 +24,25 @@ module _ (m : List ℕ) where
   abbrev pub Past : Span → Type 0
   Past s = length m < s.place + s.len
 
-  abbrev pub PastOption : OptionalSpan → Type 0
-  PastOption OptionalSpan.Absent = ⊥
-  PastOption (OptionalSpan.Present s) = Past s
+  abbrev pub PastOption : Optional Span → Type 0
+  PastOption None = ⊥
+  PastOption (Some s) = Past s
 
   abbrev pub PastCode : CodeField → Type 0
   PastCode (CodeField.Local z) = ⊥
   PastCode (CodeField.Global s) = Past s
 
-  abbrev pub PastReturned : Returned → Type 0
-  PastReturned Returned.Bare = ⊥
-  PastReturned (Returned.Both c p) = PastCode c ⊎ Past p
+  abbrev pub PastReturned : Optional (Code × Span) → Type 0
+  PastReturned None = ⊥
+  PastReturned (Some (c, p)) = PastCode c ⊎ Past p
 
-  abbrev pub PastOrig : OptionalOrig → Type 0
-  PastOrig OptionalOrig.NoOrig = ⊥
-  PastOrig (OptionalOrig.Orig o) = Past o.0.octets
+  abbrev pub PastOrig : Optional OrigTransactionId → Type 0
+  PastOrig None = ⊥
+  PastOrig (Some o) = Past o.0.octets
 
-  abbrev pub PastDest : OptionalDest → Type 0
-  PastDest OptionalDest.NoDest = ⊥
-  PastDest (OptionalDest.Dest e) = Past e.0.octets
+  abbrev pub PastDest : Optional DestTransactionId → Type 0
+  PastDest None = ⊥
+  PastDest (Some e) = Past e.0.octets
 
   abbrev pub PastDialogue : DialogueField → Type 0
   PastDialogue DialogueField.NoDialogue = ⊥
@@ -50,11 +55,11 @@ module _ (m : List ℕ) where
   PastDialogue (DialogueField.OutsideOctets n c) = Past n ⊎ Past c
 
   -- a row: a null invoke ID outside a Reject, or a string past the end
-  abbrev pub RowCause : InvokeId → ComponentKind → Type 0
-  RowCause i (ComponentKind.Invoke l c p) = (i ≡ InvokeId.Null) ⊎ (PastCode c ⊎ PastOption p)
-  RowCause i (ComponentKind.ResultLast r) = (i ≡ InvokeId.Null) ⊎ PastReturned r
-  RowCause i (ComponentKind.ResultNotLast r) = (i ≡ InvokeId.Null) ⊎ PastReturned r
-  RowCause i (ComponentKind.ReturnError c p) = (i ≡ InvokeId.Null) ⊎ (PastCode c ⊎ PastOption p)
+  abbrev pub RowCause : Optional ℤ → ComponentKind → Type 0
+  RowCause i (ComponentKind.Invoke l c p) = (i ≡ None) ⊎ (PastCode c ⊎ PastOption p)
+  RowCause i (ComponentKind.ResultLast r) = (i ≡ None) ⊎ PastReturned r
+  RowCause i (ComponentKind.ResultNotLast r) = (i ≡ None) ⊎ PastReturned r
+  RowCause i (ComponentKind.ReturnError c p) = (i ≡ None) ⊎ (PastCode c ⊎ PastOption p)
   RowCause i (ComponentKind.Reject q) = ⊥
 
   unfoldable pub RowsCause : List Row → Type 0
@@ -65,12 +70,12 @@ module _ (m : List ℕ) where
   abbrev pub IsCause : DialogueField → Type 0
   IsCause d = (n : ℕ) × (d ≡ DialogueField.Cause n)
 
-  abbrev pub PartsCause : MessageKind → OptionalOrig → OptionalDest → DialogueField → List Row → Type 0
-  PartsCause MessageKind.Unidirectional o e d rs = (o ≡ OptionalOrig.NoOrig → ⊥) ⊎ ((e ≡ OptionalDest.NoDest → ⊥) ⊎ IsCause d)
-  PartsCause MessageKind.Begin o e d rs = (o ≡ OptionalOrig.NoOrig) ⊎ ((e ≡ OptionalDest.NoDest → ⊥) ⊎ IsCause d)
-  PartsCause MessageKind.End o e d rs = (o ≡ OptionalOrig.NoOrig → ⊥) ⊎ ((e ≡ OptionalDest.NoDest) ⊎ IsCause d)
-  PartsCause MessageKind.Continue o e d rs = (o ≡ OptionalOrig.NoOrig) ⊎ ((e ≡ OptionalDest.NoDest) ⊎ IsCause d)
-  PartsCause MessageKind.Abort o e d rs = (o ≡ OptionalOrig.NoOrig → ⊥) ⊎ ((e ≡ OptionalDest.NoDest) ⊎ (rs ≡ [] → ⊥))
+  abbrev pub PartsCause : MessageKind → Optional OrigTransactionId → Optional DestTransactionId → DialogueField → List Row → Type 0
+  PartsCause MessageKind.Unidirectional o e d rs = (o ≡ None → ⊥) ⊎ ((e ≡ None → ⊥) ⊎ IsCause d)
+  PartsCause MessageKind.Begin o e d rs = (o ≡ None) ⊎ ((e ≡ None → ⊥) ⊎ IsCause d)
+  PartsCause MessageKind.End o e d rs = (o ≡ None → ⊥) ⊎ ((e ≡ None) ⊎ IsCause d)
+  PartsCause MessageKind.Continue o e d rs = (o ≡ None) ⊎ ((e ≡ None) ⊎ IsCause d)
+  PartsCause MessageKind.Abort o e d rs = (o ≡ None → ⊥) ⊎ ((e ≡ None) ⊎ (rs ≡ [] → ⊥))
 
   pub data Cause (r : Record) : Type 0 where
     many : most_components < r.count → Cause r
@@ -116,23 +121,23 @@ module _ (m : List ℕ) where
   never : ⊥ → ⊥
   never x = x
 
-  option_or : (s : OptionalSpan) → Or (PastOption s) (span_means m s)
-  option_or OptionalSpan.Absent = fine never none refl
-  option_or (OptionalSpan.Present s) = map_or (octets_at m s) (λ c. some c) (string_or s)
+  option_or : (s : Optional Span) → Or (PastOption s) (span_means m s)
+  option_or None = fine never none refl
+  option_or (Some s) = map_or (octets_at m s) (λ c. some c) (string_or s)
 
   code_or : (c : CodeField) → Or (PastCode c) (code_means m c)
   code_or (CodeField.Local z) = fine never (local z) refl
   code_or (CodeField.Global s) = map_or (octets_at m s) global (string_or s)
 
-  both_or : (r : Returned) → Or (PastReturned r) (both_means m r)
-  both_or Returned.Bare = fine never none refl
-  both_or (Returned.Both c p) = bind_or (code_means m c) _ (code_or c) λ d. map_or (octets_at m p) (λ p. some (d, p)) (string_or p)
+  both_or : (r : Optional (Code × Span)) → Or (PastReturned r) (both_means m r)
+  both_or None = fine never none refl
+  both_or (Some (c, p)) = bind_or (code_means m c) _ (code_or c) λ d. map_or (octets_at m p) (λ p. some (d, p)) (string_or p)
 
-  id_or : (i : InvokeId) → Or (i ≡ InvokeId.Null) (id_means m i)
-  id_or InvokeId.Null = inl (refl, refl)
-  id_or (InvokeId.Id i) = fine (λ e. let z : ◌≡◌ {A = ℕ} 0 1 = cc in omega arith) i refl
+  id_or : (i : Optional ℤ) → Or (i ≡ None) (id_means m i)
+  id_or None = inl (refl, refl)
+  id_or (Some i) = fine (λ e. let z : ◌≡◌ {A = ℕ} 0 1 = cc in omega arith) i refl
 
-  row_or : (i : InvokeId) (k : ComponentKind) → Or (RowCause i k) (row_means m i k)
+  row_or : (i : Optional ℤ) (k : ComponentKind) → Or (RowCause i k) (row_means m i k)
   row_or i (ComponentKind.Invoke l c p) = bind_or (id_means m i) _ (id_or i) λ j. bind_or (code_means m c) _ (code_or c) λ d. map_or (span_means m p) (λ p. invoke j (linked_means m l) d p) (option_or p)
   row_or i (ComponentKind.ResultLast r) = bind_or (id_means m i) _ (id_or i) λ j. map_or (both_means m r) (λ r. last j r) (both_or r)
   row_or i (ComponentKind.ResultNotLast r) = bind_or (id_means m i) _ (id_or i) λ j. map_or (both_means m r) (λ r. not_last j r) (both_or r)
@@ -154,13 +159,13 @@ module _ (m : List ℕ) where
   ending_or (DialogueField.OutsideElement n e) = bind_or (octets_at m n) _ (string_or n) λ c. map_or (octets_at m e) (λ e. says (single c e)) (string_or e)
   ending_or (DialogueField.OutsideOctets n c) = bind_or (octets_at m n) _ (string_or n) λ d. map_or (octets_at m c) (λ c. says (octets d c)) (string_or c)
 
-  orig_or : (o : OptionalOrig) → Or (PastOrig o) (orig_means m o)
-  orig_or OptionalOrig.NoOrig = fine never none refl
-  orig_or (OptionalOrig.Orig o) = map_or (octets_at m o.0.octets) (λ c. some (orig c)) (string_or o.0.octets)
+  orig_or : (o : Optional OrigTransactionId) → Or (PastOrig o) (orig_means m o)
+  orig_or None = fine never none refl
+  orig_or (Some o) = map_or (octets_at m o.0.octets) (λ c. some (orig c)) (string_or o.0.octets)
 
-  dest_or : (e : OptionalDest) → Or (PastDest e) (dest_means m e)
-  dest_or OptionalDest.NoDest = fine never none refl
-  dest_or (OptionalDest.Dest e) = map_or (octets_at m e.0.octets) (λ c. some (dest c)) (string_or e.0.octets)
+  dest_or : (e : Optional DestTransactionId) → Or (PastDest e) (dest_means m e)
+  dest_or None = fine never none refl
+  dest_or (Some e) = map_or (octets_at m e.0.octets) (λ c. some (dest c)) (string_or e.0.octets)
 
   -- a field is there just if its meaning is
   data Link {F A : Type 0} (blank x : F) : Option A → Type 0 where
@@ -186,13 +191,13 @@ module _ (m : List ℕ) where
   there none g v n e = absurd (not_some e)
   there (some a) g v n e = rw (← (some_is e)) (present n)
 
-  orig_link : (o : OptionalOrig) (v : Option (Originating (List ℕ))) → orig_means m o ≡ some v → Link OptionalOrig.NoOrig o v
-  orig_link OptionalOrig.NoOrig v e = rw (← (some_is e)) (absent refl)
-  orig_link (OptionalOrig.Orig o) v e = there (octets_at m o.0.octets) orig v (λ q. let z : ◌≡◌ {A = ℕ} 0 1 = cc in omega arith) e
+  orig_link : (o : Optional OrigTransactionId) (v : Option (Originating (List ℕ))) → orig_means m o ≡ some v → Link None o v
+  orig_link None v e = rw (← (some_is e)) (absent refl)
+  orig_link (Some o) v e = there (octets_at m o.0.octets) orig v (λ q. let z : ◌≡◌ {A = ℕ} 0 1 = cc in omega arith) e
 
-  dest_link : (o : OptionalDest) (v : Option (Destination (List ℕ))) → dest_means m o ≡ some v → Link OptionalDest.NoDest o v
-  dest_link OptionalDest.NoDest v e = rw (← (some_is e)) (absent refl)
-  dest_link (OptionalDest.Dest o) v e = there (octets_at m o.0.octets) dest v (λ q. let z : ◌≡◌ {A = ℕ} 0 1 = cc in omega arith) e
+  dest_link : (o : Optional DestTransactionId) (v : Option (Destination (List ℕ))) → dest_means m o ≡ some v → Link None o v
+  dest_link None v e = rw (← (some_is e)) (absent refl)
+  dest_link (Some o) v e = there (octets_at m o.0.octets) dest v (λ q. let z : ◌≡◌ {A = ℕ} 0 1 = cc in omega arith) e
 
   -- of a dialogue that is said
   said : {P : Type 0} {d : Dialogue (List ℕ)} (s : Ending (List ℕ)) → (P → ⊥) → some (says d) ≡ some s → Or P (portion_of m s)
@@ -241,8 +246,8 @@ module _ (m : List ℕ) where
       empty : some [] ≡ some (c ∷ cs) → ⊥
       empty h = let z : ◌≡◌ {A = ℕ} 0 1 = cc in omega arith
 
-  module _ (o : OptionalOrig) (x : OptionalDest) (d : DialogueField) (rs : List Row) {ov : Option (Originating (List ℕ))} {xv : Option (Destination (List ℕ))} (s : Ending (List ℕ)) (cs : List (Component (List ℕ)))
-      (lo : Link OptionalOrig.NoOrig o ov) (lx : Link OptionalDest.NoDest x xv) (ls : Or (IsCause d) (portion_of m s)) (lr : Or (rs ≡ [] → ⊥) (lacks_all m cs)) where
+  module _ (o : Optional OrigTransactionId) (x : Optional DestTransactionId) (d : DialogueField) (rs : List Row) {ov : Option (Originating (List ℕ))} {xv : Option (Destination (List ℕ))} (s : Ending (List ℕ)) (cs : List (Component (List ℕ)))
+      (lo : Link None o ov) (lx : Link None x xv) (ls : Or (IsCause d) (portion_of m s)) (lr : Or (rs ≡ [] → ⊥) (lacks_all m cs)) where
     parts_or : (k : MessageKind) → Or (PartsCause k o x d rs) (parts_mean m k ov xv s cs)
     parts_or MessageKind.Unidirectional = bind_or (lacks m ov) _ (lacks_or lo) λ _. bind_or (lacks m xv) _ (lacks_or lx) λ _. map_or (portion_of m s) (λ d. unidirectional d cs) ls
     parts_or MessageKind.Begin = bind_or ov _ (needs_or lo) λ o. bind_or (lacks m xv) _ (lacks_or lx) λ _. map_or (portion_of m s) (λ d. begin o d cs) ls

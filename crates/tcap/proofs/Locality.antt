@@ -1,5 +1,7 @@
 -- A refusal depends on nothing behind what its clause looks at: a message that begins alike as far as that, and ends alike, is refused alike.
 -- Assumes nothing.
+use Rattle.tcap.specs.Reading.{outcome_of}
+use Rattle.std.specs.Prelude.{Err}
 use Prim.Native.Nat.{ℕ, ◌+◌, ◌≤◌}
 use mathlib.Core.Path.{◌≡◌, refl, sym, ap, ◌∙◌}
 use mathlib.Core.Logic.{inl}
@@ -21,7 +23,7 @@ use Rattle.element.proofs.Asking.{Then, the_fact, HeadOf, finite, unended, ask_h
 use Rattle.element.proofs.Heads.{TagIs, tag_sound}
 use Rattle.element.proofs.LocalHeads.{Alike, alike_less, alike_all, take_behind, alike_cons, pair}
 use Rattle.element.proofs.LocalClauses.{Looked, too_long, no_tag, no_id, no_pair, behind, kind_of, place_of, Local, sure, wrong, Level, Reaches, size_of, local_level, head_alike, head_some, level_reaches, ask_more_local}
-use Rattle.tcap.specs.declared.{Refusal.Refusal, Outcome.Outcome}
+use Rattle.tcap.specs.declared.{Refusal.Refusal}
 use Rattle.tcap.specs.Meaning.{Originating, orig, Message}
 use Rattle.tcap.specs.WellFormed.{Rules, most_octets, the93}
 use Rattle.tcap.specs.Productions.{message_item}
@@ -261,7 +263,7 @@ pub record Depends (R : List ℕ → Type 0) (m : List ℕ) (r : Refusal) : Type
   pub there : r.place + looks ≤ length m
   pub alike : (t : List ℕ) → R t → take (r.place + looks) t ≡ take (r.place + looks) m → reading t ≡ reading m
 
-by_reading : (m : List ℕ) (x : Got (Message Text)) → located_up_to the93 m ≡ x → (r : Refusal) → (answered x).outcome ≡ Outcome.Refused r → (f : Fault) × (x ≡ bad f) × (refusal_of f ≡ r)
+by_reading : (m : List ℕ) (x : Got (Message Text)) → located_up_to the93 m ≡ x → (r : Refusal) → outcome_of (answered x) ≡ Err r → (f : Fault) × (x ≡ bad f) × (refusal_of f ≡ r)
 unfolding answered
 by_reading m (got v n) e r h = let z : ◌≡◌ {A = ℕ} 0 1 = cc in absurd (omega arith)
 by_reading m (bad f) e r h = (f, refl, cc)
@@ -289,14 +291,14 @@ nine = refl
 number_of_lem : {j k l : FaultKind} → j ≡ k → j ≡ l → number_of k ≡ number_of l
 number_of_lem e w = ap number_of (sym e ∙ w)
 
-pub refusal_local : (m : List ℕ) (r : Refusal) → (reading m).outcome ≡ Outcome.Refused r → Depends (Level m) m r
+pub refusal_local : (m : List ℕ) (r : Refusal) → outcome_of (reading m) ≡ Err r → Depends (Level m) m r
 unfolding reading reading_up_to
 refusal_local m r h =
     let (f, e, q) = by_reading m (located_up_to the93 m) refl r h in
     rw q at (depends (Level m) m f e (fault_local the93 m f e))
 
 -- and if m has a definite length, of every t in which its contents are there, however many octets follow; but for 7 and 9, which look at the end
-pub definite_refusal_local : (m : List ℕ) (a u n : ℕ) → HeadOf m (head a u (definite n)) → (r : Refusal) → (number_of r.kind ≡ 7 → ⊥) → (number_of r.kind ≡ 9 → ⊥) → (reading m).outcome ≡ Outcome.Refused r
+pub definite_refusal_local : (m : List ℕ) (a u n : ℕ) → HeadOf m (head a u (definite n)) → (r : Refusal) → (number_of r.kind ≡ 7 → ⊥) → (number_of r.kind ≡ 9 → ⊥) → outcome_of (reading m) ≡ Err r
     → Depends (λ t. (u + n ≤ length t) × (length t ≤ most_octets)) m r
 unfolding reading reading_up_to
 definite_refusal_local m a u n i r long after h =

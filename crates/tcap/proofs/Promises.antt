@@ -1,5 +1,7 @@
 -- Demands 2 and 3: what reads so is accepted and nothing else is, each message reads in one way, what is written reads so and is the shortest.
 -- Assumes nothing.
+use Rattle.tcap.specs.Reading.{outcome_of, handed_back}
+use Rattle.std.specs.Prelude.{Ok}
 use Prim.Native.Nat.{ℕ, ◌+◌, ◌≤◌, ◌<◌}
 use mathlib.Core.Path.{◌≡◌, refl, sym, ap, ◌∙◌}
 use mathlib.Core.Logic.{◌↔◌}
@@ -22,7 +24,7 @@ use Rattle.element.proofs.Heads.{TagIs, tag_sound}
 use Rattle.element.proofs.Asking.{Then, fact, void, the_fact, then_next, then_check, then_blamed, next_of, blamed_of, HeadOf, finite, unended, ask_head, ask_sound}
 use Rattle.element.proofs.ItemLaws.{Reads as ItemReads}
 use Rattle.element.proofs.Shortest.{cap, Octets, document01_laws, ⊑-length, shortest_matches, shortest_least, never_longer}
-use Rattle.tcap.specs.declared.{Record.Record, Outcome.Outcome}
+use Rattle.tcap.specs.declared.{Record.Record}
 use Rattle.tcap.specs.Meaning.{Message, unidirectional, begin, finish, continue, abort, Meaning, message_form, written}
 use Rattle.tcap.specs.WellFormed.{Rules, most_octets, most_components, the93, deepest_level, WellFormedUpTo, WellFormed, ReadsUpTo, Reads}
 use Rattle.tcap.specs.Record.{record_of, meaning_of, Same}
@@ -118,18 +120,18 @@ module _ (rules : Rules) (big : 8 ≤ rules.limit) where
   read_means m v n e = record_means m v (omega (arith, count_kept v, few_components rules (forget v) (located_reads rules big m v n e).fine)) (strings_sit rules m v n e)
 
   -- demand 2: reading accepts m, with a record of meaning μ over m, exactly if m reads as μ
-  pub reads_accepted_up_to : (m : List ℕ) (μ : Meaning) → ReadsUpTo rules m μ → ((reading_up_to rules m).outcome ≡ Outcome.Accepted) × (meaning_of (reading_up_to rules m).message m ≡ some μ)
+  pub reads_accepted_up_to : (m : List ℕ) (μ : Meaning) → ReadsUpTo rules m μ → (outcome_of (reading_up_to rules m) ≡ Ok tt) × (meaning_of (handed_back (reading_up_to rules m)) m ≡ some μ)
   unfolding reading_up_to answered
   reads_accepted_up_to m μ r =
       let a = reads_located rules big m μ r in
       rw a.1 (refl, read_means m a.0 (length m) a.1 ∙ ap (λ (ν : Meaning). some ν) a.2)
 
-  by_outcome : (m : List ℕ) (x : Got (Message Text)) → located_up_to rules m ≡ x → (answered x).outcome ≡ Outcome.Accepted → (μ : Meaning) × (meaning_of (answered x).message m ≡ some μ) × ReadsUpTo rules m μ
+  by_outcome : (m : List ℕ) (x : Got (Message Text)) → located_up_to rules m ≡ x → outcome_of (answered x) ≡ Ok tt → (μ : Meaning) × (meaning_of (handed_back (answered x)) m ≡ some μ) × ReadsUpTo rules m μ
   unfolding answered
   by_outcome m (got v n) e h = (forget v, read_means m v n e, located_reads rules big m v n e)
   by_outcome m (bad f) e h = let z : ◌≡◌ {A = ℕ} 0 1 = cc in absurd (omega arith)
 
-  pub accepted_reads_up_to : (m : List ℕ) → (reading_up_to rules m).outcome ≡ Outcome.Accepted → (μ : Meaning) × (meaning_of (reading_up_to rules m).message m ≡ some μ) × ReadsUpTo rules m μ
+  pub accepted_reads_up_to : (m : List ℕ) → outcome_of (reading_up_to rules m) ≡ Ok tt → (μ : Meaning) × (meaning_of (handed_back (reading_up_to rules m)) m ≡ some μ) × ReadsUpTo rules m μ
   unfolding reading_up_to
   accepted_reads_up_to m h = by_outcome m (located_up_to rules m) refl h
 
@@ -137,11 +139,11 @@ module _ (rules : Rules) (big : 8 ≤ rules.limit) where
 enough : 8 ≤ deepest_level
 enough = omega arith
 
-pub reads_accepted : (m : List ℕ) (μ : Meaning) → Reads m μ → ((reading m).outcome ≡ Outcome.Accepted) × (meaning_of (reading m).message m ≡ some μ)
+pub reads_accepted : (m : List ℕ) (μ : Meaning) → Reads m μ → (outcome_of (reading m) ≡ Ok tt) × (meaning_of (handed_back (reading m)) m ≡ some μ)
 unfolding reading
 reads_accepted m μ r = reads_accepted_up_to the93 enough m μ r
 
-pub accepted_reads : (m : List ℕ) → (reading m).outcome ≡ Outcome.Accepted → (μ : Meaning) × (meaning_of (reading m).message m ≡ some μ) × Reads m μ
+pub accepted_reads : (m : List ℕ) → outcome_of (reading m) ≡ Ok tt → (μ : Meaning) × (meaning_of (handed_back (reading m)) m ≡ some μ) × Reads m μ
 unfolding reading
 accepted_reads m h = accepted_reads_up_to the93 enough m h
 

@@ -1,5 +1,9 @@
 -- What every refusal carries, for those who lay it out: a number from 1 to 16 that is not 10, a place in the message, the originating ID, of 1 to 4 octets,
 -- where 48 stands before it, and an invoke ID of one octet. Assumes nothing.
+use Rattle.tcap.specs.declared.OrigTransactionId.{OrigTransactionId}
+use Rattle.tcap.specs.Reading.{outcome_of, handed_back}
+use Rattle.std.specs.Prelude.{Result, Err, ⊤}
+use Rattle.std.specs.Prelude.{Option as Optional, Some, None}
 use Prim.Native.Nat.{ℕ, ◌≤◌}
 use mathlib.Core.Path.{◌≡◌, refl}
 use mathlib.Core.Logic.{◌⊎◌, inl, inr}
@@ -14,7 +18,7 @@ use Rattle.element.specs.declared.{FaultKind.FaultKind}
 use Rattle.element.specs.Fault.{number_of, Text, Owner, portion, dialogue, component, Fault, fault}
 use Rattle.element.specs.Ask.{Got, got, bad}
 use Rattle.element.proofs.StringPlaces.{StandsAt}
-use Rattle.tcap.specs.declared.{OptionalOrig.OptionalOrig, InvokeId.InvokeId, Answer.Answer, Ground.Ground, Refusal.Refusal, Outcome.Outcome}
+use Rattle.tcap.specs.declared.{Answer.Answer, Ground.Ground, Refusal.Refusal}
 use Rattle.tcap.specs.Meaning.{Message, orig}
 use Rattle.tcap.specs.WellFormed.{most_octets, the93, id_ok, InvokeIdOk}
 use Rattle.tcap.specs.Record.{orig_field, blank_record}
@@ -42,14 +46,14 @@ numbered FaultKind.Seventeenth = (omega arith, omega arith, λ e. omega arith)
 numbered FaultKind.UnknownComponent = (omega arith, omega arith, λ e. omega arith)
 
 -- the originating ID stands in m, 48 and its length before it, and has 1 to 4 octets
-abbrev pub OrigRead : List ℕ → OptionalOrig → Type 0
-OrigRead m o = (o ≡ OptionalOrig.NoOrig) ⊎ ((t : Text) × (o ≡ orig_field (orig t)) × StandsAt m (some 0x48, t) × (id_ok t.1 ≡ true))
+abbrev pub OrigRead : List ℕ → Optional OrigTransactionId → Type 0
+OrigRead m o = (o ≡ None) ⊎ ((t : Text) × (o ≡ orig_field (orig t)) × StandsAt m (some 0x48, t) × (id_ok t.1 ≡ true))
 
 -- an invoke ID to send back is of one octet
 abbrev pub SendOk : Answer → Type 0
 SendOk (Answer.AbortCause n) = Unit {0}
-SendOk (Answer.RejectProblem n k InvokeId.Null) = Unit {0}
-SendOk (Answer.RejectProblem n k (InvokeId.Id i)) = InvokeIdOk i
+SendOk (Answer.RejectProblem n k None) = Unit {0}
+SendOk (Answer.RejectProblem n k (Some i)) = InvokeIdOk i
 
 pub record Carries (m : List ℕ) (f : Refusal) : Type 0 where
   pub low : 1 ≤ number_of f.kind
@@ -61,7 +65,7 @@ pub record Carries (m : List ℕ) (f : Refusal) : Type 0 where
   pub orig_id : OrigRead m f.orig
   pub sent : SendOk f.answer
 
-orig_read : (m : List ℕ) (t : Option Text) → Maybe (OrigHere m) t → OrigRead m (get_or (map (λ t. orig_field (orig t)) t) OptionalOrig.NoOrig)
+orig_read : (m : List ℕ) (t : Option Text) → Maybe (OrigHere m) t → OrigRead m (get_or (map (λ t. orig_field (orig t)) t) None)
 orig_read m none h = inl refl
 orig_read m (some t) h = inr (t, refl, h.0, h.1)
 
@@ -94,15 +98,15 @@ carries m (fault k p o i t) q =
       sent = answer_sends (ground_of k) o i q.invoke_id;
     }
 
-refusal_inj : (f g : Refusal) → Outcome.Refused f ≡ Outcome.Refused g → f ≡ g
+refusal_inj : (f g : Refusal) → ◌≡◌ {A = Result ⊤ Refusal} (Err f) (Err g) → f ≡ g
 refusal_inj f g e = cc
 
-refused_by : (m : List ℕ) (x : Got (Message Text)) → located_up_to the93 m ≡ x → (f : Refusal) → (answered x).outcome ≡ Outcome.Refused f → Carries m f × ((answered x).message ≡ blank_record)
+refused_by : (m : List ℕ) (x : Got (Message Text)) → located_up_to the93 m ≡ x → (f : Refusal) → outcome_of (answered x) ≡ Err f → Carries m f × (handed_back (answered x) ≡ blank_record)
 unfolding answered
 refused_by m (got v n) e f h = let z : ◌≡◌ {A = ℕ} 0 1 = cc in absurd (omega arith)
 refused_by m (bad g) e f h = (rw (refusal_inj (refusal_of g) f h) at (carries m g (fault_placed the93 (omega arith) m g e)), refl)
 
 -- and it hands back no components
-pub refused_carries : (m : List ℕ) (f : Refusal) → (reading m).outcome ≡ Outcome.Refused f → Carries m f × ((reading m).message ≡ blank_record)
+pub refused_carries : (m : List ℕ) (f : Refusal) → outcome_of (reading m) ≡ Err f → Carries m f × (handed_back (reading m) ≡ blank_record)
 unfolding reading reading_up_to
 refused_carries m f h = refused_by m (located_up_to the93 m) refl f h

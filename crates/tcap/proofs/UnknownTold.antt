@@ -1,4 +1,7 @@
 -- Which originating ID goes with 8, by the grammar. Assumes nothing.
+use Rattle.tcap.specs.Reading.{outcome_of}
+use Rattle.std.specs.Prelude.{Err}
+use Rattle.std.specs.Prelude.{Some, None}
 use Prim.Native.Nat.{ℕ, ◌≤◌}
 use mathlib.Core.Path.{◌≡◌, refl, sym, ◌∙◌}
 use mathlib.Core.Logic.{◌↔◌}
@@ -12,7 +15,7 @@ use Rattle.element.specs.declared.FaultKind.{FaultKind}
 use Rattle.element.specs.Fault.{number_of, Text, Owner, Fault, fault}
 use Rattle.element.specs.Ask.{Got, got, bad}
 use Rattle.element.proofs.StringPlaces.{nothing_ends}
-use Rattle.tcap.specs.declared.{OptionalOrig.OptionalOrig, OrigTransactionId.OrigTransactionId, Refusal.Refusal, Outcome.Outcome}
+use Rattle.tcap.specs.declared.{OrigTransactionId.OrigTransactionId, Refusal.Refusal}
 use Rattle.tcap.specs.Meaning.{Message, orig}
 use Rattle.tcap.specs.WellFormed.{Rules, the93}
 use Rattle.tcap.specs.Record.{orig_field}
@@ -76,22 +79,22 @@ module _ (rules : Rules) (deep : 2 ≤ rules.limit) (m : List ℕ) where
 -- and of readings: the ID of a refusal is a place and a length
 
 abbrev Gives : List ℕ → OrigTransactionId → Type 0
-Gives m o = (s : Text) × (orig_field (orig s) ≡ OptionalOrig.Orig o) × BeginsWithId m s
+Gives m o = (s : Text) × (orig_field (orig s) ≡ Some o) × BeginsWithId m s
 
-field_told : (m : List ℕ) (o : OrigTransactionId) (t : Option Text) → ((s : Text) → (t ≡ some s) ↔ BeginsWithId m s) → (get_or (map (λ s. orig_field (orig s)) t) OptionalOrig.NoOrig ≡ OptionalOrig.Orig o) ↔ Gives m o
+field_told : (m : List ℕ) (o : OrigTransactionId) (t : Option Text) → ((s : Text) → (t ≡ some s) ↔ BeginsWithId m s) → (get_or (map (λ s. orig_field (orig s)) t) None ≡ Some o) ↔ Gives m o
 field_told m o none h = (λ e. let z : ◌≡◌ {A = ℕ} 0 1 = cc in absurd (omega arith), λ (s, e, b). nothing_ends ((h s).1 b))
 field_told m o (some t) h = (λ e. (t, e, (h t).0 refl), λ (s, e, b). let z : t ≡ s = same_some ((h s).1 b) in rw z e)
 
-by_fault : (m : List ℕ) (f : Fault) → located_up_to the93 m ≡ bad f → (o : OrigTransactionId) → (refusal_of f).kind ≡ FaultKind.NoMessage → ((refusal_of f).orig ≡ OptionalOrig.Orig o) ↔ Gives m o
+by_fault : (m : List ℕ) (f : Fault) → located_up_to the93 m ≡ bad f → (o : OrigTransactionId) → (refusal_of f).kind ≡ FaultKind.NoMessage → ((refusal_of f).orig ≡ Some o) ↔ Gives m o
 unfolding refusal_of
 by_fault m (fault k p w i t) e o is = field_told m o t (unknown_told the93 (omega arith) m p w i t (rw is at e))
 
-by_reading : (m : List ℕ) (x : Got (Message Text)) → located_up_to the93 m ≡ x → (r : Refusal) → (answered x).outcome ≡ Outcome.Refused r → r.kind ≡ FaultKind.NoMessage → (o : OrigTransactionId) → (r.orig ≡ OptionalOrig.Orig o) ↔ Gives m o
+by_reading : (m : List ℕ) (x : Got (Message Text)) → located_up_to the93 m ≡ x → (r : Refusal) → outcome_of (answered x) ≡ Err r → r.kind ≡ FaultKind.NoMessage → (o : OrigTransactionId) → (r.orig ≡ Some o) ↔ Gives m o
 unfolding answered
 by_reading m (got v n) e r h k o = let z : ◌≡◌ {A = ℕ} 0 1 = cc in absurd (omega arith)
 by_reading m (bad f) e r h k o = let z : refusal_of f ≡ r = cc in rw z at (by_fault m f e o (rw z k))
 
-pub strange_told : (m : List ℕ) (r : Refusal) → (reading m).outcome ≡ Outcome.Refused r → r.kind ≡ FaultKind.NoMessage
-    → (o : OrigTransactionId) → (r.orig ≡ OptionalOrig.Orig o) ↔ ((s : Text) × (orig_field (orig s) ≡ OptionalOrig.Orig o) × BeginsWithId m s)
+pub strange_told : (m : List ℕ) (r : Refusal) → outcome_of (reading m) ≡ Err r → r.kind ≡ FaultKind.NoMessage
+    → (o : OrigTransactionId) → (r.orig ≡ Some o) ↔ ((s : Text) × (orig_field (orig s) ≡ Some o) × BeginsWithId m s)
 unfolding reading reading_up_to
 strange_told m r h k o = by_reading m (located_up_to the93 m) refl r h k o

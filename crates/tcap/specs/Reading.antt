@@ -1,10 +1,12 @@
 -- Reading one message: before all 7, 1 for no octets, 8 by the first octet; then the message; then 9. And what is answered to a message that is refused.
 -- Assumes nothing: these are definitions.
+use Rattle.std.specs.Prelude.{Result, Ok, Err, ⊤}
+use Rattle.std.specs.Prelude.{None}
 use Rattle.std.specs.Prelude.{ℕ, ◌+◌}
 use mathlib.Core.{Bool.Bool, Bool.true, Bool.false, Bool.not, Bool.◌&&◌, List.List, List.[], List.◌∷◌, Option.Option, Option.none, Option.some, Option.map, Option.get_or}
 use lib.{ListN.length, ListN.take, ListN.drop, Dec.leb, Dec.eqb, IntN.ℤ}
 use Rattle.element.specs.{Element.constructor_of, Element.extended_of, Fault.Text, Fault.Owner, Fault.portion, Fault.dialogue, Fault.component, Fault.Fault, Fault.fault, Fault.at, Ask.Got, Ask.got, Ask.bad, Ask.next, Ask.check, Ask.blamed, Ask.definite, Ask.indefinite, Ask.Head, Ask.head, Ask.Body, Ask.ask, Parts.Item, Parts.level, Parts.place, declared.FaultKind.FaultKind}
-use Rattle.tcap.specs.{declared.Answer.Answer, declared.Ground.Ground, declared.OptionalOrig.OptionalOrig, declared.Refusal.Refusal, declared.Outcome.Outcome, declared.Reading.Reading, Meaning.Originating, Meaning.orig, Meaning.Message, Meaning.unidirectional, Meaning.begin, Meaning.finish, Meaning.continue, Meaning.abort, WellFormed.Rules, WellFormed.most_octets, WellFormed.the93, Productions.orig_item, Productions.carried, Productions.level_at, Productions.message_item, Record.orig_field, Record.id_field, Record.record_of, Record.blank_record}
+use Rattle.tcap.specs.{declared.Answer.Answer, declared.Ground.Ground, declared.Record.Record, declared.Refusal.Refusal, Meaning.Originating, Meaning.orig, Meaning.Message, Meaning.unidirectional, Meaning.begin, Meaning.finish, Meaning.continue, Meaning.abort, WellFormed.Rules, WellFormed.most_octets, WellFormed.the93, Productions.orig_item, Productions.carried, Productions.level_at, Productions.message_item, Record.orig_field, Record.id_field, Record.record_of, Record.blank_record}
 
 abbrev pub learnt : Message Text → Fault → Fault
 learnt (unidirectional d cs) = λ f. f
@@ -85,15 +87,23 @@ answer_for Ground.WrongPart o i = by_owner 1 3 o i
 answer_for Ground.BadForm o i = by_owner 2 2 o i
 
 unfoldable pub refusal_of : Fault → Refusal
-refusal_of (fault k p o i t) = record { kind = k; place = p; orig = get_or (map (λ t. orig_field (orig t)) t) OptionalOrig.NoOrig; answer = answer_for (ground_of k) o i }
+refusal_of (fault k p o i t) = record { kind = k; place = p; orig = get_or (map (λ t. orig_field (orig t)) t) None; answer = answer_for (ground_of k) o i }
 
--- a refusal hands back the blank record: no components
-unfoldable pub answered : Got (Message Text) → Reading
-answered (got v n) = record { outcome = Outcome.Accepted; message = record_of v }
-answered (bad f) = record { outcome = Outcome.Refused (refusal_of f); message = blank_record }
+-- of a refused message there is no record; where one is named, it is the blank one: no components
+abbrev pub outcome_of : Result Record Refusal → Result ⊤ Refusal
+outcome_of (Ok r) = Ok tt
+outcome_of (Err f) = Err f
 
-unfoldable pub reading_up_to : Rules → List ℕ → Reading
+abbrev pub handed_back : Result Record Refusal → Record
+handed_back (Ok r) = r
+handed_back (Err f) = blank_record
+
+unfoldable pub answered : Got (Message Text) → Result Record Refusal
+answered (got v n) = Ok (record_of v)
+answered (bad f) = Err (refusal_of f)
+
+unfoldable pub reading_up_to : Rules → List ℕ → Result Record Refusal
 reading_up_to rules m = answered (located_up_to rules m)
 
-unfoldable pub reading : List ℕ → Reading
+unfoldable pub reading : List ℕ → Result Record Refusal
 reading m = reading_up_to the93 m

@@ -1,5 +1,6 @@
 -- Where a place of a message is, by its octets alone, and what is wrong there, number by number: document 01, "Record and refusal of a reading".
 -- A page to check a refusal against: no reader is named here. Assumes nothing: these are definitions.
+use Rattle.std.specs.Prelude.{None}
 use Rattle.std.specs.Prelude.{ℕ, suc, ◌+◌, ◌-◌, ◌≤◌, ◌<◌}
 use Rattle.std.proofs.Math.Option
 use mathlib.Core.{Path.◌≡◌, Logic.◌⊎◌, Bool.Bool, Bool.true, Bool.false, List.List, List.[], List.◌∷◌, List.◌++◌, Option.Option, Option.none, Option.some, Option.map}
@@ -7,7 +8,7 @@ use lib.{ListN.length, ListN.take, ListN.drop, ListN.get_or, IntN.ℤ}
 use Rattle.base.specs.{Number.number_from}
 use Rattle.primitive.specs.{Primitive.signed_of}
 use Rattle.element.specs.{Form.fewest_of, Element.IsTag, Element.constructor_of, Element.code_zero, Element.extended_of, Element.Definitely, Element.Endlessly, Fault.Text, Fault.Owner, Fault.portion, Fault.dialogue as the_dialogue, Fault.component as the_component, Fault.Fault, Fault.fault, Fault.number_of, Head.end_of, declared.FaultKind.FaultKind, declared.EndRead.EndRead}
-use Rattle.tcap.specs.{declared.OptionalOrig.OptionalOrig, declared.Refusal.Refusal, Meaning.orig, Record.orig_field, Standard.Standard, Due.Parts, Due.end, Due.must, Due.Holds, Due.octets, Due.orig_id, Due.invoke_id, Due.parts, Due.dialogue, Due.message, Due.find, Due.due, Due.behind, Due.may_end, Due.some_may, Due.position, Due.passes, Due.contents_of}
+use Rattle.tcap.specs.{declared.Refusal.Refusal, Meaning.orig, Record.orig_field, Standard.Standard, Due.Parts, Due.end, Due.must, Due.Holds, Due.octets, Due.orig_id, Due.invoke_id, Due.parts, Due.dialogue, Due.message, Due.find, Due.due, Due.behind, Due.may_end, Due.some_may, Due.position, Due.passes, Due.contents_of}
 use Rattle.tcap.specs.WellFormed.{Rules}
 
 -- Octets that are right
@@ -197,5 +198,5 @@ pub record Checked (m : List ℕ) (r : Refusal) : Type 0 where
   pub there : Refuses (record { limit = 16 }) m (fault kind place owner invoke_id orig_id)
   pub same_number : number_of r.kind ≡ number_of kind
   pub same_place : r.place ≡ place
-  pub same_orig : r.orig ≡ Option.get_or (map (λ s. orig_field (orig s)) orig_id) OptionalOrig.NoOrig
+  pub same_orig : r.orig ≡ Option.get_or (map (λ s. orig_field (orig s)) orig_id) None
   pub answer : Standard kind owner invoke_id r.answer

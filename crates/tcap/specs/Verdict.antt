@@ -1,12 +1,16 @@
 -- Why a record may not be written over the material beside it: document 01, "Writing", each number over the whole record before the next.
 -- Assumes nothing: these are definitions.
+use Rattle.std.specs.Prelude.{ℤ}
+use Rattle.tcap.specs.declared.DestTransactionId.{DestTransactionId}
+use Rattle.tcap.specs.declared.OrigTransactionId.{OrigTransactionId}
+use Rattle.std.specs.Prelude.{Option as Optional, Some, None}
 use Rattle.std.specs.Prelude.{ℕ, ◌+◌}
 use mathlib.Core.{Bool.Bool, Bool.true, Bool.false, Bool.not, Bool.◌&&◌, List.List, List.[], List.◌∷◌}
 use lib.{ListN.length, ListN.take, ListN.drop, Dec.leb, Dec.eqb}
 use Rattle.base.specs.{Value.same}
 use Rattle.primitive.specs.{Primitive.identifier_ok, Primitive.most_identifier_octets}
 use Rattle.element.specs.{declared.Walk.Walk, Answers.element_walk, Answers.series_walk}
-use Rattle.tcap.specs.{declared.Span.Span, declared.OptionalSpan.OptionalSpan, declared.OptionalOrig.OptionalOrig, declared.OptionalDest.OptionalDest, declared.InvokeId.InvokeId, declared.Code.Code, declared.Problem.Problem, declared.Diagnostic.Diagnostic, declared.Returned.Returned, declared.ComponentKind.ComponentKind, declared.Row.Row, declared.Dialogue.Dialogue, declared.MessageKind.MessageKind, declared.Record.Record, Meaning.structured, Meaning.unstructured, WellFormed.most_components, WellFormed.the93, WellFormed.left_at}
+use Rattle.tcap.specs.{declared.Span.Span, declared.Code.Code, declared.Problem.Problem, declared.Diagnostic.Diagnostic, declared.ComponentKind.ComponentKind, declared.Row.Row, declared.Dialogue.Dialogue, declared.MessageKind.MessageKind, declared.Record.Record, Meaning.structured, Meaning.unstructured, WellFormed.most_components, WellFormed.the93, WellFormed.left_at}
 use Rattle.tcap.specs.WellFormed.{most_transaction_id_octets, most_general_problem, most_invoke_problem, most_result_problem, most_error_problem, most_cause, most_result, most_user_diagnostic, most_provider_diagnostic, most_abort_source}
 
 -- every row that counts; with a count above 16 that is all 16
@@ -19,13 +23,13 @@ counted r = take r.count r.rows
 
 -- 24: a part that its kind lacks or may not have
 
-unfoldable pub orig_there : OptionalOrig → Bool
-orig_there OptionalOrig.NoOrig = false
-orig_there (OptionalOrig.Orig o) = true
+unfoldable pub orig_there : Optional OrigTransactionId → Bool
+orig_there None = false
+orig_there (Some o) = true
 
-unfoldable pub dest_there : OptionalDest → Bool
-dest_there OptionalDest.NoDest = false
-dest_there (OptionalDest.Dest e) = true
+unfoldable pub dest_there : Optional DestTransactionId → Bool
+dest_there None = false
+dest_there (Some e) = true
 
 unfoldable pub cause_there : Dialogue → Bool
 cause_there Dialogue.NoDialogue = false
@@ -46,11 +50,11 @@ parts_fit MessageKind.Continue o e c n = o && (e && not c)
 parts_fit MessageKind.Abort o e c n = not o && (e && eqb n 0)
 
 -- null is for a Reject alone
-unfoldable pub id_there : InvokeId → Bool
-id_there InvokeId.Null = false
-id_there (InvokeId.Id i) = true
+unfoldable pub id_there : Optional ℤ → Bool
+id_there None = false
+id_there (Some i) = true
 
-unfoldable pub row_parts_fit : InvokeId → ComponentKind → Bool
+unfoldable pub row_parts_fit : Optional ℤ → ComponentKind → Bool
 row_parts_fit i (ComponentKind.Invoke l c p) = id_there i
 row_parts_fit i (ComponentKind.ResultLast r) = id_there i
 row_parts_fit i (ComponentKind.ResultNotLast r) = id_there i
@@ -71,13 +75,13 @@ id_ranges s = ranges 1 most_transaction_id_octets s.len
 abbrev pub name_ranges : Span → Bool
 name_ranges s = ranges 1 most_identifier_octets s.len
 
-unfoldable pub orig_ranges : OptionalOrig → Bool
-orig_ranges OptionalOrig.NoOrig = true
-orig_ranges (OptionalOrig.Orig o) = id_ranges o.0.octets
+unfoldable pub orig_ranges : Optional OrigTransactionId → Bool
+orig_ranges None = true
+orig_ranges (Some o) = id_ranges o.0.octets
 
-unfoldable pub dest_ranges : OptionalDest → Bool
-dest_ranges OptionalDest.NoDest = true
-dest_ranges (OptionalDest.Dest e) = id_ranges e.0.octets
+unfoldable pub dest_ranges : Optional DestTransactionId → Bool
+dest_ranges None = true
+dest_ranges (Some e) = id_ranges e.0.octets
 
 -- a local code of 32 bits, and an invoke ID of 8, are always in range
 unfoldable pub code_ranges : Code → Bool
@@ -90,9 +94,9 @@ problem_ranges (Problem.OfInvoke n) = leb n most_invoke_problem
 problem_ranges (Problem.OfResult n) = leb n most_result_problem
 problem_ranges (Problem.OfError n) = leb n most_error_problem
 
-unfoldable pub returned_ranges : Returned → Bool
-returned_ranges Returned.Bare = true
-returned_ranges (Returned.Both c p) = code_ranges c
+unfoldable pub returned_ranges : Optional (Code × Span) → Bool
+returned_ranges None = true
+returned_ranges (Some (c, p)) = code_ranges c
 
 unfoldable pub row_ranges : ComponentKind → Bool
 row_ranges (ComponentKind.Invoke l c p) = code_ranges c
@@ -124,25 +128,25 @@ module _ (end : ℕ) where
   unfoldable pub lies : Span → Bool
   lies s = leb (s.place + s.len) end
 
-  unfoldable pub option_lies : OptionalSpan → Bool
-  option_lies OptionalSpan.Absent = true
-  option_lies (OptionalSpan.Present s) = lies s
+  unfoldable pub option_lies : Optional Span → Bool
+  option_lies None = true
+  option_lies (Some s) = lies s
 
-  unfoldable pub orig_lies : OptionalOrig → Bool
-  orig_lies OptionalOrig.NoOrig = true
-  orig_lies (OptionalOrig.Orig o) = lies o.0.octets
+  unfoldable pub orig_lies : Optional OrigTransactionId → Bool
+  orig_lies None = true
+  orig_lies (Some o) = lies o.0.octets
 
-  unfoldable pub dest_lies : OptionalDest → Bool
-  dest_lies OptionalDest.NoDest = true
-  dest_lies (OptionalDest.Dest e) = lies e.0.octets
+  unfoldable pub dest_lies : Optional DestTransactionId → Bool
+  dest_lies None = true
+  dest_lies (Some e) = lies e.0.octets
 
   unfoldable pub code_lies : Code → Bool
   code_lies (Code.Local z) = true
   code_lies (Code.Global s) = lies s
 
-  unfoldable pub returned_lies : Returned → Bool
-  returned_lies Returned.Bare = true
-  returned_lies (Returned.Both c p) = code_lies c && lies p
+  unfoldable pub returned_lies : Optional (Code × Span) → Bool
+  returned_lies None = true
+  returned_lies (Some (c, p)) = code_lies c && lies p
 
   unfoldable pub row_lies : ComponentKind → Bool
   row_lies (ComponentKind.Invoke l c p) = code_lies c && option_lies p
@@ -187,13 +191,13 @@ module _ (m : List ℕ) where
   abbrev pub element_at : ℕ → Span → Bool
   element_at level s = is_element (left_at the93 level) (string_octets s)
 
-  unfoldable pub parameter_shaped : OptionalSpan → Bool
-  parameter_shaped OptionalSpan.Absent = true
-  parameter_shaped (OptionalSpan.Present s) = element_at 4 s
+  unfoldable pub parameter_shaped : Optional Span → Bool
+  parameter_shaped None = true
+  parameter_shaped (Some s) = element_at 4 s
 
-  unfoldable pub info_shaped : OptionalSpan → Bool
-  info_shaped OptionalSpan.Absent = true
-  info_shaped (OptionalSpan.Present s) = is_series (left_at the93 7) (string_octets s)
+  unfoldable pub info_shaped : Optional Span → Bool
+  info_shaped None = true
+  info_shaped (Some s) = is_series (left_at the93 7) (string_octets s)
 
   abbrev pub name_shaped : Span → Bool
   name_shaped s = identifier_ok (string_octets s)
@@ -205,9 +209,9 @@ module _ (m : List ℕ) where
   code_shaped (Code.Local z) = true
   code_shaped (Code.Global s) = name_shaped s
 
-  unfoldable pub returned_shaped : Returned → Bool
-  returned_shaped Returned.Bare = true
-  returned_shaped (Returned.Both c p) = code_shaped c && element_at 5 p
+  unfoldable pub returned_shaped : Optional (Code × Span) → Bool
+  returned_shaped None = true
+  returned_shaped (Some (c, p)) = code_shaped c && element_at 5 p
 
   unfoldable pub row_shaped : ComponentKind → Bool
   row_shaped (ComponentKind.Invoke l c p) = code_shaped c && parameter_shaped p

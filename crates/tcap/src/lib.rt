@@ -3,7 +3,7 @@
 
 ghost use Rattle.std.specs.Prelude.{◌≡◌, length};
 ghost use Rattle.tcap.specs.Record.{blank_row, message_tag};
-ghost use Rattle.tcap.specs.inner.Names.{common, name_kind};
+ghost use Rattle.tcap.specs.inner.Names.{name_kind};
 
 use element::FaultKind;
 
@@ -49,13 +49,6 @@ pub struct Span {
     pub len: u32,
 }
 
-// A string that may be left out: a parameter, user information.
-#[derive(Clone, Copy)]
-pub enum OptionalSpan {
-    Absent,
-    Present(Span),
-}
-
 // A transaction ID is kept as its octets.
 #[derive(Clone, Copy)]
 pub struct TransactionId {
@@ -68,31 +61,6 @@ pub struct OrigTransactionId(pub TransactionId);
 
 #[derive(Clone, Copy)]
 pub struct DestTransactionId(pub TransactionId);
-
-#[derive(Clone, Copy)]
-pub enum OptionalOrig {
-    NoOrig,
-    Orig(OrigTransactionId),
-}
-
-#[derive(Clone, Copy)]
-pub enum OptionalDest {
-    NoDest,
-    Dest(DestTransactionId),
-}
-
-// Only a Reject may have null.
-#[derive(Clone, Copy)]
-pub enum InvokeId {
-    Null,
-    Id(i8),
-}
-
-#[derive(Clone, Copy)]
-pub enum LinkedId {
-    Unlinked,
-    Linked(i8),
-}
 
 // An operation or error code.
 #[derive(Clone, Copy)]
@@ -110,33 +78,27 @@ pub enum Problem {
     OfError(u8),
 }
 
-// What a return result holds: nothing, or 30 with code and parameter.
-#[derive(Clone, Copy)]
-pub enum Returned {
-    Bare,
-    Both { code: Code, parameter: Span },
-}
-
+// A return result holds nothing, or 30 with code and parameter.
 #[derive(Clone, Copy)]
 pub enum ComponentKind {
     Invoke {
-        linked: LinkedId,
+        linked: Option<i8>,
         code: Code,
-        parameter: OptionalSpan,
+        parameter: Option<Span>,
     },
-    ResultLast(Returned),
-    ResultNotLast(Returned),
+    ResultLast(Option<(Code, Span)>),
+    ResultNotLast(Option<(Code, Span)>),
     ReturnError {
         code: Code,
-        parameter: OptionalSpan,
+        parameter: Option<Span>,
     },
     Reject(Problem),
 }
 
-// One component: its invoke ID beside its kind, which carries its own fields.
+// One component: its invoke ID beside its kind, which carries its own fields. Null stands for an ID in a Reject alone.
 #[derive(Clone, Copy)]
 pub struct Row {
-    pub id: InvokeId,
+    pub id: Option<i8>,
     pub kind: ComponentKind,
 }
 
@@ -145,11 +107,11 @@ pub fn blank_row() -> Row
     ensures { result ≡ blank_row }
 {
     Row {
-        id: InvokeId::Null,
+        id: None,
         kind: ComponentKind::Invoke {
-            linked: LinkedId::Unlinked,
+            linked: None,
             code: Code::Local(0),
-            parameter: OptionalSpan::Absent,
+            parameter: None,
         },
     }
 }
@@ -168,21 +130,21 @@ pub enum Dialogue {
     Cause(u8),
     Request {
         name: Span,
-        info: OptionalSpan,
+        info: Option<Span>,
     },
     Response {
         name: Span,
         result: u8,
         diagnostic: Diagnostic,
-        info: OptionalSpan,
+        info: Option<Span>,
     },
     DialogueAbort {
         source: u8,
-        info: OptionalSpan,
+        info: Option<Span>,
     },
     Unidialogue {
         name: Span,
-        info: OptionalSpan,
+        info: Option<Span>,
     },
     OutsideElement {
         name: Span,
@@ -220,8 +182,8 @@ pub fn message_tag(kind: MessageKind) -> u8
 #[derive(Clone, Copy)]
 pub struct Record {
     pub kind: MessageKind,
-    pub orig: OptionalOrig,
-    pub dest: OptionalDest,
+    pub orig: Option<OrigTransactionId>,
+    pub dest: Option<DestTransactionId>,
     pub dialogue: Dialogue,
     pub count: usize,
     pub rows: [Row; 16],
@@ -234,7 +196,7 @@ pub enum Answer {
     RejectProblem {
         problem: u8,
         component: usize,
-        id: InvokeId,
+        id: Option<i8>,
     },
 }
 
@@ -252,61 +214,18 @@ pub enum Ground {
 pub struct Refusal {
     pub kind: FaultKind,
     pub place: usize,
-    pub orig: OptionalOrig,
+    pub orig: Option<OrigTransactionId>,
     pub answer: Answer,
 }
 
-#[derive(Clone, Copy)]
-pub enum Outcome {
-    Accepted,
-    Refused(Refusal),
-}
-
-// A refused reading has the blank record.
-#[derive(Clone, Copy)]
-pub struct Reading {
-    pub outcome: Outcome,
-    pub message: Record,
-}
-
-// Whether seven octets are those that the two names have in common.
-fn is_known(contents: &[u8]) -> bool
-    requires { length contents.now ≡ 7 }
-    ensures { result ≡ common contents.now }
-{
-    if contents[0] != 0x00 {
-        return false;
-    }
-    if contents[1] != 0x11 {
-        return false;
-    }
-    if contents[2] != 0x86 {
-        return false;
-    }
-    if contents[3] != 0x05 {
-        return false;
-    }
-    if contents[4] != 0x01 {
-        return false;
-    }
-    contents[6] == 0x01
-}
-
-// Which of the two names: 1 for the structured dialogue, 2 for the unstructured, 0 for another.
+// Which of the two names: 1 for the structured dialogue, 2 for the unstructured, 0 for another. An enum would be one more name for what the definition in the clause says in numbers.
+#[tactic(auto, unfolding(crate::specs::inner::Names::kind_of, base::specs::Value::same, crate::specs::Meaning::structured, crate::specs::Meaning::unstructured))]
 pub fn name_kind(contents: &[u8]) -> usize
     ensures { result ≡ name_kind contents.now }
 {
-    if contents.len() != 7 {
-        return 0;
+    match contents {
+        [0x00, 0x11, 0x86, 0x05, 0x01, 0x01, 0x01] => 1,
+        [0x00, 0x11, 0x86, 0x05, 0x01, 0x02, 0x01] => 2,
+        _ => 0,
     }
-    if is_known(contents) {
-        if contents[5] == 0x01 {
-            return 1;
-        }
-        if contents[5] == 0x02 {
-            return 2;
-        }
-        return 0;
-    }
-    0
 }

@@ -1,2 +1,3 @@
+pub mod Chunks
 pub mod Places
 pub mod Rows

@@ -5,11 +5,14 @@ use native.Mathlib.Numerals.{add-one}
 use mathlib.Core.Path.{◌≡◌, refl, sym, ap, ◌∙◌}
 use mathlib.Core.Bool.{true, false}
 use mathlib.Core.List.{List, [], ◌∷◌, ◌++◌}
-use lib.ListN.{length, drop, get_or, set, replicate, length-drop}
+use lib.ListN.{length, take, drop, get_or, set, replicate, length-drop}
 use lib.Seq.{set_at, append_snoc, drop-drop}
+use Rattle.std.specs.Simd.{first_chunks}
+use Rattle.std.proofs.lemmas.List.{get_or-take}
 use Rattle.tcap.specs.declared.{Row.Row}
 use Rattle.tcap.specs.Record.{blank_row}
 use Rattle.layout.specs.Layout.{head_size, row_size, most_rows, record_size, is_row, row_in, are_rows, rows_in, rows_held}
+use Rattle.unpack.proofs.Chunks.{chunk_at, row_kept}
 
 module _ (l : List ℕ) where
   -- from row i on
@@ -62,9 +65,10 @@ rows_more zero m = refl
 rows_more (suc i) m = let e : row_size + i * row_size ≡ suc i * row_size = omega arith in ap (λ (t : List Row). row_in m ∷ t) (rows_more i (drop row_size m) ∙ ap (λ (t : List ℕ). rows_in i (drop row_size m) ++ (row_in t ∷ [])) (drop-drop (i * row_size) row_size m ∙ ap (λ (k : ℕ). drop k m) e))
 
 -- stored where the first blank row was
-pub rows_step : (l : List ℕ) (i : ℕ) → i < most_rows → set (rows_held i l) i (row_in (drop (i * row_size) l)) ≡ rows_held (i + 1) l
+pub rows_step : (k : ℕ) (l : List ℕ) (c i : ℕ) → i < most_rows → i < c → i < k → set (rows_held i l) i (row_in (get_or (take c (first_chunks row_size k l)) i [])) ≡ rows_held (i + 1) l
 unfolding rows_held
-rows_step l i h =
+rows_step k l c i h below there =
     let e : most_rows - i ≡ suc (most_rows - (i + 1)) = omega arith in
-    rw (e, add-one i, rows_more i l, append_snoc)
+    let w : row_in (get_or (take c (first_chunks row_size k l)) i []) ≡ row_in (drop (i * row_size) l) = rw (get_or-take c (first_chunks row_size k l) i [] below, chunk_at k i l there) (row_kept (drop (i * row_size) l)) in
+    rw (w, e, add-one i, rows_more i l, append_snoc)
     (set_at (rows_in i l) blank_row (replicate (most_rows - suc i) blank_row) (row_in (drop (i * row_size) l)) i (rows_length i l))

@@ -15,9 +15,5 @@ pub fn rows_looked(octets: &[u8]) -> usize
     requires { 44 ≤ length octets.now }
     ensures { result ≡ rows_looked octets.now }
 {
-    let count = number_at(octets, 4);
-    if count < 16 {
-        return count as usize;
-    }
-    16
+    (number_at(octets, 4) as usize).min(16)
 }

@@ -1,5 +1,5 @@
--- What the walkers answer: the place behind what is whole, or 0. Assumes nothing: these are definitions.
-use Rattle.std.specs.Prelude.{ℕ, ◌+◌, ◌%◌, ◌≤◌, length}
+-- What the walkers answer: the place behind what is whole, if it is. Assumes nothing: these are definitions.
+use Rattle.std.specs.Prelude.{ℕ, ◌+◌, ◌%◌, ◌≤◌, length, Option as Optional, Some, None}
 use mathlib.Core.{Path.◌≡◌, List.List}
 use Rattle.element.specs.{declared.TagRead.TagRead, declared.LengthRead.LengthRead, declared.Walk.Walk}
 
@@ -11,20 +11,25 @@ Within m at end = (at ≤ end) × (end ≤ length m)
 abbrev pub Extended : ℕ → ℕ → Type 0
 Extended left a = (left ≡ 0 → ⊥) × (a % 32 ≡ 31) × (a ≡ 0 → ⊥) × (a ≡ 32 → ⊥)
 
--- the place behind what a walk took; 0 if it found a fault
-unfoldable pub whole_place : ℕ → Walk → ℕ
-whole_place at (Walk.Whole n) = at + n
-whole_place at (Walk.Fault k q) = 0
+-- the place behind what a walk took, if it found no fault
+unfoldable pub whole_place : ℕ → Walk → Optional ℕ
+whole_place at (Walk.Whole n) = Some (at + n)
+whole_place at (Walk.Fault k q) = None
 
 -- the same of a series that an end pair follows
-unfoldable pub pair_place : ℕ → Walk → ℕ
-pair_place at (Walk.Whole n) = at + (n + 2)
-pair_place at (Walk.Fault k q) = 0
+unfoldable pub pair_place : ℕ → Walk → Optional ℕ
+pair_place at (Walk.Whole n) = Some (at + (n + 2))
+pair_place at (Walk.Fault k q) = None
 
 -- the place behind a tag, and behind contents whose length is definite and stands at a place
-unfoldable pub tag_end : ℕ → TagRead → ℕ
-tag_end at (TagRead.Tag a s) = at + s
-tag_end at (TagRead.Fault k) = 0
+unfoldable pub tag_end : ℕ → TagRead → Optional ℕ
+tag_end at (TagRead.Tag a s) = Some (at + s)
+tag_end at (TagRead.Fault k) = None
+
+unfoldable pub length_end : ℕ → LengthRead → Optional ℕ
+length_end from (LengthRead.Definite k n) = Some (from + (k + n))
+length_end from LengthRead.Indefinite = None
+length_end from (LengthRead.Fault k) = None
 
 -- `past` where there is no such end
 unfoldable pub end_by_length : ℕ → ℕ → LengthRead → ℕ

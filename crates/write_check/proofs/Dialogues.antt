@@ -1,4 +1,5 @@
 -- The dialogue: the two names, and what a dialogue's form takes. Assumes nothing.
+use Rattle.std.specs.Prelude.{Ok}
 use Prim.Native.Nat.{ℕ, ◌+◌}
 use native.Mathlib.Omega.{arith}
 use mathlib.Core.Path.{◌≡◌, refl, sym, ◌∙◌}
@@ -9,12 +10,11 @@ use Rattle.base.specs.Value.{same}
 use Rattle.element.specs.Form.{Form, perhaps, shortest}
 use Rattle.tcap.specs.Meaning.{structured, unstructured, external}
 use Rattle.tcap.specs.inner.Names.{kind_of, name_kind}
-use Rattle.write_check_row.specs.declared.Judged.{Judged}
 use Rattle.write_check_row.specs.Judged.{rank_of, judged, whole_size, size_of}
 use Rattle.write_check_row.proofs.Joining.{size_short, then_size, around_size, leaf_size}
 
 -- each of the two names has 7 octets
-pub seven : Judged.Fine 7 ≡ judged (rank_of true true true true) 7
+pub seven : Ok 7 ≡ judged (rank_of true true true true) 7
 unfolding judged rank_of
 seven = refl
 

@@ -7,20 +7,20 @@ ghost use Rattle.write_check.specs.Judgements.{external_judged, pdu_judged, numb
 
 use tcap::{
     Diagnostic, Dialogue, LEFT_AT_5, LEFT_AT_7, MOST_ABORT_SOURCE, MOST_CAUSE,
-    MOST_PROVIDER_DIAGNOSTIC, MOST_RESULT, MOST_USER_DIAGNOSTIC, OptionalSpan, Span, name_kind,
+    MOST_PROVIDER_DIAGNOSTIC, MOST_RESULT, MOST_USER_DIAGNOSTIC, Span, name_kind,
 };
 use write_check_row::{
-    Judged, around, both, element_judged, name_judged, octet_judged, octets_judged, octets_of,
-    series_judged,
+    Judged, Wrong, around, both, element_judged, name_judged, octet_judged, octets_judged,
+    octets_of, series_judged,
 };
 
 // BE around a series of 28, which stand at level 7.
-fn info_judged(info: OptionalSpan, material: &[u8]) -> Judged
+fn info_judged(info: Option<Span>, material: &[u8]) -> Judged
     ensures { result ≡ info_judged material.now info }
 {
     match info {
-        OptionalSpan::Absent => Judged::Fine(0),
-        OptionalSpan::Present(span) => around(series_judged(span, material, LEFT_AT_7)),
+        None => Ok(0),
+        Some(span) => around(series_judged(span, material, LEFT_AT_7)),
     }
 }
 
@@ -35,15 +35,11 @@ fn context_judged(name: Span, material: &[u8]) -> Judged
 fn outside_judged(name: Span, material: &[u8]) -> Judged
     ensures { result ≡ outside_judged material.now name }
 {
-    match name_judged(name, material) {
-        Judged::Bad(k) => Judged::Bad(k),
-        Judged::Fine(n) => {
-            if name_kind(octets_of(name, material)) == 0 {
-                return Judged::Fine(n);
-            }
-            Judged::Bad(1)
-        }
+    let size = name_judged(name, material)?;
+    if name_kind(octets_of(name, material)) != 0 {
+        return Err(Wrong::Unshaped);
     }
+    Ok(size)
 }
 
 // 6B around 28 around the name and what it holds.
@@ -74,18 +70,18 @@ fn source_judged(diagnostic: Diagnostic) -> Judged
 fn pdu_judged(fields: Judged) -> Judged
     ensures { result ≡ pdu_judged fields }
 {
-    external_judged(Judged::Fine(7), around(around(fields)))
+    external_judged(Ok(7), around(around(fields)))
 }
 
 // A request, or a unidialogue, which is as long.
-fn request_judged(name: Span, info: OptionalSpan, material: &[u8]) -> Judged
+fn request_judged(name: Span, info: Option<Span>, material: &[u8]) -> Judged
     ensures { result ≡ dialogue_judged material.now (Dialogue.Request name info) }
 {
     pdu_judged(both(context_judged(name, material), info_judged(info, material)))
 }
 
 // What a response has behind the name.
-fn answer_judged(res: u8, diagnostic: Diagnostic, info: OptionalSpan, material: &[u8]) -> Judged
+fn answer_judged(res: u8, diagnostic: Diagnostic, info: Option<Span>, material: &[u8]) -> Judged
     ensures { result ≡ answer_judged material.now res diagnostic info }
 {
     let diagnosed = both(source_judged(diagnostic), info_judged(info, material));
@@ -96,7 +92,7 @@ fn response_judged(
     name: Span,
     res: u8,
     diagnostic: Diagnostic,
-    info: OptionalSpan,
+    info: Option<Span>,
     material: &[u8],
 ) -> Judged
     ensures { result ≡ dialogue_judged material.now (Dialogue.Response name res diagnostic info) }
@@ -105,7 +101,7 @@ fn response_judged(
     pdu_judged(both(context_judged(name, material), answer))
 }
 
-fn abort_judged(source: u8, info: OptionalSpan, material: &[u8]) -> Judged
+fn abort_judged(source: u8, info: Option<Span>, material: &[u8]) -> Judged
     ensures { result ≡ dialogue_judged material.now (Dialogue.DialogueAbort source info) }
 {
     pdu_judged(both(
@@ -134,9 +130,11 @@ pub fn dialogue_judged(dialogue: Dialogue, material: &[u8]) -> Judged
     ensures { result ≡ dialogue_judged material.now dialogue }
 {
     match dialogue {
-        Dialogue::NoDialogue => Judged::Fine(0),
+        Dialogue::NoDialogue => Ok(0),
         Dialogue::Cause(n) => octet_judged(n, MOST_CAUSE),
-        Dialogue::Request { name, info } => request_judged(name, info, material),
+        Dialogue::Request { name, info } | Dialogue::Unidialogue { name, info } => {
+            request_judged(name, info, material)
+        }
         Dialogue::Response {
             name,
             result,
@@ -144,7 +142,6 @@ pub fn dialogue_judged(dialogue: Dialogue, material: &[u8]) -> Judged
             info,
         } => response_judged(name, result, diagnostic, info, material),
         Dialogue::DialogueAbort { source, info } => abort_judged(source, info, material),
-        Dialogue::Unidialogue { name, info } => request_judged(name, info, material),
         Dialogue::OutsideElement { name, element } => outside_element_judged(
             name, element, material,
         ),

@@ -1,65 +1,64 @@
 -- How the judgements of parts are put together, and what the forms' sizes are. Assumes nothing.
-use Prim.Native.Nat.{ℕ, suc, ◌+◌, ◌≤◌, ◌<◌, min, max}
+use Rattle.std.specs.Prelude.{Option as Optional, Some, None, Ok, Err}
+use Prim.Native.Nat.{ℕ, suc, ◌+◌, ◌≤◌, ◌<◌, min}
 use native.Mathlib.Omega.{arith}
 use mathlib.Core.Path.{◌≡◌, refl, sym, ap, ◌∙◌}
 use mathlib.Core.Logic.{inl, inr}
-use mathlib.Core.Bool.{Bool, true, false, cond, ◌&&◌, and-true}
+use mathlib.Core.Bool.{Bool, true, false, ◌&&◌, and-true}
 use mathlib.Core.List.{List}
 use lib.ListN.{length, length-append}
-use lib.Dec.{ltb, eqb}
-use borrow.Author.Tests.{lt-ltb, ltb-true, ltb-false, eqb-true, eqb-false, eq-eqb, ne_eqb}
+use lib.Dec.{ltb}
+use borrow.Author.Tests.{lt-ltb, ltb-true, ltb-false}
 use Rattle.element.specs.Form.{Form, exactly, then, leaf, around, shortest, document01, StandsFor, length_octets}
 use Rattle.element.proofs.Shortest.{document01_laws}
-use Rattle.write_check_row.specs.declared.Judged.{Judged}
-use Rattle.write_check_row.specs.Judged.{rank_of, size_cap, judged, joined, whole_size, wrapped, size_of}
+use Rattle.write_check_row.specs.declared.Wrong.{Wrong}
+use Rattle.write_check_row.specs.Judged.{worse, rank_of, size_cap, judged, joined, whole_size, wrapped, size_of}
 
--- the worse of two
+-- the worse of two, or of one and nothing
 
-below : (b : Bool) (x k j : ℕ) → x ≤ j → k ≤ j → cond b x k ≤ j
-below true x k j h i = h
-below false x k j h i = i
-
-worst : (a b : Bool) (x y k : ℕ) → x ≤ k → y ≤ k → max (cond a x k) (cond b y k) ≡ cond (a && b) (max x y) k
-worst true true x y k h i = refl
-worst true false x y k h i = omega arith
-worst false true x y k h i = omega arith
-worst false false x y k h i = omega arith
+abbrev pub worst : Optional Wrong → Optional Wrong → Optional Wrong
+worst None l = l
+worst (Some k) None = Some k
+worst (Some k) (Some l) = Some (worse k l)
 
 module _ (p v s h p' v' s' h' : Bool) where
-  rank_both : max (rank_of p v s h) (rank_of p' v' s' h') ≡ rank_of (p && p') (v && v') (s && s') (h && h')
+  rank_both : worst (rank_of p v s h) (rank_of p' v' s' h') ≡ rank_of (p && p') (v && v') (s && s') (h && h')
   unfolding rank_of
-  rank_both =
-      rw (
-        worst p p' _ _ 4 (below v _ 3 4 (below s _ 2 4 (below h 0 1 4 (omega arith) (omega arith)) (omega arith)) (omega arith)) (below v' _ 3 4 (below s' _ 2 4 (below h' 0 1 4 (omega arith) (omega arith)) (omega arith)) (omega arith)),
-        worst v v' _ _ 3 (below s _ 2 3 (below h 0 1 3 (omega arith) (omega arith)) (omega arith)) (below s' _ 2 3 (below h' 0 1 3 (omega arith) (omega arith)) (omega arith)),
-        worst s s' _ _ 2 (below h 0 1 2 (omega arith) (omega arith)) (below h' 0 1 2 (omega arith) (omega arith)),
-        worst h h' 0 0 1 (omega arith) (omega arith),
-      )
+  rank_both = by p v s h p' v' s' h'
+    where
+      by : (p v s h p' v' s' h' : Bool) → worst (rank_of p v s h) (rank_of p' v' s' h') ≡ rank_of (p && p') (v && v') (s && s') (h && h')
+      by true true true true p' v' s' h' = refl
+      by true true true false true true true true = refl
+      by true true true false true true true false = refl
+      by true true true false true true false h' = refl
+      by true true true false true false s' h' = refl
+      by true true true false false v' s' h' = refl
+      by true true false h true true true true = refl
+      by true true false h true true true false = refl
+      by true true false h true true false h' = refl
+      by true true false h true false s' h' = refl
+      by true true false h false v' s' h' = refl
+      by true false s h true true true true = refl
+      by true false s h true true true false = refl
+      by true false s h true true false h' = refl
+      by true false s h true false s' h' = refl
+      by true false s h false v' s' h' = refl
+      by false v s h true true true true = refl
+      by false v s h true true true false = refl
+      by false v s h true true false h' = refl
+      by false v s h true false s' h' = refl
+      by false v s h false v' s' h' = refl
 
-pub joined_judged : (k l a b : ℕ) → joined (judged k a) (judged l b) ≡ judged (max k l) (a + b)
+pub joined_judged : (k l : Optional Wrong) (a b : ℕ) → joined (judged k a) (judged l b) ≡ judged (worst k l) (a + b)
 unfolding judged joined
-joined_judged k l a b = by (eqb k 0) (eqb l 0) refl refl
-  where
-    by : (x y : Bool) → eqb k 0 ≡ x → eqb l 0 ≡ y → joined (judged k a) (judged l b) ≡ judged (max k l) (a + b)
-    by true true e f =
-        let z = eqb-true k 0 e in
-        let w = eqb-true l 0 f in
-        rw (e, f, eq-eqb (max k l) 0 (omega arith)) (ap Judged.Fine (omega arith))
-    by true false e f =
-        let z = eqb-true k 0 e in
-        let w = eqb-false l 0 f in
-        rw (e, f, ne_eqb (max k l) 0 (λ i. omega arith)) (ap Judged.Bad (omega arith))
-    by false true e f =
-        let z = eqb-false k 0 e in
-        let w = eqb-true l 0 f in
-        rw (e, f, ne_eqb (max k l) 0 (λ i. omega arith)) (ap Judged.Bad (omega arith))
-    by false false e f =
-        let z = eqb-false k 0 e in
-        rw (e, f, ne_eqb (max k l) 0 (λ i. omega arith))
+joined_judged None None a b = ap Ok (omega arith)
+joined_judged None (Some l) a b = refl
+joined_judged (Some k) None a b = refl
+joined_judged (Some k) (Some l) a b = refl
 
 -- two parts, one after the other
 pub join : (p v s h p' v' s' h' : Bool) (a b : ℕ) → joined (judged (rank_of p v s h) a) (judged (rank_of p' v' s' h') b) ≡ judged (rank_of (p && p') (v && v') (s && s') (h && h')) (a + b)
-join p v s h p' v' s' h' a b = joined_judged (rank_of p v s h) (rank_of p' v' s' h') a b ∙ ap (λ (k : ℕ). judged k (a + b)) (rank_both p v s h p' v' s' h')
+join p v s h p' v' s' h' a b = joined_judged (rank_of p v s h) (rank_of p' v' s' h') a b ∙ ap (λ (k : Optional Wrong). judged k (a + b)) (rank_both p v s h p' v' s' h')
 
 -- an element by its contents
 
@@ -99,13 +98,10 @@ size_capped n = by (ltb n size_cap) refl
         let i : min n size_cap ≡ size_cap = omega arith in
         rw i (omega (arith, size_over n, size_over size_cap))
 
-pub wrap : (k n : ℕ) → wrapped (judged k n) ≡ judged k (whole_size n)
+pub wrap : (k : Optional Wrong) (n : ℕ) → wrapped (judged k n) ≡ judged k (whole_size n)
 unfolding judged wrapped
-wrap k n = by (eqb k 0) refl
-  where
-    by : (b : Bool) → eqb k 0 ≡ b → wrapped (judged k n) ≡ judged k (whole_size n)
-    by true e = rw e (ap Judged.Fine (size_capped n))
-    by false e = rw e
+wrap None n = ap Ok (size_capped n)
+wrap (Some k) n = refl
 
 -- sizes of forms
 
@@ -133,30 +129,30 @@ pub record Passed (p v s h : Bool) (n k : ℕ) : Type 0 where
   pub shaped : h ≡ true
   pub size : k ≡ min n size_cap
 
-pub passed : (p v s h : Bool) (n k : ℕ) → judged (rank_of p v s h) n ≡ Judged.Fine k → Passed p v s h n k
+pub passed : (p v s h : Bool) (n k : ℕ) → judged (rank_of p v s h) n ≡ Ok k → Passed p v s h n k
 unfolding judged rank_of
 passed true true true true n k e = record { parts = refl; ranges = refl; lies = refl; shaped = refl; size = cc }
-passed true true true false n k e = let z : ◌≡◌ {A = ℕ} 0 1 = cc in absurd (omega arith)
-passed true true false h n k e = let z : ◌≡◌ {A = ℕ} 0 1 = cc in absurd (omega arith)
-passed true false s h n k e = let z : ◌≡◌ {A = ℕ} 0 1 = cc in absurd (omega arith)
-passed false v s h n k e = let z : ◌≡◌ {A = ℕ} 0 1 = cc in absurd (omega arith)
+passed true true true false n k e = absurd cc
+passed true true false h n k e = absurd cc
+passed true false s h n k e = absurd cc
+passed false v s h n k e = absurd cc
 
 -- one more test of the last kind
-module _ (v s a b : Bool) (n k : ℕ) where
-  pub later_bad : judged (rank_of true v s a) n ≡ Judged.Bad k → Judged.Bad k ≡ judged (rank_of true v s (a && b)) n
+module _ (v s a b : Bool) (n : ℕ) where
+  pub later_bad : (k : Wrong) → judged (rank_of true v s a) n ≡ Err k → Err k ≡ judged (rank_of true v s (a && b)) n
   unfolding judged rank_of
-  later_bad e = by v s a e
+  later_bad k e = by v s a e
     where
-      by : (v s a : Bool) → judged (rank_of true v s a) n ≡ Judged.Bad k → Judged.Bad k ≡ judged (rank_of true v s (a && b)) n
+      by : (v s a : Bool) → judged (rank_of true v s a) n ≡ Err k → Err k ≡ judged (rank_of true v s (a && b)) n
       by false s a e = sym e
       by true false a e = sym e
       by true true false e = sym e
-      by true true true e = let z : ◌≡◌ {A = ℕ} 0 1 = cc in absurd (omega arith)
+      by true true true e = absurd cc
 
-  module _ (e : judged (rank_of true v s a) n ≡ Judged.Fine k) where
-    pub later_fine : b ≡ true → Judged.Fine k ≡ judged (rank_of true v s (a && b)) n
+  module _ (k : ℕ) (e : judged (rank_of true v s a) n ≡ Ok k) where
+    pub later_fine : b ≡ true → Ok k ≡ judged (rank_of true v s (a && b)) n
     later_fine h = rw (h, and-true) (sym e)
 
-    pub later_not : b ≡ false → Judged.Bad 1 ≡ judged (rank_of true v s (a && b)) n
+    pub later_not : b ≡ false → Err Wrong.Unshaped ≡ judged (rank_of true v s (a && b)) n
     unfolding judged rank_of
     later_not h = let q = passed true v s a n k e in rw (h, q.ranges, q.lies, q.shaped)

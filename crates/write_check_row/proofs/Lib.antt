@@ -3,3 +3,4 @@ pub mod Leaves
 pub mod Rows
 pub mod Listed
 pub mod Shapes
+pub mod Chunks

@@ -1,5 +1,6 @@
 -- Parts as octets say them: an octet that is not listed outranks all else. Assumes nothing.
-use Prim.Native.Nat.{ℕ, zero, suc, ◌+◌, ◌*◌, ◌≤◌, ◌<◌, min, max}
+use Rattle.std.specs.Prelude.{Option as Optional, Some, None, Ok, Err}
+use Prim.Native.Nat.{ℕ, zero, suc, ◌+◌, ◌*◌, ◌≤◌, ◌<◌}
 use native.Mathlib.Omega.{arith}
 use native.Mathlib.Numerals.{add-one}
 use mathlib.Core.Path.{◌≡◌, refl, sym, ap, ◌∙◌}
@@ -13,21 +14,21 @@ use borrow.Author.Tests.{lt-leb, ne_eqb, leb-true}
 use Rattle.base.specs.Number.{top_of, signed_at}
 use Rattle.base.proofs.Numbers.{signed_small}
 use Rattle.element.specs.Form.{then}
-use Rattle.tcap.specs.declared.{InvokeId.InvokeId, Problem.Problem, ComponentKind.ComponentKind, Row.Row}
+use Rattle.tcap.specs.declared.{Problem.Problem, ComponentKind.ComponentKind, Row.Row}
 use Rattle.tcap.specs.Meaning.{integer}
 use Rattle.layout.specs.Layout.{head_size, row_size, octet, is_flag, id_in, linked_in, code_at, parameter_at, is_problem_tag, problem_in, returned_in, is_kind, kind_in, is_row, row_in, are_rows}
-use Rattle.write_check_row.specs.declared.Judged.{Judged}
+use Rattle.write_check_row.specs.declared.Wrong.{Wrong}
 use Rattle.tcap.specs.Verdict.{id_there, row_parts_fit, row_ranges, row_lies, row_shaped}
 use Rattle.write_check_row.specs.Forms.{id_form, rest_form, contents_form, row_form}
-use Rattle.write_check_row.specs.Judged.{rank_of, size_cap, judged, joined, whole_size, wrapped, size_of, listed, rest_judged, row_judged, rows_rank, rows_judged}
-use Rattle.write_check_row.proofs.Joining.{joined_judged, join, wrap, size_short, then_size, around_size, leaf_size}
+use Rattle.write_check_row.specs.Judged.{Judged, rank_of, size_cap, judged, joined, whole_size, wrapped, size_of, listed, rest_judged, row_judged, rows_rank, rows_judged}
+use Rattle.write_check_row.proofs.Joining.{join, wrap, size_short, then_size, around_size, leaf_size}
 use Rattle.write_check_row.proofs.Leaves.{id_size}
 use Rattle.unpack.proofs.Rows.{rows_from}
 use Rattle.write_check_row.proofs.Rows.{rows_step}
 
 -- 24 is the worst
 
-pub over_right : (p v s h : Bool) (n : ℕ) → joined (judged (rank_of p v s h) n) (Judged.Bad 4) ≡ Judged.Bad 4
+pub over_right : (p v s h : Bool) (n : ℕ) → joined (judged (rank_of p v s h) n) (Err Wrong.WrongParts) ≡ Err Wrong.WrongParts
 unfolding rank_of judged joined
 over_right true true true true n = refl
 over_right true true true false n = refl
@@ -35,7 +36,7 @@ over_right true true false h n = refl
 over_right true false s h n = refl
 over_right false v s h n = refl
 
-over_left : (p v s h : Bool) (n : ℕ) → joined (Judged.Bad 4) (judged (rank_of p v s h) n) ≡ Judged.Bad 4
+over_left : (p v s h : Bool) (n : ℕ) → joined (Err Wrong.WrongParts) (judged (rank_of p v s h) n) ≡ Err Wrong.WrongParts
 unfolding rank_of judged joined
 over_left true true true true n = refl
 over_left true true true false n = refl
@@ -43,7 +44,7 @@ over_left true true false h n = refl
 over_left true false s h n = refl
 over_left false v s h n = refl
 
-listed_both : (a b : Bool) (x y : Judged) → joined x (Judged.Bad 4) ≡ Judged.Bad 4 → joined (Judged.Bad 4) y ≡ Judged.Bad 4 → joined (listed a x) (listed b y) ≡ listed (a && b) (joined x y)
+listed_both : (a b : Bool) (x y : Judged) → joined x (Err Wrong.WrongParts) ≡ Err Wrong.WrongParts → joined (Err Wrong.WrongParts) y ≡ Err Wrong.WrongParts → joined (listed a x) (listed b y) ≡ listed (a && b) (joined x y)
 unfolding joined
 listed_both true true x y h i = refl
 listed_both true false x y h i = h
@@ -61,15 +62,13 @@ module _ (a p v s h p' v' s' h' : Bool) (n k : ℕ) where
   listed_then = listed_join a true p v s h p' v' s' h' n k ∙ rw (and-true)
 
 -- so many octets before a part
-pub fine_then : (n : ℕ) → n < size_cap → (b : Bool) (k l : ℕ) → joined (Judged.Fine n) (listed b (judged k l)) ≡ listed b (judged k (n + l))
+pub fine_then : (n : ℕ) → n < size_cap → (b : Bool) (k : Optional Wrong) (l : ℕ) → joined (Ok n) (listed b (judged k l)) ≡ listed b (judged k (n + l))
 unfolding judged joined
-fine_then n i true k l =
-    let e : min n size_cap ≡ n = omega arith in
-    let z : max 0 k ≡ k = omega arith in
-    ap (λ (j : Judged). joined j (judged k l)) (ap Judged.Fine (sym e)) ∙ joined_judged 0 k n l ∙ ap (λ (j : ℕ). judged j (n + l)) z
+fine_then n i true None l = ap Ok (omega arith)
+fine_then n i true (Some k) l = refl
 fine_then n i false k l = refl
 
-pub listed_wrap : (b : Bool) (k n : ℕ) → wrapped (listed b (judged k n)) ≡ listed b (judged k (whole_size n))
+pub listed_wrap : (b : Bool) (k : Optional Wrong) (n : ℕ) → wrapped (listed b (judged k n)) ≡ listed b (judged k (whole_size n))
 unfolding wrapped
 listed_wrap true k n = wrap k n
 listed_wrap false k n = refl
@@ -93,7 +92,7 @@ problem_none x a b c d = by (leb 0x80 x) refl
 
 -- A component behind its ID
 
-contents_rest : (m : List ℕ) (i : InvokeId) (k : ComponentKind) → contents_form m i k ≡ then (id_form i) (rest_form m k)
+contents_rest : (m : List ℕ) (i : Optional ℤ) (k : ComponentKind) → contents_form m i k ≡ then (id_form i) (rest_form m k)
 unfolding contents_form rest_form
 contents_rest m i (ComponentKind.Invoke l c p) = refl
 contents_rest m i (ComponentKind.ResultLast r) = refl
@@ -106,7 +105,7 @@ pub octet_id : (t n : ℕ) → size_of (integer t (signed_at (top_of 1) n)) ≡ 
 unfolding top_of
 octet_id t n = id_size t (signed_at 255 n) (omega (arith, signed_small 255 n))
 
-id_parts_lem : (z : ℤ) (k : ComponentKind) → row_parts_fit (InvokeId.Id z) k ≡ true
+id_parts_lem : (z : ℤ) (k : ComponentKind) → row_parts_fit (Some z) k ≡ true
 unfolding row_parts_fit id_there
 id_parts_lem z (ComponentKind.Invoke l c p) = refl
 id_parts_lem z (ComponentKind.ResultLast r) = refl
@@ -115,47 +114,47 @@ id_parts_lem z (ComponentKind.ReturnError c p) = refl
 id_parts_lem z (ComponentKind.Reject q) = refl
 
 module _ (m : List ℕ) where
-  row_rest : (i : InvokeId) (k : ComponentKind) → row_judged m (record { id = i; kind = k }) ≡ judged (rank_of (row_parts_fit i k) (row_ranges k) (row_lies (length m) k) (row_shaped m k)) (whole_size (size_of (id_form i) + size_of (rest_form m k)))
+  row_rest : (i : Optional ℤ) (k : ComponentKind) → row_judged m (record { id = i; kind = k }) ≡ judged (rank_of (row_parts_fit i k) (row_ranges k) (row_lies (length m) k) (row_shaped m k)) (whole_size (size_of (id_form i) + size_of (rest_form m k)))
   unfolding row_form
   row_rest i k = rw (around_size, contents_rest m i k, then_size)
 
   -- the ID takes three octets, null two
-  id_listed : (n : ℕ) (k : ComponentKind) (b : Bool) → wrapped (joined (Judged.Fine 3) (listed b (rest_judged m k))) ≡ listed b (row_judged m (record { id = InvokeId.Id (signed_at (top_of 1) n); kind = k }))
+  id_listed : (n : ℕ) (k : ComponentKind) (b : Bool) → wrapped (joined (Ok 3) (listed b (rest_judged m k))) ≡ listed b (row_judged m (record { id = Some (signed_at (top_of 1) n); kind = k }))
   unfolding id_form
-  id_listed n k b = rw (row_rest (InvokeId.Id (signed_at (top_of 1) n)) k, id_parts_lem (signed_at (top_of 1) n) k, octet_id 0x02 n, fine_then 3 (omega arith)) (listed_wrap b _ _)
+  id_listed n k b = rw (row_rest (Some (signed_at (top_of 1) n)) k, id_parts_lem (signed_at (top_of 1) n) k, octet_id 0x02 n, fine_then 3 (omega arith)) (listed_wrap b _ _)
 
-  reject_listed : (q : Problem) (b : Bool) → wrapped (joined (Judged.Fine 2) (listed b (rest_judged m (ComponentKind.Reject q)))) ≡ listed b (row_judged m (record { id = InvokeId.Null; kind = ComponentKind.Reject q }))
+  reject_listed : (q : Problem) (b : Bool) → wrapped (joined (Ok 2) (listed b (rest_judged m (ComponentKind.Reject q)))) ≡ listed b (row_judged m (record { id = None; kind = ComponentKind.Reject q }))
   unfolding id_form row_parts_fit
-  reject_listed q b = rw (row_rest InvokeId.Null (ComponentKind.Reject q), leaf_size, size_short 0 (omega arith), fine_then 2 (omega arith)) (listed_wrap b _ _)
+  reject_listed q b = rw (row_rest None (ComponentKind.Reject q), leaf_size, size_short 0 (omega arith), fine_then 2 (omega arith)) (listed_wrap b _ _)
 
-  null_parts : (x : ℕ) (l : List ℕ) → (x ≡ 0xA4 → ⊥) → row_parts_fit InvokeId.Null (kind_in x l) ≡ false
+  null_parts : (x : ℕ) (l : List ℕ) → (x ≡ 0xA4 → ⊥) → row_parts_fit None (kind_in x l) ≡ false
   unfolding kind_in row_parts_fit id_there
   null_parts x l h = rw (ne_eqb x 0xA4 h) (by (eqb x 0xA1) (eqb x 0xA2) (eqb x 0xA3))
     where
-      by : (a b c : Bool) → row_parts_fit InvokeId.Null (cond a (ComponentKind.Invoke (linked_in (octet l 3) (octet l 4)) (code_at l) (parameter_at l)) (cond b (ComponentKind.ResultLast (returned_in l)) (cond c (ComponentKind.ReturnError (code_at l) (parameter_at l)) (ComponentKind.ResultNotLast (returned_in l))))) ≡ false
+      by : (a b c : Bool) → row_parts_fit None (cond a (ComponentKind.Invoke (linked_in (octet l 3) (octet l 4)) (code_at l) (parameter_at l)) (cond b (ComponentKind.ResultLast (returned_in l)) (cond c (ComponentKind.ReturnError (code_at l) (parameter_at l)) (ComponentKind.ResultNotLast (returned_in l))))) ≡ false
       by true b c = refl
       by false true c = refl
       by false false true = refl
       by false false false = refl
 
   -- null is for a Reject alone
-  null_listed : (x : ℕ) (l : List ℕ) → (x ≡ 0xA4 → ⊥) → (b : Bool) → Judged.Bad 4 ≡ listed b (row_judged m (record { id = InvokeId.Null; kind = kind_in x l }))
+  null_listed : (x : ℕ) (l : List ℕ) → (x ≡ 0xA4 → ⊥) → (b : Bool) → Err Wrong.WrongParts ≡ listed b (row_judged m (record { id = None; kind = kind_in x l }))
   unfolding rank_of judged
   null_listed x l h true = rw (null_parts x l h)
   null_listed x l h false = refl
 
   -- the row, by its ID
   module _ (l : List ℕ) where
-    pub row_id : octet l 1 ≡ 1 → wrapped (joined (Judged.Fine 3) (listed (is_kind (octet l 0) l) (rest_judged m (kind_in (octet l 0) l)))) ≡ listed (is_row l) (row_judged m (row_in l))
+    pub row_id : octet l 1 ≡ 1 → wrapped (joined (Ok 3) (listed (is_kind (octet l 0) l) (rest_judged m (kind_in (octet l 0) l)))) ≡ listed (is_row l) (row_judged m (row_in l))
     unfolding is_row row_in id_in
     row_id h = rw h (id_listed (octet l 2) (kind_in (octet l 0) l) (is_kind (octet l 0) l))
 
     module _ (h : octet l 1 ≡ 0) where
-      pub row_null : octet l 0 ≡ 0xA4 → wrapped (joined (Judged.Fine 2) (listed (is_kind (octet l 0) l) (rest_judged m (kind_in (octet l 0) l)))) ≡ listed (is_row l) (row_judged m (row_in l))
+      pub row_null : octet l 0 ≡ 0xA4 → wrapped (joined (Ok 2) (listed (is_kind (octet l 0) l) (rest_judged m (kind_in (octet l 0) l)))) ≡ listed (is_row l) (row_judged m (row_in l))
       unfolding is_row row_in id_in kind_in
       row_null e = rw (h, e) (reject_listed (problem_in (octet l 5) (octet l 7)) (is_kind 0xA4 l))
 
-      pub row_none : (octet l 0 ≡ 0xA4 → ⊥) → Judged.Bad 4 ≡ listed (is_row l) (row_judged m (row_in l))
+      pub row_none : (octet l 0 ≡ 0xA4 → ⊥) → Err Wrong.WrongParts ≡ listed (is_row l) (row_judged m (row_in l))
       unfolding is_row row_in id_in
       row_none e = rw h (null_listed (octet l 0) l e (is_kind (octet l 0) l))
 

@@ -1,4 +1,5 @@
 -- One row more: each test of every row, and the size of them all. Assumes nothing.
+use Rattle.std.specs.Prelude.{Ok}
 use Prim.Native.Nat.{ℕ, ◌+◌, ◌<◌}
 use native.Mathlib.Nat.{zero-add, add-zero, add_assoc}
 use native.Mathlib.Numerals.{add-one}
@@ -9,7 +10,6 @@ use lib.ListN.{length, take, get_or}
 use lib.Seq.{take-suc}
 use Rattle.element.specs.Form.{Form, shortest, series_form}
 use Rattle.tcap.specs.declared.Row.{Row}
-use Rattle.write_check_row.specs.declared.Judged.{Judged}
 use Rattle.tcap.specs.Verdict.{every, row_parts_fit, row_ranges, row_lies, row_shaped}
 use Rattle.write_check_row.specs.Forms.{row_form}
 use Rattle.write_check_row.specs.Judged.{rank_of, judged, joined, size_of, rows_rank, row_judged, rows_judged}
@@ -26,7 +26,7 @@ series_more f [] r = rw (then_size, exact_size, add-zero, zero-add)
 series_more f (w ∷ rs) r = rw (then_size, then_size, series_more f rs r) (sym (add_assoc (size_of (f w)) (size_of (series_form f rs)) (size_of (f r))))
 
 module _ (m : List ℕ) where
-  pub rows_none : Judged.Fine 0 ≡ rows_judged m []
+  pub rows_none : Ok 0 ≡ rows_judged m []
   unfolding rows_rank every series_form shortest rank_of judged
   rows_none = refl
 

@@ -1,4 +1,6 @@
 -- When octets are one element, or a series of 28. Assumes nothing.
+use Rattle.std.specs.Prelude.{Option as Optional, Some}
+use Rattle.std.specs.Option.{option_eq}
 use Prim.Native.Nat.{ℕ, zero, suc, ◌+◌, ◌-◌, ◌≤◌, ◌<◌}
 use mathlib.Core.Path.{◌≡◌, refl, sym, ap, ◌∙◌}
 use mathlib.Core.Logic.{inl, inr}
@@ -52,25 +54,17 @@ module _ (l p n : ℕ) (part : List ℕ) where
 
 -- One element
 
-module _ (l : ℕ) (c : List ℕ) (r : ℕ) (is : r ≡ whole_place 0 (element_walk 0 l 0 (drop 0 (take (length c) c)))) where
-  here : r ≡ whole_place 0 (element_walk 0 l 0 c)
+module _ (l : ℕ) (c : List ℕ) (q : Optional ℕ) (is : q ≡ whole_place 0 (element_walk 0 l 0 (drop 0 (take (length c) c)))) where
+  here : q ≡ whole_place 0 (element_walk 0 l 0 c)
   here = rw (take_all (length c) c (omega arith)) at is
 
-  pub element_none : r ≡ 0 → false ≡ is_element l c
+  pub element_told : option_eq eqb q (Some (length c)) ≡ is_element l c
   unfolding is_element took_all whole_place
-  element_none z = go (element_walk 0 l 0 c) refl here
+  element_told = go (element_walk 0 l 0 c) refl here
     where
-      go : (w : Walk) → element_walk 0 l 0 c ≡ w → r ≡ whole_place 0 w → false ≡ is_element l c
-      go (Walk.Fault k p) e q = rw e
-      go (Walk.Whole n) e q = absurd (omega (arith, z, q, element_size 0 l 0 c n e))
-
-  pub element_some : (r ≡ 0 → ⊥) → eqb r (length c) ≡ is_element l c
-  unfolding is_element took_all whole_place
-  element_some z = go (element_walk 0 l 0 c) refl here
-    where
-      go : (w : Walk) → element_walk 0 l 0 c ≡ w → r ≡ whole_place 0 w → eqb r (length c) ≡ is_element l c
-      go (Walk.Fault k p) e q = absurd (z q)
-      go (Walk.Whole n) e q = let k : r ≡ n = omega (arith, q) in rw (e, k)
+      go : (w : Walk) → element_walk 0 l 0 c ≡ w → q ≡ whole_place 0 w → option_eq eqb q (Some (length c)) ≡ is_element l c
+      go (Walk.Fault k p) e i = rw (e, i)
+      go (Walk.Whole n) e i = let z : 0 + n ≡ n = omega arith in rw (e, i, z)
 
 -- A series of 28, of which the elements in front of `at` are walked
 
@@ -99,29 +93,30 @@ module _ (l : ℕ) (c : List ℕ) (at : ℕ) (g : at < length c) (going : Left 0
   pub series_other : (get_or c at 0 ≡ 0x28 → ⊥) → false ≡ is_series l c
   series_other f = stopped (λ n e. f (sym first_is ∙ (taken_tag l at n (drop at c) e).0))
 
-  module _ (r : ℕ) (is : r ≡ whole_place at (element_walk 0 l at (drop at (take (length c) c)))) where
-    walked : r ≡ whole_place at (element_walk 0 l at (drop at c))
+  module _ (q : Optional ℕ) (is : q ≡ whole_place at (element_walk 0 l at (drop at (take (length c) c)))) where
+    walked : q ≡ whole_place at (element_walk 0 l at (drop at c))
     walked = rw (take_all (length c) c (omega arith)) at is
 
-    pub series_fault : r ≡ 0 → false ≡ is_series l c
+    pub series_fault : ((r : ℕ) → q ≡ Some r → ⊥) → false ≡ is_series l c
     unfolding whole_place
-    series_fault z = stopped (λ n e. let f = (taken_tag l at n (drop at c) e).1 in let q : r ≡ at + n = walked ∙ ap (whole_place at) f in omega (arith, z, q, element_size 0 l at (drop at c) n f))
+    series_fault z = stopped (λ n e. let f = (taken_tag l at n (drop at c) e).1 in z (at + n) (walked ∙ ap (whole_place at) f))
 
-    series_on : get_or c at 0 ≡ 0x28 → (r ≡ 0 → ⊥) → (at < r) × (r ≤ length c) × Left 0x28 l true 0 c r
+    series_on : (r : ℕ) → q ≡ Some r → get_or c at 0 ≡ 0x28 → (at < r) × (r ≤ length c) × Left 0x28 l true 0 c r
     unfolding whole_place
-    series_on f z = go (element_walk 0 l at (drop at c)) refl walked
+    series_on r z f = go (element_walk 0 l at (drop at c)) refl walked
       where
-        go : (w : Walk) → element_walk 0 l at (drop at c) ≡ w → r ≡ whole_place at w → (at < r) × (r ≤ length c) × Left 0x28 l true 0 c r
-        go (Walk.Fault k p) e q = absurd (z q)
-        go (Walk.Whole n) e q =
+        go : (w : Walk) → element_walk 0 l at (drop at c) ≡ w → q ≡ whole_place at w → (at < r) × (r ≤ length c) × Left 0x28 l true 0 c r
+        go (Walk.Fault k p) e i = absurd cc
+        go (Walk.Whole n) e i =
             let s = element_size 0 l at (drop at c) n e in
-            (omega (arith, q, s), omega (arith, q, s, length-drop at c, g), rw q (loop_next 0x28 l true 0 c at (drop at c) EndRead.More going refl more refl (Walk.Whole n) (drop at c) refl (rw (zero-add at) (sym (tag_taken l at n (drop at c) (first_is ∙ f) e))) n refl))
+            let j : r ≡ at + n = cc in
+            (omega (arith, j, s), omega (arith, j, s, length-drop at c, g), rw j (loop_next 0x28 l true 0 c at (drop at c) EndRead.More going refl more refl (Walk.Whole n) (drop at c) refl (rw (zero-add at) (sym (tag_taken l at n (drop at c) (first_is ∙ f) e))) n refl))
 
-    pub series_less : get_or c at 0 ≡ 0x28 → (r ≡ 0 → ⊥) → length c - r < length c - at
-    series_less f z = let o = series_on f z in omega (arith, o.0, o.1)
+    pub series_less : (r : ℕ) → q ≡ Some r → get_or c at 0 ≡ 0x28 → length c - r < length c - at
+    series_less r z f = let o = series_on r z f in omega (arith, o.0, o.1)
 
-    pub series_to : get_or c at 0 ≡ 0x28 → (r ≡ 0 → ⊥) → r ≤ length c
-    series_to f z = (series_on f z).1
+    pub series_to : (r : ℕ) → q ≡ Some r → get_or c at 0 ≡ 0x28 → r ≤ length c
+    series_to r z f = (series_on r z f).1
 
-    pub series_again : get_or c at 0 ≡ 0x28 → (r ≡ 0 → ⊥) → Left 0x28 l true 0 c r
-    series_again f z = (series_on f z).2
+    pub series_again : (r : ℕ) → q ≡ Some r → get_or c at 0 ≡ 0x28 → Left 0x28 l true 0 c r
+    series_again r z f = (series_on r z f).2

@@ -1,19 +1,23 @@
 -- The form of each part of a record over the material beside it, line by line as `message_form` has it for a meaning; cited by inner contracts.
 -- Assumes nothing: these are definitions.
+use Rattle.std.specs.Prelude.{ℤ}
+use Rattle.tcap.specs.declared.DestTransactionId.{DestTransactionId}
+use Rattle.tcap.specs.declared.OrigTransactionId.{OrigTransactionId}
+use Rattle.std.specs.Prelude.{Option as Optional, Some, None}
 use Rattle.std.specs.Prelude.{ℕ}
 use mathlib.Core.{List.List, List.[], List.◌∷◌}
 use Rattle.element.specs.{Form.Form, Form.exactly, Form.then, Form.leaf, Form.around, Form.series_form, Form.shortest, Form.document01}
-use Rattle.tcap.specs.{declared.Span.Span, declared.OptionalSpan.OptionalSpan, declared.OptionalOrig.OptionalOrig, declared.OptionalDest.OptionalDest, declared.InvokeId.InvokeId, declared.LinkedId.LinkedId, declared.Code.Code, declared.Returned.Returned, declared.ComponentKind.ComponentKind, declared.Row.Row, declared.Dialogue.Dialogue, declared.MessageKind.MessageKind, declared.Record.Record, Record.message_tag, Meaning.octet, Meaning.integer, Meaning.problem_form, Meaning.structured, Meaning.unstructured, Meaning.version_form, Meaning.context_form, Meaning.source_form, Meaning.external}
+use Rattle.tcap.specs.{declared.Span.Span, declared.Code.Code, declared.ComponentKind.ComponentKind, declared.Row.Row, declared.Dialogue.Dialogue, declared.MessageKind.MessageKind, declared.Record.Record, Record.message_tag, Meaning.octet, Meaning.integer, Meaning.problem_form, Meaning.structured, Meaning.unstructured, Meaning.version_form, Meaning.context_form, Meaning.source_form, Meaning.external}
 use Rattle.tcap.specs.Verdict.{string_octets, counted}
 use Rattle.tcap.specs.Record.{row_tag}
 
-unfoldable pub id_form : InvokeId → Form
-id_form InvokeId.Null = leaf 0x05 []
-id_form (InvokeId.Id i) = integer 0x02 i
+unfoldable pub id_form : Optional ℤ → Form
+id_form None = leaf 0x05 []
+id_form (Some i) = integer 0x02 i
 
-unfoldable pub linked_form : LinkedId → Form
-linked_form LinkedId.Unlinked = exactly []
-linked_form (LinkedId.Linked i) = integer 0x80 i
+unfoldable pub linked_form : Optional ℤ → Form
+linked_form None = exactly []
+linked_form (Some i) = integer 0x80 i
 
 module _ (m : List ℕ) where
   unfoldable pub code_form : Code → Form
@@ -21,13 +25,13 @@ module _ (m : List ℕ) where
   code_form (Code.Global s) = leaf 0x06 (string_octets m s)
 
   -- a whole element
-  unfoldable pub parameter_form : OptionalSpan → Form
-  parameter_form OptionalSpan.Absent = exactly []
-  parameter_form (OptionalSpan.Present s) = exactly (string_octets m s)
+  unfoldable pub parameter_form : Optional Span → Form
+  parameter_form None = exactly []
+  parameter_form (Some s) = exactly (string_octets m s)
 
-  unfoldable pub returned_form : Returned → Form
-  returned_form Returned.Bare = exactly []
-  returned_form (Returned.Both c p) = around 0x30 (then (code_form c) (exactly (string_octets m p)))
+  unfoldable pub returned_form : Optional (Code × Span) → Form
+  returned_form None = exactly []
+  returned_form (Some (c, p)) = around 0x30 (then (code_form c) (exactly (string_octets m p)))
 
   -- behind the invoke ID
   unfoldable pub rest_form : ComponentKind → Form
@@ -37,7 +41,7 @@ module _ (m : List ℕ) where
   rest_form (ComponentKind.ReturnError c p) = then (code_form c) (parameter_form p)
   rest_form (ComponentKind.Reject q) = problem_form q
 
-  unfoldable pub contents_form : InvokeId → ComponentKind → Form
+  unfoldable pub contents_form : Optional ℤ → ComponentKind → Form
   contents_form i (ComponentKind.Invoke l c p) = then (id_form i) (then (linked_form l) (then (code_form c) (parameter_form p)))
   contents_form i (ComponentKind.ResultLast r) = then (id_form i) (returned_form r)
   contents_form i (ComponentKind.ResultNotLast r) = then (id_form i) (returned_form r)
@@ -52,12 +56,12 @@ module _ (m : List ℕ) where
   rows_form [] = exactly []
   rows_form (r ∷ rs) = around 0x6C (series_form row_form (r ∷ rs))
 
-  unfoldable pub info_form : OptionalSpan → Form
-  info_form OptionalSpan.Absent = exactly []
-  info_form (OptionalSpan.Present s) = around 0xBE (exactly (string_octets m s))
+  unfoldable pub info_form : Optional Span → Form
+  info_form None = exactly []
+  info_form (Some s) = around 0xBE (exactly (string_octets m s))
 
   -- A0 and 60 around the fields of a request or a unidialogue
-  abbrev pub asked_form : Span → OptionalSpan → Form
+  abbrev pub asked_form : Span → Optional Span → Form
   asked_form n u = around 0xA0 (around 0x60 (then version_form (then (context_form (string_octets m n)) (info_form u))))
 
   unfoldable pub dialogue_form : Dialogue → Form
@@ -73,19 +77,19 @@ module _ (m : List ℕ) where
   dialogue_form (Dialogue.OutsideElement n e) = external (string_octets m n) (around 0xA0 (exactly (string_octets m e)))
   dialogue_form (Dialogue.OutsideOctets n c) = external (string_octets m n) (leaf 0x81 (string_octets m c))
 
-  unfoldable pub orig_form : OptionalOrig → Form
-  orig_form OptionalOrig.NoOrig = exactly []
-  orig_form (OptionalOrig.Orig o) = leaf 0x48 (string_octets m o.0.octets)
+  unfoldable pub orig_form : Optional OrigTransactionId → Form
+  orig_form None = exactly []
+  orig_form (Some o) = leaf 0x48 (string_octets m o.0.octets)
 
-  unfoldable pub dest_form : OptionalDest → Form
-  dest_form OptionalDest.NoDest = exactly []
-  dest_form (OptionalDest.Dest e) = leaf 0x49 (string_octets m e.0.octets)
+  unfoldable pub dest_form : Optional DestTransactionId → Form
+  dest_form None = exactly []
+  dest_form (Some e) = leaf 0x49 (string_octets m e.0.octets)
 
   -- a message by its parts, and what it holds
-  unfoldable pub inside_form : OptionalOrig → OptionalDest → Dialogue → List Row → Form
+  unfoldable pub inside_form : Optional OrigTransactionId → Optional DestTransactionId → Dialogue → List Row → Form
   inside_form orig dest dialogue rows = then (orig_form orig) (then (dest_form dest) (then (dialogue_form dialogue) (rows_form rows)))
 
-  unfoldable pub parts_form : MessageKind → OptionalOrig → OptionalDest → Dialogue → List Row → Form
+  unfoldable pub parts_form : MessageKind → Optional OrigTransactionId → Optional DestTransactionId → Dialogue → List Row → Form
   parts_form kind orig dest dialogue rows = around (message_tag kind) (inside_form orig dest dialogue rows)
 
   abbrev pub record_form : Record → Form

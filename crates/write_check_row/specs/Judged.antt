@@ -1,42 +1,58 @@
 -- What is told of a part of a record: that it may be written, with its size, or the worst that is wrong with it; cited by inner contracts.
 -- Assumes nothing: these are definitions.
-use Rattle.std.specs.Prelude.{ℕ, suc, ◌+◌, min, max}
+use Rattle.std.specs.Prelude.{Option as Optional, Some, None, Result, Ok, Err}
+use Rattle.std.specs.Prelude.{ℕ, suc, ◌+◌, min}
 use mathlib.Core.{Bool.Bool, Bool.true, Bool.cond, Bool.◌&&◌, List.List}
-use lib.{ListN.length, Dec.leb, Dec.eqb}
+use lib.{ListN.length, Dec.leb, Dec.ltb}
 use Rattle.element.specs.{Form.Form, Form.then, Form.series_form, Form.length_octets, Form.shortest, Form.document01}
-use Rattle.tcap.specs.{declared.Span.Span, declared.OptionalSpan.OptionalSpan, declared.Code.Code, declared.Problem.Problem, declared.Returned.Returned, declared.ComponentKind.ComponentKind, declared.Row.Row, Meaning.problem_form, WellFormed.most_octets}
-use Rattle.write_check_row.specs.{declared.Judged.Judged, Forms.code_form, Forms.parameter_form, Forms.returned_form, Forms.rest_form, Forms.row_form}
+use Rattle.tcap.specs.{declared.Span.Span, declared.Code.Code, declared.Problem.Problem, declared.ComponentKind.ComponentKind, declared.Row.Row, Meaning.problem_form, WellFormed.most_octets}
+use Rattle.write_check_row.specs.{declared.Wrong.Wrong, Forms.code_form, Forms.parameter_form, Forms.returned_form, Forms.rest_form, Forms.row_form}
 use Rattle.tcap.specs.Verdict.{every, row_parts_fit, ranges, name_ranges, code_ranges, problem_ranges, returned_ranges, row_ranges, lies, option_lies, code_lies, returned_lies, row_lies, is_element, is_series, string_octets, name_shaped, parameter_shaped, code_shaped, returned_shaped, row_shaped}
 
--- the worst of a part by the four tests, in the order of document 01: 4 for 24, 3 for 23, 2 for 21, 1 for 22, and 0 for none
-unfoldable pub rank_of : Bool → Bool → Bool → Bool → ℕ
-rank_of parts ranges lies shaped = cond parts (cond ranges (cond lies (cond shaped 0 1) 2) 3) 4
+-- the size of a part that may be written, capped, or the worst that is wrong with it
+abbrev pub Judged : Type 0
+Judged = Result ℕ Wrong
+
+-- the order of document 01: 24 before 23, 21 and 22
+abbrev pub rank : Wrong → ℕ
+rank Wrong.WrongParts = 4
+rank Wrong.OutOfRange = 3
+rank Wrong.OutOfMaterial = 2
+rank Wrong.Unshaped = 1
+
+abbrev pub worse : Wrong → Wrong → Wrong
+worse k l = cond (ltb (rank k) (rank l)) l k
+
+-- the worst of a part by the four tests, or nothing
+unfoldable pub rank_of : Bool → Bool → Bool → Bool → Optional Wrong
+rank_of parts ranges lies shaped = cond parts (cond ranges (cond lies (cond shaped None (Some Wrong.Unshaped)) (Some Wrong.OutOfMaterial)) (Some Wrong.OutOfRange)) (Some Wrong.WrongParts)
 
 -- sizes above the most octets are all alike: no such message may be written
 abbrev pub size_cap : ℕ
 size_cap = suc most_octets
 
-unfoldable pub judged : ℕ → ℕ → Judged
-judged rank size = cond (eqb rank 0) (Judged.Fine (min size size_cap)) (Judged.Bad rank)
+unfoldable pub judged : Optional Wrong → ℕ → Judged
+judged None size = Ok (min size size_cap)
+judged (Some k) size = Err k
 
 -- a part as octets say it: an octet that chooses and is not listed is a wrong part, 24
 abbrev pub listed : Bool → Judged → Judged
-listed b j = cond b j (Judged.Bad 4)
+listed b j = cond b j (Err Wrong.WrongParts)
 
 -- two parts, one after the other
 unfoldable pub joined : Judged → Judged → Judged
-joined (Judged.Fine a) (Judged.Fine b) = Judged.Fine (min (a + b) size_cap)
-joined (Judged.Fine a) (Judged.Bad l) = Judged.Bad l
-joined (Judged.Bad k) (Judged.Fine b) = Judged.Bad k
-joined (Judged.Bad k) (Judged.Bad l) = Judged.Bad (max k l)
+joined (Ok a) (Ok b) = Ok (min (a + b) size_cap)
+joined (Ok a) (Err l) = Err l
+joined (Err k) (Ok b) = Err k
+joined (Err k) (Err l) = Err (worse k l)
 
 -- the size of an element with a tag of one octet, by that of its contents
 unfoldable pub whole_size : ℕ → ℕ
 whole_size n = suc (length (length_octets n) + n)
 
 unfoldable pub wrapped : Judged → Judged
-wrapped (Judged.Fine n) = Judged.Fine (min (whole_size n) size_cap)
-wrapped (Judged.Bad k) = Judged.Bad k
+wrapped (Ok n) = Ok (min (whole_size n) size_cap)
+wrapped (Err k) = Err k
 
 abbrev pub size_of : Form → ℕ
 size_of f = length (shortest document01 f)
@@ -68,13 +84,13 @@ module _ (m : List ℕ) where
   abbrev pub code_judged : Code → Judged
   code_judged c = judged (rank_of true (code_ranges c) (code_lies (length m) c) (code_shaped m c)) (size_of (code_form m c))
 
-  abbrev pub parameter_judged : OptionalSpan → Judged
+  abbrev pub parameter_judged : Optional Span → Judged
   parameter_judged p = judged (rank_of true true (option_lies (length m) p) (parameter_shaped m p)) (size_of (parameter_form m p))
 
-  abbrev pub coded_judged : Code → OptionalSpan → Judged
+  abbrev pub coded_judged : Code → Optional Span → Judged
   coded_judged c p = judged (rank_of true (code_ranges c) (code_lies (length m) c && option_lies (length m) p) (code_shaped m c && parameter_shaped m p)) (size_of (then (code_form m c) (parameter_form m p)))
 
-  abbrev pub returned_judged : Returned → Judged
+  abbrev pub returned_judged : Optional (Code × Span) → Judged
   returned_judged r = judged (rank_of true (returned_ranges r) (returned_lies (length m) r) (returned_shaped m r)) (size_of (returned_form m r))
 
   abbrev pub rest_judged : ComponentKind → Judged
@@ -84,7 +100,7 @@ module _ (m : List ℕ) where
   row_judged r = judged (rank_of (row_parts_fit r.id r.kind) (row_ranges r.kind) (row_lies (length m) r.kind) (row_shaped m r.kind)) (size_of (row_form m r))
 
   -- all of them, one after the other
-  unfoldable pub rows_rank : List Row → ℕ
+  unfoldable pub rows_rank : List Row → Optional Wrong
   rows_rank rs = rank_of (every (λ w. row_parts_fit w.id w.kind) rs) (every (λ w. row_ranges w.kind) rs) (every (λ w. row_lies (length m) w.kind) rs) (every (λ w. row_shaped m w.kind) rs)
 
   abbrev pub rows_judged : List Row → Judged

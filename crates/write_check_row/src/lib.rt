@@ -1,9 +1,10 @@
 // Whether the parts of a record may be written, and how many octets they take, told in one pass.
 #![tactic(auto)]
 
-ghost use Rattle.std.specs.Prelude.{◌≡◌, true, ◌+◌, min, max, length};
+ghost use Rattle.std.specs.Prelude.{◌≡◌, true, false, ◌+◌, min, length, IfOk, IfErr};
 ghost use Rattle.tcap.specs.Verdict.{lies, is_element, is_series, string_octets};
-ghost use Rattle.write_check_row.specs.Judged.{size_cap, joined, wrapped, octet_judged, octets_judged, sized_judged, name_judged, element_judged, series_judged};
+ghost use Rattle.write_check_row.specs.declared.Wrong.{Wrong};
+ghost use Rattle.write_check_row.specs.Judged.{size_cap, worse, joined, wrapped, octet_judged, octets_judged, sized_judged, name_judged, element_judged, series_judged};
 
 use base::piece;
 use primitive::{MOST_IDENTIFIER_OCTETS, identifier_ok};
@@ -13,51 +14,46 @@ use walk::whole_at;
 // Any size above the most octets that a message may have.
 const SIZE_CAP: usize = MOST_OCTETS + 1;
 
-// A part that may be written, with its size, capped; or the worst that is wrong: 4 for 24, 3 for 23, 2 for 21, 1 for 22.
-#[derive(Clone, Copy)]
-pub enum Judged {
-    Fine(usize),
-    Bad(u8),
+// What is wrong with a part, the worst last; document 01 numbers these 22, 21, 23 and 24.
+#[derive(Clone, Copy, PartialEq, Eq, PartialOrd, Ord)]
+pub enum Wrong {
+    Unshaped,
+    OutOfMaterial,
+    OutOfRange,
+    WrongParts,
 }
+
+// The size of a part that may be written, capped; or the worst that is wrong with it.
+pub type Judged = Result<usize, Wrong>;
 
 fn capped(size: usize) -> usize
     ensures { result ≡ min size size_cap }
 {
-    if size < SIZE_CAP { size } else { SIZE_CAP }
+    size.min(SIZE_CAP)
 }
 
 // A sum that does not wrap.
 fn total(one: usize, other: usize) -> usize
     ensures { result ≡ min (one + other) size_cap }
 {
-    if one >= SIZE_CAP {
-        return SIZE_CAP;
-    }
-    if other >= SIZE_CAP {
-        return SIZE_CAP;
-    }
-    capped(one + other)
+    capped(one.saturating_add(other))
 }
 
-fn worse(one: u8, other: u8) -> u8
-    ensures { result ≡ max one other }
+fn worse(one: Wrong, other: Wrong) -> Wrong
+    ensures { result ≡ worse one other }
 {
-    if one < other { other } else { one }
+    one.max(other)
 }
 
 // Two parts, one after the other.
 pub fn both(one: Judged, other: Judged) -> Judged
     ensures { result ≡ joined one other }
 {
-    match one {
-        Judged::Fine(a) => match other {
-            Judged::Fine(b) => Judged::Fine(total(a, b)),
-            Judged::Bad(l) => Judged::Bad(l),
-        },
-        Judged::Bad(k) => match other {
-            Judged::Fine(b) => Judged::Bad(k),
-            Judged::Bad(l) => Judged::Bad(worse(k, l)),
-        },
+    match (one, other) {
+        (Ok(a), Ok(b)) => Ok(total(a, b)),
+        (Err(k), Err(l)) => Err(worse(k, l)),
+        (Err(k), Ok(_)) => Err(k),
+        (Ok(_), Err(l)) => Err(l),
     }
 }
 
@@ -65,27 +61,11 @@ pub fn both(one: Judged, other: Judged) -> Judged
 pub fn around(contents: Judged) -> Judged
     ensures { result ≡ wrapped contents }
 {
-    match contents {
-        Judged::Bad(k) => Judged::Bad(k),
-        Judged::Fine(n) => {
-            if n < 128 {
-                return Judged::Fine(n + 2);
-            }
-            if n < SIZE_CAP - 3 {
-                return Judged::Fine(n + 3);
-            }
-            Judged::Fine(SIZE_CAP)
-        }
+    let n = contents?;
+    if n < 128 {
+        return Ok(n + 2);
     }
-}
-
-// 21: place and length are 32 bits, so that their sum does not wrap.
-fn lies_in(span: Span, material: &[u8]) -> bool
-    ensures { result ≡ lies (length material.now) span }
-{
-    let place = span.place as usize;
-    let len = span.len as usize;
-    place + len <= material.len()
+    Ok(total(n, 3))
 }
 
 // The octets of a string that lies in the material.
@@ -98,15 +78,22 @@ pub fn octets_of(span: Span, material: &[u8]) -> &[u8]
     piece(material, place, len)
 }
 
+// The octets of any string; 21: place and length are 32 bits, so that their sum does not wrap.
+fn octets_in(span: Span, material: &[u8]) -> Result<&[u8], Wrong>
+    ensures ok { IfOk result (λ octets. (lies (length material.now) span ≡ true) × (octets.now ≡ string_octets material.now span)) }
+    ensures err { IfErr result (λ wrong. (lies (length material.now) span ≡ false) × (wrong ≡ Wrong.OutOfMaterial)) }
+{
+    let place = span.place as usize;
+    let end = place + span.len as usize;
+    material.get(place..end).ok_or(Wrong::OutOfMaterial)
+}
+
 // Octets of any kind.
 pub fn octets_judged(span: Span, material: &[u8]) -> Judged
     ensures { result ≡ octets_judged material.now span }
 {
-    if !lies_in(span, material) {
-        return Judged::Bad(2);
-    }
-    let len = span.len as usize;
-    Judged::Fine(capped(len))
+    let octets = octets_in(span, material)?;
+    Ok(capped(octets.len()))
 }
 
 // 1 to `most` octets: a transaction ID.
@@ -114,11 +101,8 @@ pub fn sized_judged(span: Span, most: usize, material: &[u8]) -> Judged
     ensures { result ≡ sized_judged material.now most span }
 {
     let len = span.len as usize;
-    if len < 1 {
-        return Judged::Bad(3);
-    }
-    if len > most {
-        return Judged::Bad(3);
+    if len < 1 || len > most {
+        return Err(Wrong::OutOfRange);
     }
     octets_judged(span, material)
 }
@@ -127,42 +111,33 @@ pub fn sized_judged(span: Span, most: usize, material: &[u8]) -> Judged
 pub fn name_judged(span: Span, material: &[u8]) -> Judged
     ensures { result ≡ name_judged material.now span }
 {
-    match sized_judged(span, MOST_IDENTIFIER_OCTETS, material) {
-        Judged::Bad(k) => Judged::Bad(k),
-        Judged::Fine(n) => {
-            if identifier_ok(octets_of(span, material)) {
-                return Judged::Fine(n);
-            }
-            Judged::Bad(1)
-        }
+    let size = sized_judged(span, MOST_IDENTIFIER_OCTETS, material)?;
+    if !identifier_ok(octets_of(span, material)) {
+        return Err(Wrong::Unshaped);
     }
+    Ok(size)
 }
 
 // Whether octets are just one element, for which `left` levels are left.
 fn is_element(octets: &[u8], left: usize) -> bool
     ensures { result ≡ is_element left octets.now }
 {
-    let end = whole_at(octets, 0, octets.len(), left);
-    if end == 0 {
-        return false;
-    }
-    end == octets.len()
+    whole_at(octets, 0, octets.len(), left) == Some(octets.len())
 }
 
-// Whether they are a series of 28.
+// Whether they are a series of 28: a turn passes a whole element, so that no iterator over octets fits.
 fn is_series(octets: &[u8], left: usize) -> bool
     ensures { result ≡ is_series left octets.now }
 {
-    let mut at: usize = 0;
+    let mut at = 0;
     while at < octets.len() {
         if octets[at] != 0x28 {
             return false;
         }
-        let r = whole_at(octets, at, octets.len(), left);
-        if r == 0 {
+        let Some(next) = whole_at(octets, at, octets.len(), left) else {
             return false;
-        }
-        at = r;
+        };
+        at = next;
     }
     true
 }
@@ -171,28 +146,22 @@ fn is_series(octets: &[u8], left: usize) -> bool
 pub fn element_judged(span: Span, material: &[u8], left: usize) -> Judged
     ensures { result ≡ element_judged material.now left span }
 {
-    if !lies_in(span, material) {
-        return Judged::Bad(2);
-    }
-    let octets = octets_of(span, material);
+    let octets = octets_in(span, material)?;
     if !is_element(octets, left) {
-        return Judged::Bad(1);
+        return Err(Wrong::Unshaped);
     }
-    Judged::Fine(capped(octets.len()))
+    Ok(capped(octets.len()))
 }
 
 // A series of 28.
 pub fn series_judged(span: Span, material: &[u8], left: usize) -> Judged
     ensures { result ≡ series_judged material.now left span }
 {
-    if !lies_in(span, material) {
-        return Judged::Bad(2);
-    }
-    let octets = octets_of(span, material);
+    let octets = octets_in(span, material)?;
     if !is_series(octets, left) {
-        return Judged::Bad(1);
+        return Err(Wrong::Unshaped);
     }
-    Judged::Fine(capped(octets.len()))
+    Ok(capped(octets.len()))
 }
 
 // An element of one octet, 0 to `most`.
@@ -200,7 +169,7 @@ pub fn octet_judged(octet: u8, most: u8) -> Judged
     ensures { result ≡ octet_judged octet most }
 {
     if octet > most {
-        return Judged::Bad(3);
+        return Err(Wrong::OutOfRange);
     }
-    Judged::Fine(3)
+    Ok(3)
 }

@@ -1,16 +1,21 @@
 -- An integer's octets are the last of its 32 bits. Assumes nothing.
 use Prim.Native.Nat.{ℕ, zero, suc, ◌+◌, ◌-◌, ◌*◌, ◌/◌, ◌%◌, ◌≤◌, ◌<◌}
 use native.Mathlib.Omega.{arith}
-use mathlib.Core.Path.{◌≡◌, refl, ap, ◌∙◌}
+use mathlib.Core.Path.{◌≡◌, refl, sym, ap, ◌∙◌}
 use mathlib.Core.Bool.{Bool, true, false}
 use mathlib.Core.List.{List, [], ◌∷◌, ◌++◌}
-use lib.ListN.{length}
+use lib.ListN.{length, take, drop, get_or, length-drop}
+use lib.Seq.{take_all}
+use mir.Syntax.{w32}
+use mir.Val.{of_z}
+use Rattle.std.specs.Int.{to_be_bytes}
+use Rattle.std.proofs.lemmas.Int.{ints}
 use lib.IntN.{ℤ, pos, negsuc}
 use lib.Signed.{mag}
 use borrow.Author.Tests.{le-leb}
 use Rattle.base.specs.Number.{octets_in, top_of, bits_at, holds}
 use Rattle.base.proofs.Numbers.{bits_within, holds_small, small_holds}
-use Rattle.element.specs.Form.{shortest, length_octets}
+use Rattle.element.specs.Form.{leaf, shortest, length_octets}
 use Rattle.primitive.specs.Primitive.{width_from, integer_octets}
 use Rattle.primitive.proofs.Integers.{integer_length, integer_some, integer_fits}
 use Rattle.tcap.specs.Meaning.{integer}
@@ -66,16 +71,37 @@ module _ (z : ℤ) (size : ℕ) (s : size ≡ length (integer_octets z)) (h : ma
   unfolding octets_in
   integer_one tag number n e = integer_parts tag number n ∙ ap (λ (k : ℕ). tag ∷ k ∷ octets_in k number) e
 
-pub three_octets : (n : ℕ) → octets_in 3 n ≡ n / 65536 % 256 ∷ n / 256 % 256 ∷ n % 256 ∷ []
+-- the last octets of 32 bits
+cut : (k n : ℕ) → k ≤ 4 → drop (4 - k) (to_be_bytes w32 n) ≡ octets_in k n
 unfolding octets_in
-three_octets n = let e : n / 256 / 256 ≡ n / 65536 = omega arith in rw e
-
-pub four_octets : (n : ℕ) → n < 4294967296 → octets_in 4 n ≡ n / 16777216 ∷ n / 65536 % 256 ∷ n / 256 % 256 ∷ n % 256 ∷ []
-unfolding octets_in
-four_octets n h =
+cut zero n h = refl
+cut (suc zero) n h = refl
+cut (suc (suc zero)) n h = refl
+cut (suc (suc (suc zero))) n h = let e : n / 256 / 256 ≡ n / 65536 = omega arith in rw e
+cut (suc (suc (suc (suc zero)))) n h =
     let e : n / 256 / 256 ≡ n / 65536 = omega arith in
-    let f : n / 65536 / 256 % 256 ≡ n / 16777216 = omega arith in
+    let f : n / 65536 / 256 ≡ n / 16777216 = omega arith in
     rw (e, f)
+cut (suc (suc (suc (suc (suc k))))) n h = absurd (omega arith)
+
+-- the number of 32 bits that stands for a value
+bits_same : (z : ℤ) → mag z < 2147483648 → of_z w32 z ≡ bits_at 4294967295 z
+unfolding bits_at
+bits_same (pos n) h = omega (arith, ints)
+bits_same (negsuc n) h = omega (arith, ints)
+
+module _ (z : ℤ) (size : ℕ) (s : size ≡ length (integer_octets z)) (h : mag z < 2147483648) (b : List ℕ) (e : b ≡ to_be_bytes w32 (of_z w32 z)) where
+  last_of : drop (4 - size) b ≡ integer_octets z
+  last_of = rw (e, bits_same z h, cut size (bits_at 4294967295 z) (size_some z size s h).1, s, integer_length z, ← (last_octets z))
+
+  whole : length (drop (4 - size) b) ≤ 4 - (4 - size)
+  whole = omega (arith, length-drop (4 - size) b, ap length e)
+
+  pub all_octets : (tag : ℕ) → octets_of (integer tag z) ≡ octets_of (leaf tag (take (4 - (4 - size)) (drop (4 - size) b)))
+  all_octets tag = ap (λ (c : List ℕ). octets_of (leaf tag c)) (sym (take_all (4 - (4 - size)) (drop (4 - size) b) whole ∙ last_of))
+
+  pub one_octet : (tag : ℕ) → size ≡ 1 → octets_of (integer tag z) ≡ tag ∷ 1 ∷ get_or b 3 0 ∷ []
+  one_octet tag i = rw (e, bits_same z h) (integer_one z size s h tag (bits_at 4294967295 z) refl i)
 
 -- a number of one octet
 small_octets : (z : ℤ) → mag z < 128 → integer_octets z ≡ bits_at 255 z ∷ []

@@ -1,4 +1,5 @@
 -- Room inside what is put around octets that stand, and the octets of small parts. Assumes nothing.
+use Rattle.std.specs.Prelude.{Option as Optional}
 use Prim.Native.Nat.{ℕ}
 use native.Mathlib.Omega.{arith}
 use mathlib.Core.Path.{◌≡◌}
@@ -8,7 +9,7 @@ use lib.ListN.{length}
 use Rattle.base.specs.inner.Back.{Room}
 use Rattle.base.proofs.Backs.{room_last}
 use Rattle.element.specs.Form.{leaf, around, shortest, length_octets}
-use Rattle.tcap.specs.declared.{Span.Span, OptionalSpan.OptionalSpan}
+use Rattle.tcap.specs.declared.{Span.Span}
 use Rattle.tcap.specs.Meaning.{octet}
 use Rattle.tcap.specs.Verdict.{lies, option_lies}
 use Rattle.write_check_row.specs.Forms.{octets_of}
@@ -17,7 +18,7 @@ use Rattle.write_head.proofs.Heads.{room_inside}
 use Rattle.write_portion.specs.Enclosed.{named, opened}
 
 -- both lie there
-pub named_lie : (end : ℕ) (n : Span) (u : OptionalSpan) → lies end n && option_lies end u ≡ true → (lies end n ≡ true) × (option_lies end u ≡ true)
+pub named_lie : (end : ℕ) (n : Span) (u : Optional Span) → lies end n && option_lies end u ≡ true → (lies end n ≡ true) × (option_lies end u ≡ true)
 named_lie end n u h = (and-eq-true_iff (lies end n) (option_lies end u)).0 h
 
 pub outside_lie : (end : ℕ) (n s : Span) → lies end n && lies end s ≡ true → (lies end n ≡ true) × (lies end s ≡ true)

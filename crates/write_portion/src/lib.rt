@@ -11,26 +11,26 @@ ghost use Rattle.tcap.specs.Verdict.{lies, option_lies, dialogue_lies, string_oc
 ghost use Rattle.write_check_row.specs.Forms.{info_form, asked_form, dialogue_form, octets_of};
 ghost use Rattle.write_portion.specs.Enclosed.{named, opened, Encloses, Enclosed};
 
-use base::{back_three, back_two};
-use tcap::{Diagnostic, Dialogue, OptionalSpan, Span};
+use base::back_octets;
+use tcap::{Diagnostic, Dialogue, Span};
 use write_check_row::octets_of;
 use write_head::{back_head, back_leaf, back_string};
 
 // User information, BE.
-fn back_info(out: &mut [u8], at: usize, material: &[u8], info: OptionalSpan) -> usize
-    requires info_value { option_lies (length material.now) info ≡ true }
+fn back_info(out: &mut [u8], at: usize, material: &[u8], info: Option<Span>) -> usize
+    requires info_within { option_lies (length material.now) info ≡ true }
     requires room { Room out.old at (octets_of (info_form material.now info)) }
     ensures { PutBack out.old at (octets_of (info_form material.now info)) result out.new }
 {
     match info {
-        OptionalSpan::Absent => at,
-        OptionalSpan::Present(string) => back_string(out, at, material, 0xBE, string),
+        None => at,
+        Some(string) => back_string(out, at, material, 0xBE, string),
     }
 }
 
 // The application context name, A1 holding 06.
 fn back_context(out: &mut [u8], at: usize, material: &[u8], name: Span) -> usize
-    requires name_value { lies (length material.now) name ≡ true }
+    requires name_within { lies (length material.now) name ≡ true }
     requires room { Room out.old at (octets_of (context_form (string_octets material.now name))) }
     ensures { PutBack out.old at (octets_of (context_form (string_octets material.now name))) result out.new }
 {
@@ -65,10 +65,10 @@ fn back_asked(
     material: &[u8],
     known: &[u8],
     name: Span,
-    info: OptionalSpan,
+    info: Option<Span>,
 ) -> usize
-    requires name_value { lies (length material.now) name ≡ true }
-    requires info_value { option_lies (length material.now) info ≡ true }
+    requires name_within { lies (length material.now) name ≡ true }
+    requires info_within { option_lies (length material.now) info ≡ true }
     requires room { Room out.old at (octets_of (external known.now (asked_form material.now name info))) }
     ensures { PutBack out.old at (octets_of (external known.now (asked_form material.now name info))) result out.new }
 {
@@ -78,22 +78,13 @@ fn back_asked(
 }
 
 // Who diagnosed, and what, under A3.
-fn back_source(out: &mut [u8], at: usize, tag: u8, diagnostic: u8) -> usize
-    requires { Room out.old at (octets_of (around 0xA3 (around tag (octet 0x02 diagnostic)))) }
-    ensures { PutBack out.old at (octets_of (around 0xA3 (around tag (octet 0x02 diagnostic)))) result out.new }
-{
-    let a = back_three(out, at, 0x02, 1, diagnostic);
-    let b = back_two(out, a, tag, 3);
-    back_two(out, b, 0xA3, 5)
-}
-
 fn back_diagnostic(out: &mut [u8], at: usize, diagnostic: Diagnostic) -> usize
     requires { Room out.old at (octets_of (around 0xA3 (source_form diagnostic))) }
     ensures { PutBack out.old at (octets_of (around 0xA3 (source_form diagnostic))) result out.new }
 {
     match diagnostic {
-        Diagnostic::ByUser(n) => back_source(out, at, 0xA1, n),
-        Diagnostic::ByProvider(n) => back_source(out, at, 0xA2, n),
+        Diagnostic::ByUser(n) => back_octets(out, at, [0xA3, 5, 0xA1, 3, 0x02, 1, n]),
+        Diagnostic::ByProvider(n) => back_octets(out, at, [0xA3, 5, 0xA2, 3, 0x02, 1, n]),
     }
 }
 
@@ -104,16 +95,15 @@ fn back_result(
     material: &[u8],
     res: u8,
     diagnostic: Diagnostic,
-    info: OptionalSpan,
+    info: Option<Span>,
 ) -> usize
-    requires info_value { option_lies (length material.now) info ≡ true }
+    requires info_within { option_lies (length material.now) info ≡ true }
     requires room { Room out.old at (octets_of (then (around 0xA2 (octet 0x02 res)) (then (around 0xA3 (source_form diagnostic)) (info_form material.now info)))) }
     ensures { PutBack out.old at (octets_of (then (around 0xA2 (octet 0x02 res)) (then (around 0xA3 (source_form diagnostic)) (info_form material.now info)))) result out.new }
 {
     let a = back_info(out, at, material, info);
     let b = back_diagnostic(out, a, diagnostic);
-    let c = back_three(out, b, 0x02, 1, res);
-    back_two(out, c, 0xA2, 3)
+    back_octets(out, b, [0xA2, 3, 0x02, 1, res])
 }
 
 fn back_response(
@@ -123,9 +113,9 @@ fn back_response(
     name: Span,
     res: u8,
     diagnostic: Diagnostic,
-    info: OptionalSpan,
+    info: Option<Span>,
 ) -> usize
-    requires info_value { dialogue_lies (length material.now) (Dialogue.Response name res diagnostic info) ≡ true }
+    requires info_within { dialogue_lies (length material.now) (Dialogue.Response name res diagnostic info) ≡ true }
     requires room { Room out.old at (octets_of (dialogue_form material.now (Dialogue.Response name res diagnostic info))) }
     ensures { PutBack out.old at (octets_of (dialogue_form material.now (Dialogue.Response name res diagnostic info))) result out.new }
 {
@@ -134,13 +124,13 @@ fn back_response(
     back_opening(out, b, at, b"\x00\x11\x86\x05\x01\x01\x01", 0x61)
 }
 
-fn back_abort(out: &mut [u8], at: usize, material: &[u8], source: u8, info: OptionalSpan) -> usize
-    requires info_value { dialogue_lies (length material.now) (Dialogue.DialogueAbort source info) ≡ true }
+fn back_abort(out: &mut [u8], at: usize, material: &[u8], source: u8, info: Option<Span>) -> usize
+    requires info_within { dialogue_lies (length material.now) (Dialogue.DialogueAbort source info) ≡ true }
     requires room { Room out.old at (octets_of (dialogue_form material.now (Dialogue.DialogueAbort source info))) }
     ensures { PutBack out.old at (octets_of (dialogue_form material.now (Dialogue.DialogueAbort source info))) result out.new }
 {
     let a = back_info(out, at, material, info);
-    let b = back_three(out, a, 0x80, 1, source);
+    let b = back_octets(out, a, [0x80, 1, source]);
     back_opening(out, b, at, b"\x00\x11\x86\x05\x01\x01\x01", 0x64)
 }
 
@@ -153,8 +143,8 @@ fn back_outside(
     tag: u8,
     string: Span,
 ) -> usize
-    requires name_value { lies (length material.now) name ≡ true }
-    requires string_value { lies (length material.now) string ≡ true }
+    requires name_within { lies (length material.now) name ≡ true }
+    requires string_within { lies (length material.now) string ≡ true }
     requires room { Room out.old at (octets_of (external (string_octets material.now name) (leaf tag (string_octets material.now string)))) }
     ensures { PutBack out.old at (octets_of (external (string_octets material.now name) (leaf tag (string_octets material.now string)))) result out.new }
 {
@@ -164,13 +154,13 @@ fn back_outside(
 }
 
 pub fn back_dialogue(out: &mut [u8], at: usize, material: &[u8], dialogue: Dialogue) -> usize
-    requires dialogue_value { dialogue_lies (length material.now) dialogue ≡ true }
+    requires dialogue_within { dialogue_lies (length material.now) dialogue ≡ true }
     requires room { Room out.old at (octets_of (dialogue_form material.now dialogue)) }
     ensures { PutBack out.old at (octets_of (dialogue_form material.now dialogue)) result out.new }
 {
     match dialogue {
         Dialogue::NoDialogue => at,
-        Dialogue::Cause(cause) => back_three(out, at, 0x4A, 1, cause),
+        Dialogue::Cause(cause) => back_octets(out, at, [0x4A, 1, cause]),
         Dialogue::Request { name, info } => back_asked(
             out,
             at,

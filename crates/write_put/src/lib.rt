@@ -7,7 +7,7 @@ ghost use Rattle.tcap.specs.Verdict.{every, orig_lies, dest_lies, row_lies, dial
 ghost use Rattle.write_check_row.specs.Forms.{rows_form, parts_form, octets_of};
 ghost use Rattle.layout.specs.Layout.{are_rows, rows_in};
 
-use tcap::{Dialogue, MessageKind, OptionalDest, OptionalOrig, message_tag};
+use tcap::{DestTransactionId, Dialogue, MessageKind, OrigTransactionId, message_tag};
 use write_head::back_head;
 use write_portion::back_dialogue;
 use write_portion::transaction::{back_dest, back_orig};
@@ -16,8 +16,8 @@ use write_row::back_rows;
 // 6C with the first `count` rows of a record; no component, no 6C.
 fn back_components(out: &mut [u8], at: usize, material: &[u8], octets: &[u8], count: usize) -> usize
     requires in_bounds { (428 ≤ length octets.now) × (count ≤ 16) }
-    requires octets_value { are_rows count (drop 44 octets.now) ≡ true }
-    requires octets_value_2 { every (λ w. row_lies (length material.now) w.kind) (rows_in count (drop 44 octets.now)) ≡ true }
+    requires rows_listed { are_rows count (drop 44 octets.now) ≡ true }
+    requires rows_within { every (λ w. row_lies (length material.now) w.kind) (rows_in count (drop 44 octets.now)) ≡ true }
     requires room { Room out.old at (octets_of (rows_form material.now (rows_in count (drop 44 octets.now)))) }
     ensures { PutBack out.old at (octets_of (rows_form material.now (rows_in count (drop 44 octets.now)))) result out.new }
 {
@@ -34,18 +34,18 @@ pub fn put_message(
     at: usize,
     material: &[u8],
     kind: MessageKind,
-    orig: OptionalOrig,
-    dest: OptionalDest,
+    orig: Option<OrigTransactionId>,
+    dest: Option<DestTransactionId>,
     dialogue: Dialogue,
     octets: &[u8],
     count: usize,
 ) -> usize
     requires in_bounds { (428 ≤ length octets.now) × (count ≤ 16) }
-    requires octets_value { are_rows count (drop 44 octets.now) ≡ true }
-    requires orig_value { orig_lies (length material.now) orig ≡ true }
-    requires dest_value { dest_lies (length material.now) dest ≡ true }
-    requires dialogue_value { dialogue_lies (length material.now) dialogue ≡ true }
-    requires octets_value_2 { every (λ w. row_lies (length material.now) w.kind) (rows_in count (drop 44 octets.now)) ≡ true }
+    requires rows_listed { are_rows count (drop 44 octets.now) ≡ true }
+    requires orig_within { orig_lies (length material.now) orig ≡ true }
+    requires dest_within { dest_lies (length material.now) dest ≡ true }
+    requires dialogue_within { dialogue_lies (length material.now) dialogue ≡ true }
+    requires rows_within { every (λ w. row_lies (length material.now) w.kind) (rows_in count (drop 44 octets.now)) ≡ true }
     requires room { Room out.old at (octets_of (parts_form material.now kind orig dest dialogue (rows_in count (drop 44 octets.now)))) }
     ensures { PutBack out.old at (octets_of (parts_form material.now kind orig dest dialogue (rows_in count (drop 44 octets.now)))) result out.new }
 {

@@ -1,4 +1,6 @@
 -- The octets of a row's fields, and what is told of each where a row lies in the material. Assumes nothing.
+use Rattle.std.specs.Prelude.{ℤ}
+use Rattle.std.specs.Prelude.{Option as Optional, Some}
 use Prim.Native.Nat.{ℕ, ◌<◌}
 use native.Mathlib.Omega.{arith}
 use mathlib.Core.Path.{◌≡◌, refl, ◌∙◌}
@@ -11,7 +13,7 @@ use Rattle.base.specs.inner.Back.{Room}
 use Rattle.base.proofs.Numbers.{signed_small, bits_signed}
 use Rattle.base.proofs.Backs.{room_last}
 use Rattle.element.specs.Form.{then, shortest}
-use Rattle.tcap.specs.declared.{Span.Span, OptionalSpan.OptionalSpan, InvokeId.InvokeId, LinkedId.LinkedId, Code.Code, Returned.Returned, ComponentKind.ComponentKind, Row.Row}
+use Rattle.tcap.specs.declared.{Span.Span, Code.Code, ComponentKind.ComponentKind, Row.Row}
 use Rattle.tcap.specs.Meaning.{integer, problem_form}
 use Rattle.tcap.specs.Verdict.{lies, option_lies, code_lies, returned_lies, string_octets}
 use Rattle.write_check_row.specs.Forms.{id_form, linked_form, code_form, parameter_form, returned_form, contents_form, row_form, octets_of}
@@ -40,15 +42,15 @@ problem_parts x n h = by (eqb x 0x80) (eqb x 0x81) (eqb x 0x82) refl refl refl
         let k : x ≡ 0x83 = omega (arith, leb-true 0x80 x t.0, leb-true x 0x83 t.1, eqb-false x 0x80 e, eqb-false x 0x81 f, eqb-false x 0x82 g) in
         rw k (octet_octets 0x83 n)
 
-pub both_lie : (n : ℕ) (c : Code) (p : Span) → returned_lies n (Returned.Both c p) ≡ true → (code_lies n c ≡ true) × (lies n p ≡ true)
+pub both_lie : (n : ℕ) (c : Code) (p : Span) → returned_lies n (Some (c, p)) ≡ true → (code_lies n c ≡ true) × (lies n p ≡ true)
 unfolding returned_lies
 both_lie n c p h = (and-eq-true_iff (code_lies n c) (lies n p)).0 h
 
-pub coded_lie : (n : ℕ) (c : Code) (p : OptionalSpan) → code_lies n c && option_lies n p ≡ true → (code_lies n c ≡ true) × (option_lies n p ≡ true)
+pub coded_lie : (n : ℕ) (c : Code) (p : Optional Span) → code_lies n c && option_lies n p ≡ true → (code_lies n c ≡ true) × (option_lies n p ≡ true)
 coded_lie n c p h = (and-eq-true_iff (code_lies n c) (option_lies n p)).0 h
 
 module _ (m : List ℕ) where
-  pub contents_parts : (i : InvokeId) (k : ComponentKind) → octets_of (contents_form m i k) ≡ octets_of (id_form i) ++ octets_of (rest_form m k)
+  pub contents_parts : (i : Optional ℤ) (k : ComponentKind) → octets_of (contents_form m i k) ≡ octets_of (id_form i) ++ octets_of (rest_form m k)
   unfolding contents_form rest_form shortest
   contents_parts i (ComponentKind.Invoke l c p) = refl
   contents_parts i (ComponentKind.ResultLast r) = refl
@@ -57,12 +59,12 @@ module _ (m : List ℕ) where
   contents_parts i (ComponentKind.Reject q) = refl
 
   -- the room of code and parameter, behind a linked ID
-  pub coded_room : (l : LinkedId) (c : Code) (p : OptionalSpan) {d : List ℕ} {at : ℕ} → Room d at (octets_of (rest_form m (ComponentKind.Invoke l c p))) → Room d at (octets_of (then (code_form m c) (parameter_form m p)))
+  pub coded_room : (l : Optional ℤ) (c : Code) (p : Optional Span) {d : List ℕ} {at : ℕ} → Room d at (octets_of (rest_form m (ComponentKind.Invoke l c p))) → Room d at (octets_of (then (code_form m c) (parameter_form m p)))
   unfolding rest_form shortest
   coded_room l c p r = room_last (octets_of (linked_form l)) r
 
   -- and of what is in a 30, and in a component
-  pub both_inside : (c : Code) (p : Span) {d : List ℕ} {at : ℕ} → Room d at (octets_of (returned_form m (Returned.Both c p))) → Room d at (octets_of (code_form m c) ++ string_octets m p)
+  pub both_inside : (c : Code) (p : Span) {d : List ℕ} {at : ℕ} → Room d at (octets_of (returned_form m (Some (c, p)))) → Room d at (octets_of (code_form m c) ++ string_octets m p)
   unfolding returned_form shortest
   both_inside c p r = room_inside 0x30 (octets_of (code_form m c) ++ string_octets m p) r
 

@@ -1,11 +1,12 @@
 -- A loop over rows from the last to the first: what each turn asks and adds. Assumes nothing.
 use Prim.Native.Nat.{ℕ, zero, suc, ◌+◌, ◌*◌, ◌≤◌, ◌<◌}
 use native.Mathlib.Omega.{arith}
-use mathlib.Core.Path.{◌≡◌, sym, ap, ◌∙◌}
+use mathlib.Core.Path.{◌≡◌, refl, sym, ap, ◌∙◌}
 use mathlib.Core.Bool.{Bool, true, and-eq-true_iff}
 use mathlib.Core.List.{List, [], ◌∷◌, ◌++◌}
-use lib.ListN.{length, drop, get_or, length-append}
-use lib.Seq.{drop-cons, drop-drop}
+use lib.ListN.{length, take, drop, get_or, length-append, length-take}
+use lib.Seq.{drop-cons, drop-drop, take_at, take-take, get_or-append_seam}
+use Rattle.std.proofs.lemmas.List.{get_or-take}
 use Rattle.base.specs.inner.Back.{Room, PutBack}
 use Rattle.base.proofs.Backs.{room_next, back_then}
 use Rattle.element.specs.Form.{shortest, series_form}
@@ -55,3 +56,21 @@ module _ (m : List ℕ) where
 
     pub back_row : {q : ℕ} {f : List ℕ} → PutBack e o (octets_of (row_form m (get_or rows k b))) q f → PutBack old at (rows_octets (drop k rows)) q f
     back_row n = rw rows_cons (back_then p n)
+
+-- The last of the rows that are left
+
+module _ (parts rest fewer : List (List ℕ)) (row : List ℕ) (e : rest ≡ fewer ++ (row ∷ [])) (h : rest ≡ take (length rest) parts) where
+  pub one_more : length rest ≡ suc (length fewer)
+  one_more = omega (arith, ap length e, length-append fewer (row ∷ []))
+
+  whole : rest ≡ take (suc (length fewer)) parts
+  whole = h ∙ ap (λ (k : ℕ). take k parts) one_more
+
+  pub fewer_left : fewer ≡ take (length fewer) parts
+  fewer_left = sym (take_at fewer (row ∷ []) (length fewer) refl) ∙ ap (take (length fewer)) (sym e ∙ whole) ∙ take-take (length fewer) (suc (length fewer)) parts (omega arith)
+
+  pub last_row : row ≡ get_or parts (length fewer) []
+  last_row = sym (get_or-append_seam fewer row [] []) ∙ ap (λ (l : List (List ℕ)). get_or l (length fewer) []) (sym e ∙ whole) ∙ get_or-take (suc (length fewer)) parts (length fewer) [] (omega arith)
+
+  pub last_there : length fewer < length parts
+  last_there = omega (arith, one_more, ap length whole, length-take (suc (length fewer)) parts)

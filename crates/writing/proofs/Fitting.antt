@@ -1,9 +1,11 @@
 -- By their types the code's records have 16 rows, and each number the width of its type: so a function knows it of a parameter. Assumes nothing.
+use Rattle.tcap.specs.declared.Span.{Span}
+use Rattle.std.specs.Prelude.{Option as Optional, Some, None}
 use mathlib.Core.List.{List, [], ◌∷◌}
 use mir.Val.{Val}
 use denote.Laws.{Is}
 use Rattle.base.specs.Value.{Every}
-use Rattle.tcap.specs.declared.{Code.Code, Returned.Returned, ComponentKind.ComponentKind, Row.Row, Record.Record}
+use Rattle.tcap.specs.declared.{Code.Code, ComponentKind.ComponentKind, Row.Row, Record.Record}
 use Rattle.tcap.specs.contracts.Record as Records
 use Rattle.layout.specs.Fits.{CodeFits, ReturnedFits, KindFits, RowFits}
 use Rattle.layout.proofs.Typed.{rows_typed}
@@ -14,9 +16,9 @@ code_typed : (c : Code) → CodeFits c → CodeTyped c
 code_typed (Code.Local z) h = h
 code_typed (Code.Global s) h = tt
 
-returned_typed : (r : Returned) → ReturnedFits r → ReturnedTyped r
-returned_typed Returned.Bare h = tt
-returned_typed (Returned.Both c s) h = code_typed c h.0
+returned_typed : (r : Optional (Code × Span)) → ReturnedFits r → ReturnedTyped r
+returned_typed None h = tt
+returned_typed (Some (c, s)) h = code_typed c h.0
 
 kind_typed : (k : ComponentKind) → KindFits k → KindTyped k
 kind_typed (ComponentKind.Invoke l c u) h = (h.0, code_typed c h.1)

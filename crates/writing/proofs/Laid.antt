@@ -1,4 +1,6 @@
 -- A record that is laid out is written as itself, whatever its count and its rows from there on. Assumes nothing.
+use Rattle.writing.specs.declared.WriteFault.{WriteFault}
+use Rattle.std.specs.Prelude.{Result}
 use Prim.Native.Nat.{ℕ, suc, ◌-◌, ◌≤◌, min}
 use native.Mathlib.Omega.{arith}
 use mathlib.Core.Path.{◌≡◌, refl, sym, ◌∙◌}
@@ -17,7 +19,6 @@ use Rattle.layout.specs.Fits.{RecordFits}
 use Rattle.layout.proofs.RoundTrip.{blanked, record_length, record_is, record_back}
 use Rattle.pack.specs.LaidOut.{laid_out}
 use Rattle.tcap.specs.Verdict.{counted, parts_fit, all_parts, all_ranges, all_lie, all_shaped}
-use Rattle.writing.specs.declared.{Written.Written}
 use Rattle.writing.specs.Writing.{message_of, writing, leaves, Writes}
 use Rattle.writing.specs.Octets.{writing_octets, leaves_octets}
 
@@ -86,7 +87,7 @@ module _ (r : Record) (fits : RecordFits (laid_out r)) (m out : List ℕ) where
   unfolding laid_out
   sixteen = fits.sixteen
 
-  pub laid_writes : {z : List ℕ} {next : ℕ} {o : List ℕ} {w : Written} {new : List ℕ} → record_size ≤ length z → Put z 0 (record_octets (laid_out r)) next o → (w ≡ writing_octets o m (length out)) × (new ≡ leaves_octets o m out) → Writes r m out w new
+  pub laid_writes : {z : List ℕ} {next : ℕ} {o : List ℕ} {w : (Result ℕ WriteFault)} {new : List ℕ} → record_size ≤ length z → Put z 0 (record_octets (laid_out r)) next o → (w ≡ writing_octets o m (length out)) × (new ≡ leaves_octets o m out) → Writes r m out w new
   unfolding writing_octets leaves_octets leaves
   laid_writes {z} {next} {o} {w} {new} h p e =
       let s = record_octets (laid_out r) in

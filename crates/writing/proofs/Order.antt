@@ -1,5 +1,6 @@
 -- What each number of a refused writing says of the parts of the record, and that each is asked over the whole record before the next.
 -- Assumes nothing.
+use Rattle.std.specs.Prelude.{Result, Ok, Err}
 use Prim.Native.Nat.{ℕ, ◌<◌, min}
 use native.Mathlib.Omega.{arith}
 use mathlib.Core.Path.{◌≡◌, refl, sym, ◌∙◌}
@@ -12,7 +13,7 @@ use lib.Dec.{leb}
 use Rattle.tcap.specs.declared.{Record.Record}
 use Rattle.tcap.specs.WellFormed.{most_octets}
 use Rattle.tcap.specs.Verdict.{all_parts, all_ranges, all_lie, all_shaped}
-use Rattle.writing.specs.declared.{WriteFault.WriteFault, Written.Written}
+use Rattle.writing.specs.declared.{WriteFault.WriteFault}
 use Rattle.writing.specs.Writing.{write_number, message_of, RecordOk, unless, writing, RefusedWith, ReadsAs, RecordTyped}
 use Rattle.writing.specs.Reasons.{Misfit, RangeOff, EndOff, ShapeOff, SomePart, NoPart}
 use Rattle.writing.proofs.Promises.{no_room_exactly}
@@ -68,20 +69,20 @@ is_25 true true true false b e = absurd (omega (arith, e))
 is_25 true true true true b e = (refl, refl, refl, refl)
 
 -- of what is answered, the number; 0 of a success
-unfoldable pub number_in : Written → ℕ
-number_in (Written.Length n) = 0
-number_in (Written.Refused f) = write_number f
+unfoldable pub number_in : Result ℕ WriteFault → ℕ
+number_in (Ok n) = 0
+number_in (Err f) = write_number f
 
-done_number_lem : (n : ℕ) → number_in (Written.Length n) ≡ 0
+done_number_lem : (n : ℕ) → number_in (Ok n) ≡ 0
 unfolding number_in
 done_number_lem n = refl
 
-number_told : (w : Written) (n : ℕ) → 0 < n → ((f : WriteFault) × (w ≡ Written.Refused f) × (write_number f ≡ n)) ↔ (number_in w ≡ n)
+number_told : (w : Result ℕ WriteFault) (n : ℕ) → 0 < n → ((f : WriteFault) × (w ≡ Err f) × (write_number f ≡ n)) ↔ (number_in w ≡ n)
 unfolding number_in
-number_told (Written.Length k) n h = (λ (f, e, x). let z : ◌≡◌ {A = ℕ} 0 1 = cc in absurd (omega arith), λ e. absurd (omega (arith, e)))
-number_told (Written.Refused g) n h = (λ (f, e, x). let z : g ≡ f = cc in rw z x, λ e. (g, refl, e))
+number_told (Ok k) n h = (λ (f, e, x). let z : ◌≡◌ {A = ℕ} 0 1 = cc in absurd (omega arith), λ e. absurd (omega (arith, e)))
+number_told (Err g) n h = (λ (f, e, x). let z : g ≡ f = cc in rw z x, λ e. (g, refl, e))
 
-asked_so : (p q l s b : Bool) (w : Written) → number_in w ≡ 0
+asked_so : (p q l s b : Bool) (w : Result ℕ WriteFault) → number_in w ≡ 0
     → number_in (unless p WriteFault.WrongParts (unless q WriteFault.OutOfRange (unless l WriteFault.OutOfMaterial (unless s WriteFault.Unshaped (unless b WriteFault.NoRoom w))))) ≡ asked p q l s b
 unfolding number_in asked write_number
 asked_so false q l s b w h = refl
@@ -125,7 +126,7 @@ module _ (r : Record) (m : List ℕ) where
     unfolding RefusedWith writing
     refused_asked n h =
         let e = number_told (writing r m room) n h in
-        rw (asked_so (all_parts r) (all_ranges r) (all_lie (length m) r) (all_shaped m r) _ (Written.Length (length (message_of r m))) (done_number_lem _)) at e
+        rw (asked_so (all_parts r) (all_ranges r) (all_lie (length m) r) (all_shaped m r) _ (Ok (length (message_of r m))) (done_number_lem _)) at e
 
     -- 24 exactly if some part is one that its kind lacks or may not have
     pub refused_24 : RefusedWith r m room 24 ↔ SomePart Misfit r

@@ -1,4 +1,7 @@
 -- What each part of a record means where its strings lie within the material: a value, found by `lies` and never cut. Assumes nothing.
+use Rattle.tcap.specs.declared.DestTransactionId.{DestTransactionId}
+use Rattle.tcap.specs.declared.OrigTransactionId.{OrigTransactionId}
+use Rattle.std.specs.Prelude.{Option as Optional, Some, None}
 use Prim.Native.Nat.{ℕ}
 use mathlib.Core.Path.{◌≡◌, refl}
 use mathlib.Core.Bool.{Bool, true, false, cond, ◌&&◌}
@@ -6,7 +9,7 @@ use mathlib.Core.List.{List, [], ◌∷◌, map}
 use mathlib.Core.Option.{Option, none, some, bind}
 use lib.ListN.{length}
 use lib.IntN.{ℤ, pos}
-use Rattle.tcap.specs.declared.{Span.Span, OptionalSpan.OptionalSpan, OptionalOrig.OptionalOrig, OptionalDest.OptionalDest, InvokeId.InvokeId, Code.Code as CodeField, Returned.Returned, ComponentKind.ComponentKind, Row.Row, Dialogue.Dialogue as DialogueField}
+use Rattle.tcap.specs.declared.{Span.Span, Code.Code as CodeField, ComponentKind.ComponentKind, Row.Row, Dialogue.Dialogue as DialogueField}
 use Rattle.tcap.specs.Meaning.{Originating, orig, Destination, dest, Code, local, global, Component, invoke, last, not_last, error, reject, Dialogue, request, unidialogue, response, aborted, single, octets, Ending, silent, cause, says}
 use Rattle.tcap.specs.Record.{octets_at, span_means, code_means, both_means, id_means, linked_means, row_means, rows_mean, named, ending_means, orig_means, dest_means}
 use Rattle.tcap.specs.Verdict.{every, id_there, row_parts_fit, lies, option_lies, orig_lies, dest_lies, code_lies, returned_lies, row_lies, dialogue_lies, string_octets}
@@ -42,24 +45,24 @@ given_four true false q v w a b c d f = refl
 given_four false p q v w a b c d f = refl
 
 module _ (m : List ℕ) where
-  abbrev pub option_in : OptionalSpan → Option (List ℕ)
-  option_in OptionalSpan.Absent = none
-  option_in (OptionalSpan.Present s) = some (string_octets m s)
+  abbrev pub option_in : Optional Span → Option (List ℕ)
+  option_in None = none
+  option_in (Some s) = some (string_octets m s)
 
   abbrev pub code_in : CodeField → Code (List ℕ)
   code_in (CodeField.Local z) = local z
   code_in (CodeField.Global s) = global (string_octets m s)
 
-  abbrev pub both_in : Returned → Option (Code (List ℕ) × List ℕ)
-  both_in Returned.Bare = none
-  both_in (Returned.Both c p) = some (code_in c, string_octets m p)
+  abbrev pub both_in : Optional (CodeField × Span) → Option (Code (List ℕ) × List ℕ)
+  both_in None = none
+  both_in (Some (c, p)) = some (code_in c, string_octets m p)
 
   -- where a null may not stand its value does not matter
-  abbrev pub id_in : InvokeId → ℤ
-  id_in InvokeId.Null = pos 0
-  id_in (InvokeId.Id i) = i
+  abbrev pub id_in : Optional ℤ → ℤ
+  id_in None = pos 0
+  id_in (Some i) = i
 
-  abbrev pub row_in : InvokeId → ComponentKind → Component (List ℕ)
+  abbrev pub row_in : Optional ℤ → ComponentKind → Component (List ℕ)
   row_in i (ComponentKind.Invoke l c p) = invoke (id_in i) (linked_means m l) (code_in c) (option_in p)
   row_in i (ComponentKind.ResultLast r) = last (id_in i) (both_in r)
   row_in i (ComponentKind.ResultNotLast r) = not_last (id_in i) (both_in r)
@@ -79,13 +82,13 @@ module _ (m : List ℕ) where
   ending_in (DialogueField.OutsideElement n e) = says (single (string_octets m n) (string_octets m e))
   ending_in (DialogueField.OutsideOctets n c) = says (octets (string_octets m n) (string_octets m c))
 
-  abbrev pub orig_in : OptionalOrig → Option (Originating (List ℕ))
-  orig_in OptionalOrig.NoOrig = none
-  orig_in (OptionalOrig.Orig o) = some (orig (string_octets m o.0.octets))
+  abbrev pub orig_in : Optional OrigTransactionId → Option (Originating (List ℕ))
+  orig_in None = none
+  orig_in (Some o) = some (orig (string_octets m o.0.octets))
 
-  abbrev pub dest_in : OptionalDest → Option (Destination (List ℕ))
-  dest_in OptionalDest.NoDest = none
-  dest_in (OptionalDest.Dest e) = some (dest (string_octets m e.0.octets))
+  abbrev pub dest_in : Optional DestTransactionId → Option (Destination (List ℕ))
+  dest_in None = none
+  dest_in (Some e) = some (dest (string_octets m e.0.octets))
 
   -- The laws: a part means its value exactly if its strings lie within the material, and otherwise nothing
 
@@ -93,27 +96,27 @@ module _ (m : List ℕ) where
   unfolding lies string_octets
   span_means_lem s = refl
 
-  option_means : (u : OptionalSpan) → span_means m u ≡ given (option_lies (length m) u) (option_in u)
+  option_means : (u : Optional Span) → span_means m u ≡ given (option_lies (length m) u) (option_in u)
   unfolding option_lies
-  option_means OptionalSpan.Absent = refl
-  option_means (OptionalSpan.Present s) = rw (span_means_lem s) (given_one (lies (length m) s) (string_octets m s) some)
+  option_means None = refl
+  option_means (Some s) = rw (span_means_lem s) (given_one (lies (length m) s) (string_octets m s) some)
 
   code_means_lem : (c : CodeField) → code_means m c ≡ given (code_lies (length m) c) (code_in c)
   unfolding code_lies
   code_means_lem (CodeField.Local z) = refl
   code_means_lem (CodeField.Global s) = rw (span_means_lem s) (given_one (lies (length m) s) (string_octets m s) global)
 
-  both_means_lem : (r : Returned) → both_means m r ≡ given (returned_lies (length m) r) (both_in r)
+  both_means_lem : (r : Optional (CodeField × Span)) → both_means m r ≡ given (returned_lies (length m) r) (both_in r)
   unfolding returned_lies
-  both_means_lem Returned.Bare = refl
-  both_means_lem (Returned.Both c p) = rw (code_means_lem c, span_means_lem p) (given_two (code_lies (length m) c) (lies (length m) p) (code_in c) (string_octets m p) (λ c p. some (c, p)))
+  both_means_lem None = refl
+  both_means_lem (Some (c, p)) = rw (code_means_lem c, span_means_lem p) (given_two (code_lies (length m) c) (lies (length m) p) (code_in c) (string_octets m p) (λ c p. some (c, p)))
 
-  id_means_lem : (i : InvokeId) → id_means m i ≡ given (id_there i) (id_in i)
+  id_means_lem : (i : Optional ℤ) → id_means m i ≡ given (id_there i) (id_in i)
   unfolding id_there
-  id_means_lem InvokeId.Null = refl
-  id_means_lem (InvokeId.Id i) = refl
+  id_means_lem None = refl
+  id_means_lem (Some i) = refl
 
-  row_means_lem : (i : InvokeId) (k : ComponentKind) → row_means m i k ≡ given (row_parts_fit i k && row_lies (length m) k) (row_in i k)
+  row_means_lem : (i : Optional ℤ) (k : ComponentKind) → row_means m i k ≡ given (row_parts_fit i k && row_lies (length m) k) (row_in i k)
   unfolding row_parts_fit row_lies
   row_means_lem i (ComponentKind.Invoke l c p) =
       rw (id_means_lem i, code_means_lem c, option_means p) (given_then (id_there i) _ (id_in i) _ _ (given_two (code_lies (length m) c) (option_lies (length m) p) (code_in c) (option_in p) (invoke (id_in i) (linked_means m l))))
@@ -131,7 +134,7 @@ module _ (m : List ℕ) where
   rows_mean_lem [] = refl
   rows_mean_lem (w ∷ rs) = rw (row_means_lem w.id w.kind, rows_mean_lem rs) (given_two (row_there w) (every row_there rs) (row_in w.id w.kind) (rows_in rs) ◌∷◌)
 
-  named_means : (n : Span) (u : OptionalSpan) (f : List ℕ → Option (List ℕ) → Dialogue (List ℕ)) → named m n u f ≡ given (lies (length m) n && option_lies (length m) u) (says (f (string_octets m n) (option_in u)))
+  named_means : (n : Span) (u : Optional Span) (f : List ℕ → Option (List ℕ) → Dialogue (List ℕ)) → named m n u f ≡ given (lies (length m) n && option_lies (length m) u) (says (f (string_octets m n) (option_in u)))
   named_means n u f = rw (span_means_lem n, option_means u) (given_two (lies (length m) n) (option_lies (length m) u) (string_octets m n) (option_in u) (λ n u. says (f n u)))
 
   outside_means : (n s : Span) (f : List ℕ → List ℕ → Dialogue (List ℕ)) → bind (octets_at m n) (λ n. bind (octets_at m s) (λ c. some (says (f n c)))) ≡ given (lies (length m) n && lies (length m) s) (says (f (string_octets m n) (string_octets m s)))
@@ -148,12 +151,12 @@ module _ (m : List ℕ) where
   ending_means_lem (DialogueField.OutsideElement n e) = outside_means n e single
   ending_means_lem (DialogueField.OutsideOctets n c) = outside_means n c octets
 
-  pub orig_means_lem : (o : OptionalOrig) → orig_means m o ≡ given (orig_lies (length m) o) (orig_in o)
+  pub orig_means_lem : (o : Optional OrigTransactionId) → orig_means m o ≡ given (orig_lies (length m) o) (orig_in o)
   unfolding orig_lies
-  orig_means_lem OptionalOrig.NoOrig = refl
-  orig_means_lem (OptionalOrig.Orig o) = rw (span_means_lem o.0.octets) (given_one (lies (length m) o.0.octets) (string_octets m o.0.octets) (λ c. some (orig c)))
+  orig_means_lem None = refl
+  orig_means_lem (Some o) = rw (span_means_lem o.0.octets) (given_one (lies (length m) o.0.octets) (string_octets m o.0.octets) (λ c. some (orig c)))
 
-  pub dest_means_lem : (e : OptionalDest) → dest_means m e ≡ given (dest_lies (length m) e) (dest_in e)
+  pub dest_means_lem : (e : Optional DestTransactionId) → dest_means m e ≡ given (dest_lies (length m) e) (dest_in e)
   unfolding dest_lies
-  dest_means_lem OptionalDest.NoDest = refl
-  dest_means_lem (OptionalDest.Dest e) = rw (span_means_lem e.0.octets) (given_one (lies (length m) e.0.octets) (string_octets m e.0.octets) (λ c. some (dest c)))
+  dest_means_lem None = refl
+  dest_means_lem (Some e) = rw (span_means_lem e.0.octets) (given_one (lies (length m) e.0.octets) (string_octets m e.0.octets) (λ c. some (dest c)))

@@ -1,4 +1,9 @@
 -- The tests of a record are those of its parts: each of 24, 23, 21 and 22 fails exactly if something is wrong with some part. Assumes nothing.
+use Rattle.std.specs.Prelude.{ℤ}
+use Rattle.tcap.specs.declared.DestTransactionId.{DestTransactionId}
+use Rattle.tcap.specs.declared.OrigTransactionId.{OrigTransactionId}
+use Rattle.tcap.specs.declared.Span.{Span}
+use Rattle.std.specs.Prelude.{Option as Optional, Some, None}
 use Prim.Native.Nat.{ℕ}
 use native.Mathlib.Omega.{arith}
 use mathlib.Core.Path.{◌≡◌, refl}
@@ -9,7 +14,7 @@ use lib.ListN.{length}
 use lib.Dec.{leb, eqb}
 use borrow.Author.Tests.{eqb-true, eqb-false, le-leb}
 use Rattle.base.specs.Value.{Every}
-use Rattle.tcap.specs.declared.{OptionalSpan.OptionalSpan, OptionalOrig.OptionalOrig, OptionalDest.OptionalDest, InvokeId.InvokeId, LinkedId.LinkedId, Code.Code, Problem.Problem, Diagnostic.Diagnostic, Returned.Returned, ComponentKind.ComponentKind, Row.Row, Dialogue.Dialogue, MessageKind.MessageKind, Record.Record}
+use Rattle.tcap.specs.declared.{Code.Code, Problem.Problem, Diagnostic.Diagnostic, ComponentKind.ComponentKind, Row.Row, Dialogue.Dialogue, MessageKind.MessageKind, Record.Record}
 use Rattle.tcap.specs.WellFormed.{most_components}
 use Rattle.layout.specs.Fits.{IdFits, LinkedFits}
 use Rattle.tcap.specs.Verdict.{every, counted, orig_there, dest_there, cause_there, parts_fit, id_there, row_parts_fit, all_parts, orig_ranges, dest_ranges, code_ranges, problem_ranges, returned_ranges, row_ranges, source_ranges, dialogue_ranges, all_ranges, lies, option_lies, orig_lies, dest_lies, code_lies, returned_lies, row_lies, dialogue_lies, all_lie, parameter_shaped, info_shaped, code_shaped, returned_shaped, row_shaped, dialogue_shaped, all_shaped}
@@ -20,20 +25,20 @@ use Rattle.writing.proofs.PartTests.{tells_exactly, whole, whole_append, tells_a
 
 -- 24: the tests of a record are those of its parts
 
-origs_fit : (n : Need) (o : OptionalOrig) → whole fits (orig_parts n o) ≡ fits (there n (orig_there o))
+origs_fit : (n : Need) (o : Optional OrigTransactionId) → whole fits (orig_parts n o) ≡ fits (there n (orig_there o))
 unfolding whole fits orig_parts orig_there
-origs_fit n OptionalOrig.NoOrig = and-true _
-origs_fit n (OptionalOrig.Orig o) = and-true _
+origs_fit n None = and-true _
+origs_fit n (Some o) = and-true _
 
-dests_fit : (n : Need) (e : OptionalDest) → whole fits (dest_parts n e) ≡ fits (there n (dest_there e))
+dests_fit : (n : Need) (e : Optional DestTransactionId) → whole fits (dest_parts n e) ≡ fits (there n (dest_there e))
 unfolding whole fits dest_parts dest_there
-dests_fit n OptionalDest.NoDest = and-true _
-dests_fit n (OptionalDest.Dest e) = and-true _
+dests_fit n None = and-true _
+dests_fit n (Some e) = and-true _
 
-options_fit : (w : Wanted) (u : OptionalSpan) → whole fits (option_parts w u) ≡ true
+options_fit : (w : Wanted) (u : Optional Span) → whole fits (option_parts w u) ≡ true
 unfolding whole fits option_parts
-options_fit w OptionalSpan.Absent = refl
-options_fit w (OptionalSpan.Present s) = refl
+options_fit w None = refl
+options_fit w (Some s) = refl
 
 source_fits : (s : Diagnostic) → fits (source_part s) ≡ true
 unfolding fits source_part
@@ -51,25 +56,25 @@ dialogue_fits n (Dialogue.DialogueAbort r u) = rw (options_fit series u) (and-tr
 dialogue_fits n (Dialogue.OutsideElement a e) = and-true _
 dialogue_fits n (Dialogue.OutsideOctets a c) = and-true _
 
-id_fits : (n : Need) (i : InvokeId) → whole fits (id_parts n i) ≡ fits (there n (id_there i))
+id_fits : (n : Need) (i : Optional ℤ) → whole fits (id_parts n i) ≡ fits (there n (id_there i))
 unfolding whole fits id_parts id_there
-id_fits n InvokeId.Null = and-true _
-id_fits n (InvokeId.Id i) = and-true _
+id_fits n None = and-true _
+id_fits n (Some i) = and-true _
 
-linked_fits : (l : LinkedId) → whole fits (linked_parts l) ≡ true
+linked_fits : (l : Optional ℤ) → whole fits (linked_parts l) ≡ true
 unfolding whole fits linked_parts
-linked_fits LinkedId.Unlinked = refl
-linked_fits (LinkedId.Linked i) = refl
+linked_fits None = refl
+linked_fits (Some i) = refl
 
 code_fits : (c : Code) → fits (code_part c) ≡ true
 unfolding fits code_part
 code_fits (Code.Local z) = refl
 code_fits (Code.Global s) = refl
 
-returned_fits : (r : Returned) → whole fits (returned_parts r) ≡ true
+returned_fits : (r : Optional (Code × Span)) → whole fits (returned_parts r) ≡ true
 unfolding whole fits returned_parts
-returned_fits Returned.Bare = refl
-returned_fits (Returned.Both c p) = rw (code_fits c)
+returned_fits None = refl
+returned_fits (Some (c, p)) = rw (code_fits c)
 
 problem_fits : (q : Problem) → fits (problem_part q) ≡ true
 unfolding fits problem_part
@@ -78,7 +83,7 @@ problem_fits (Problem.OfInvoke n) = refl
 problem_fits (Problem.OfResult n) = refl
 problem_fits (Problem.OfError n) = refl
 
-row_fits : (i : InvokeId) (k : ComponentKind) → whole fits (row_parts i k) ≡ row_parts_fit i k
+row_fits : (i : Optional ℤ) (k : ComponentKind) → whole fits (row_parts i k) ≡ row_parts_fit i k
 unfolding whole fits row_parts row_parts_fit
 row_fits i (ComponentKind.Invoke l c p) = simp (whole_append, id_fits, linked_fits, code_fits, options_fit, and-true)
 row_fits i (ComponentKind.ResultLast r) = simp (whole_append, id_fits, returned_fits, and-true)
@@ -118,28 +123,28 @@ parts_fit_lem r =
 -- 23: of numbers that their types hold
 
 module _ (w : Wanted) (free : (n : ℕ) → length_in w n ≡ true) where
-  options_ranged : (u : OptionalSpan) → whole in_range (option_parts w u) ≡ true
+  options_ranged : (u : Optional Span) → whole in_range (option_parts w u) ≡ true
   unfolding whole in_range option_parts
-  options_ranged OptionalSpan.Absent = refl
-  options_ranged (OptionalSpan.Present s) = rw (free s.len)
+  options_ranged None = refl
+  options_ranged (Some s) = rw (free s.len)
 
-parameter_ranged : (u : OptionalSpan) → whole in_range (option_parts (element 4) u) ≡ true
+parameter_ranged : (u : Optional Span) → whole in_range (option_parts (element 4) u) ≡ true
 unfolding length_in
 parameter_ranged u = options_ranged (element 4) (λ n. refl) u
 
-info_ranged : (u : OptionalSpan) → whole in_range (option_parts series u) ≡ true
+info_ranged : (u : Optional Span) → whole in_range (option_parts series u) ≡ true
 unfolding length_in
 info_ranged u = options_ranged series (λ n. refl) u
 
-origs_ranged : (n : Need) (o : OptionalOrig) → whole in_range (orig_parts n o) ≡ orig_ranges o
+origs_ranged : (n : Need) (o : Optional OrigTransactionId) → whole in_range (orig_parts n o) ≡ orig_ranges o
 unfolding whole in_range length_in orig_parts orig_ranges
-origs_ranged n OptionalOrig.NoOrig = refl
-origs_ranged n (OptionalOrig.Orig o) = and-true _
+origs_ranged n None = refl
+origs_ranged n (Some o) = and-true _
 
-dests_ranged : (n : Need) (e : OptionalDest) → whole in_range (dest_parts n e) ≡ dest_ranges e
+dests_ranged : (n : Need) (e : Optional DestTransactionId) → whole in_range (dest_parts n e) ≡ dest_ranges e
 unfolding whole in_range length_in dest_parts dest_ranges
-dests_ranged n OptionalDest.NoDest = refl
-dests_ranged n (OptionalDest.Dest e) = and-true _
+dests_ranged n None = refl
+dests_ranged n (Some e) = and-true _
 
 source_ranged : (s : Diagnostic) → in_range (source_part s) ≡ source_ranges s
 unfolding in_range source_part source_ranges
@@ -157,25 +162,25 @@ dialogue_ranged n (Dialogue.DialogueAbort r u) = rw (info_ranged u) (and-true _)
 dialogue_ranged n (Dialogue.OutsideElement a e) = and-true _
 dialogue_ranged n (Dialogue.OutsideOctets a c) = and-true _
 
-id_ranged : (n : Need) (i : InvokeId) → IdFits i → whole in_range (id_parts n i) ≡ true
+id_ranged : (n : Need) (i : Optional ℤ) → IdFits i → whole in_range (id_parts n i) ≡ true
 unfolding whole in_range id_parts
-id_ranged n InvokeId.Null f = refl
-id_ranged n (InvokeId.Id i) f = rw f
+id_ranged n None f = refl
+id_ranged n (Some i) f = rw f
 
-linked_ranged : (l : LinkedId) → LinkedFits l → whole in_range (linked_parts l) ≡ true
+linked_ranged : (l : Optional ℤ) → LinkedFits l → whole in_range (linked_parts l) ≡ true
 unfolding whole in_range linked_parts
-linked_ranged LinkedId.Unlinked f = refl
-linked_ranged (LinkedId.Linked i) f = rw f
+linked_ranged None f = refl
+linked_ranged (Some i) f = rw f
 
 code_ranged : (c : Code) → CodeTyped c → in_range (code_part c) ≡ code_ranges c
 unfolding in_range length_in code_part code_ranges
 code_ranged (Code.Local z) f = f
 code_ranged (Code.Global s) f = refl
 
-returned_ranged : (r : Returned) → ReturnedTyped r → whole in_range (returned_parts r) ≡ returned_ranges r
+returned_ranged : (r : Optional (Code × Span)) → ReturnedTyped r → whole in_range (returned_parts r) ≡ returned_ranges r
 unfolding whole in_range length_in returned_parts returned_ranges
-returned_ranged Returned.Bare f = refl
-returned_ranged (Returned.Both c p) f = rw (code_ranged c f) (and-true _)
+returned_ranged None f = refl
+returned_ranged (Some (c, p)) f = rw (code_ranged c f) (and-true _)
 
 problem_ranged : (q : Problem) → in_range (problem_part q) ≡ problem_ranges q
 unfolding in_range problem_part problem_ranges
@@ -184,7 +189,7 @@ problem_ranged (Problem.OfInvoke n) = refl
 problem_ranged (Problem.OfResult n) = refl
 problem_ranged (Problem.OfError n) = refl
 
-row_ranged : (i : InvokeId) (k : ComponentKind) → IdFits i → KindTyped k → whole in_range (row_parts i k) ≡ row_ranges k
+row_ranged : (i : Optional ℤ) (k : ComponentKind) → IdFits i → KindTyped k → whole in_range (row_parts i k) ≡ row_ranges k
 unfolding whole row_parts row_ranges
 row_ranged i (ComponentKind.Invoke l c p) f g = rw (whole_append, whole_append, id_ranged must i f, linked_ranged l g.0, code_ranged c g.1, parameter_ranged p) (and-true _)
 row_ranged i (ComponentKind.ResultLast r) f g = rw (whole_append, id_ranged must i f) (returned_ranged r g)
@@ -212,20 +217,20 @@ parts_ranged r t =
 module _ (m : List ℕ) where
   -- 21
 
-  options_within : (w : Wanted) (u : OptionalSpan) → whole (within m) (option_parts w u) ≡ option_lies (length m) u
+  options_within : (w : Wanted) (u : Optional Span) → whole (within m) (option_parts w u) ≡ option_lies (length m) u
   unfolding whole within option_parts option_lies
-  options_within w OptionalSpan.Absent = refl
-  options_within w (OptionalSpan.Present s) = and-true _
+  options_within w None = refl
+  options_within w (Some s) = and-true _
 
-  origs_within : (n : Need) (o : OptionalOrig) → whole (within m) (orig_parts n o) ≡ orig_lies (length m) o
+  origs_within : (n : Need) (o : Optional OrigTransactionId) → whole (within m) (orig_parts n o) ≡ orig_lies (length m) o
   unfolding whole within orig_parts orig_lies
-  origs_within n OptionalOrig.NoOrig = refl
-  origs_within n (OptionalOrig.Orig o) = and-true _
+  origs_within n None = refl
+  origs_within n (Some o) = and-true _
 
-  dests_within : (n : Need) (e : OptionalDest) → whole (within m) (dest_parts n e) ≡ dest_lies (length m) e
+  dests_within : (n : Need) (e : Optional DestTransactionId) → whole (within m) (dest_parts n e) ≡ dest_lies (length m) e
   unfolding whole within dest_parts dest_lies
-  dests_within n OptionalDest.NoDest = refl
-  dests_within n (OptionalDest.Dest e) = and-true _
+  dests_within n None = refl
+  dests_within n (Some e) = and-true _
 
   source_within : (s : Diagnostic) → within m (source_part s) ≡ true
   unfolding within source_part
@@ -243,25 +248,25 @@ module _ (m : List ℕ) where
   dialogue_within n (Dialogue.OutsideElement a e) = rw (and-true (lies (length m) e))
   dialogue_within n (Dialogue.OutsideOctets a c) = rw (and-true (lies (length m) c))
 
-  id_within : (n : Need) (i : InvokeId) → whole (within m) (id_parts n i) ≡ true
+  id_within : (n : Need) (i : Optional ℤ) → whole (within m) (id_parts n i) ≡ true
   unfolding whole within id_parts
-  id_within n InvokeId.Null = refl
-  id_within n (InvokeId.Id i) = refl
+  id_within n None = refl
+  id_within n (Some i) = refl
 
-  linked_within : (l : LinkedId) → whole (within m) (linked_parts l) ≡ true
+  linked_within : (l : Optional ℤ) → whole (within m) (linked_parts l) ≡ true
   unfolding whole within linked_parts
-  linked_within LinkedId.Unlinked = refl
-  linked_within (LinkedId.Linked i) = refl
+  linked_within None = refl
+  linked_within (Some i) = refl
 
   code_within : (c : Code) → within m (code_part c) ≡ code_lies (length m) c
   unfolding within code_part code_lies
   code_within (Code.Local z) = refl
   code_within (Code.Global s) = refl
 
-  returned_within : (r : Returned) → whole (within m) (returned_parts r) ≡ returned_lies (length m) r
+  returned_within : (r : Optional (Code × Span)) → whole (within m) (returned_parts r) ≡ returned_lies (length m) r
   unfolding whole within returned_parts returned_lies
-  returned_within Returned.Bare = refl
-  returned_within (Returned.Both c p) = rw (code_within c, and-true (lies (length m) p))
+  returned_within None = refl
+  returned_within (Some (c, p)) = rw (code_within c, and-true (lies (length m) p))
 
   problem_within : (q : Problem) → within m (problem_part q) ≡ true
   unfolding within problem_part
@@ -270,7 +275,7 @@ module _ (m : List ℕ) where
   problem_within (Problem.OfResult n) = refl
   problem_within (Problem.OfError n) = refl
 
-  row_within : (i : InvokeId) (k : ComponentKind) → whole (within m) (row_parts i k) ≡ row_lies (length m) k
+  row_within : (i : Optional ℤ) (k : ComponentKind) → whole (within m) (row_parts i k) ≡ row_lies (length m) k
   unfolding whole row_parts row_lies
   row_within i (ComponentKind.Invoke l c p) = rw (whole_append, whole_append, id_within must i, linked_within l, code_within c, options_within (element 4) p)
   row_within i (ComponentKind.ResultLast r) = rw (whole_append, id_within must i) (returned_within r)
@@ -291,25 +296,25 @@ module _ (m : List ℕ) where
 
   -- 22
 
-  parameter_shaped_lem : (u : OptionalSpan) → whole (shaped m) (option_parts (element 4) u) ≡ parameter_shaped m u
+  parameter_shaped_lem : (u : Optional Span) → whole (shaped m) (option_parts (element 4) u) ≡ parameter_shaped m u
   unfolding whole shaped shaped_as option_parts parameter_shaped
-  parameter_shaped_lem OptionalSpan.Absent = refl
-  parameter_shaped_lem (OptionalSpan.Present s) = and-true _
+  parameter_shaped_lem None = refl
+  parameter_shaped_lem (Some s) = and-true _
 
-  info_shaped_lem : (u : OptionalSpan) → whole (shaped m) (option_parts series u) ≡ info_shaped m u
+  info_shaped_lem : (u : Optional Span) → whole (shaped m) (option_parts series u) ≡ info_shaped m u
   unfolding whole shaped shaped_as option_parts info_shaped
-  info_shaped_lem OptionalSpan.Absent = refl
-  info_shaped_lem (OptionalSpan.Present s) = and-true _
+  info_shaped_lem None = refl
+  info_shaped_lem (Some s) = and-true _
 
-  origs_shaped : (n : Need) (o : OptionalOrig) → whole (shaped m) (orig_parts n o) ≡ true
+  origs_shaped : (n : Need) (o : Optional OrigTransactionId) → whole (shaped m) (orig_parts n o) ≡ true
   unfolding whole shaped shaped_as orig_parts
-  origs_shaped n OptionalOrig.NoOrig = refl
-  origs_shaped n (OptionalOrig.Orig o) = refl
+  origs_shaped n None = refl
+  origs_shaped n (Some o) = refl
 
-  dests_shaped : (n : Need) (e : OptionalDest) → whole (shaped m) (dest_parts n e) ≡ true
+  dests_shaped : (n : Need) (e : Optional DestTransactionId) → whole (shaped m) (dest_parts n e) ≡ true
   unfolding whole shaped shaped_as dest_parts
-  dests_shaped n OptionalDest.NoDest = refl
-  dests_shaped n (OptionalDest.Dest e) = refl
+  dests_shaped n None = refl
+  dests_shaped n (Some e) = refl
 
   source_shaped : (s : Diagnostic) → shaped m (source_part s) ≡ true
   unfolding shaped source_part
@@ -327,25 +332,25 @@ module _ (m : List ℕ) where
   dialogue_shaped_lem n (Dialogue.OutsideElement a e) = simp and-true
   dialogue_shaped_lem n (Dialogue.OutsideOctets a c) = and-true _
 
-  id_shaped : (n : Need) (i : InvokeId) → whole (shaped m) (id_parts n i) ≡ true
+  id_shaped : (n : Need) (i : Optional ℤ) → whole (shaped m) (id_parts n i) ≡ true
   unfolding whole shaped id_parts
-  id_shaped n InvokeId.Null = refl
-  id_shaped n (InvokeId.Id i) = refl
+  id_shaped n None = refl
+  id_shaped n (Some i) = refl
 
-  linked_shaped : (l : LinkedId) → whole (shaped m) (linked_parts l) ≡ true
+  linked_shaped : (l : Optional ℤ) → whole (shaped m) (linked_parts l) ≡ true
   unfolding whole shaped linked_parts
-  linked_shaped LinkedId.Unlinked = refl
-  linked_shaped (LinkedId.Linked i) = refl
+  linked_shaped None = refl
+  linked_shaped (Some i) = refl
 
   code_shaped_lem : (c : Code) → shaped m (code_part c) ≡ code_shaped m c
   unfolding shaped shaped_as code_part code_shaped
   code_shaped_lem (Code.Local z) = refl
   code_shaped_lem (Code.Global s) = refl
 
-  returned_shaped_lem : (r : Returned) → whole (shaped m) (returned_parts r) ≡ returned_shaped m r
+  returned_shaped_lem : (r : Optional (Code × Span)) → whole (shaped m) (returned_parts r) ≡ returned_shaped m r
   unfolding whole shaped shaped_as returned_parts returned_shaped
-  returned_shaped_lem Returned.Bare = refl
-  returned_shaped_lem (Returned.Both c p) = simp (code_shaped_lem, and-true)
+  returned_shaped_lem None = refl
+  returned_shaped_lem (Some (c, p)) = simp (code_shaped_lem, and-true)
 
   problem_shaped : (q : Problem) → shaped m (problem_part q) ≡ true
   unfolding shaped problem_part
@@ -354,7 +359,7 @@ module _ (m : List ℕ) where
   problem_shaped (Problem.OfResult n) = refl
   problem_shaped (Problem.OfError n) = refl
 
-  row_shaped_lem : (i : InvokeId) (k : ComponentKind) → whole (shaped m) (row_parts i k) ≡ row_shaped m k
+  row_shaped_lem : (i : Optional ℤ) (k : ComponentKind) → whole (shaped m) (row_parts i k) ≡ row_shaped m k
   unfolding whole row_parts row_shaped
   row_shaped_lem i (ComponentKind.Invoke l c p) = rw (whole_append, whole_append, id_shaped must i, linked_shaped l, code_shaped_lem c, parameter_shaped_lem p)
   row_shaped_lem i (ComponentKind.ResultLast r) = rw (whole_append, id_shaped must i) (returned_shaped_lem r)

@@ -1,4 +1,5 @@
 -- Demand 3 in one statement, from the contract of writing; and no other answer meets the statement. Assumes nothing.
+use Rattle.std.specs.Prelude.{Result, Ok, Err}
 use Prim.Native.Nat.{ℕ, ◌≤◌, ◌<◌}
 use native.Mathlib.Omega.{arith}
 use mathlib.Core.Path.{◌≡◌, refl, sym, ap, ap₂, ◌∙◌}
@@ -12,7 +13,7 @@ use Rattle.element.specs.Form.{◌⊑◌}
 use Rattle.tcap.specs.declared.{Record.Record}
 use Rattle.tcap.specs.WellFormed.{WellFormed}
 use Rattle.layout.specs.Layout.{is_record, record_in}
-use Rattle.writing.specs.declared.{WriteFault.WriteFault, Written.Written}
+use Rattle.writing.specs.declared.{WriteFault.WriteFault}
 use Rattle.writing.specs.Writing.{write_number, writing, RefusedWith, leaves, Writes, ReadsAs, RecordTyped}
 use Rattle.writing.specs.Octets.{writing_octets, leaves_octets}
 use Rattle.writing.specs.Shortest.{MeansWell, OneFits, NoneFits, Shortest, WritesShortest, Says, Refuses}
@@ -29,7 +30,7 @@ module _ (r : Record) (m : List ℕ) where
     abbrev room : ℕ
     room = length out
 
-    abbrev answer : Written
+    abbrev answer : Result ℕ WriteFault
     answer = writing r m room
 
     done_exactly : ((n : ℕ) × Says answer n) ↔ (MeansWell r m × OneFits r m room)
@@ -40,7 +41,7 @@ module _ (r : Record) (m : List ℕ) where
     done_shortest : (n : ℕ) → Says answer n → Shortest r m out (leaves r m out) n
     unfolding ◌⊑◌
     done_shortest n e =
-        let w : Writes r m out (Written.Length n) (leaves r m out) = record { answers = sym e; holds = refl } in
+        let w : Writes r m out (Ok n) (leaves r m out) = record { answers = sym e; holds = refl } in
         let b = success_buffer r m out w in
         let k = (success r m room e).counts in
         record {
@@ -61,13 +62,13 @@ module _ (r : Record) (m : List ℕ) where
       λ h. by_answer answer refl h,
     )
       where
-        by_answer : (w : Written) → answer ≡ w → (MeansWell r m → ⊥) → (n : ℕ) × (21 ≤ n) × (n ≤ 24) × Refuses answer n
-        by_answer (Written.Length n) e h = absurd (h (done_exactly.0 (n, e)).0)
-        by_answer (Written.Refused WriteFault.WrongParts) e h = (24, omega arith, omega arith, (WriteFault.WrongParts, e, refl))
-        by_answer (Written.Refused WriteFault.OutOfRange) e h = (23, omega arith, omega arith, (WriteFault.OutOfRange, e, refl))
-        by_answer (Written.Refused WriteFault.OutOfMaterial) e h = (21, omega arith, omega arith, (WriteFault.OutOfMaterial, e, refl))
-        by_answer (Written.Refused WriteFault.Unshaped) e h = (22, omega arith, omega arith, (WriteFault.Unshaped, e, refl))
-        by_answer (Written.Refused WriteFault.NoRoom) e h = absurd (h (full_exactly.0 (WriteFault.NoRoom, e, refl)).0)
+        by_answer : (w : Result ℕ WriteFault) → answer ≡ w → (MeansWell r m → ⊥) → (n : ℕ) × (21 ≤ n) × (n ≤ 24) × Refuses answer n
+        by_answer (Ok n) e h = absurd (h (done_exactly.0 (n, e)).0)
+        by_answer (Err WriteFault.WrongParts) e h = (24, omega arith, omega arith, (WriteFault.WrongParts, e, refl))
+        by_answer (Err WriteFault.OutOfRange) e h = (23, omega arith, omega arith, (WriteFault.OutOfRange, e, refl))
+        by_answer (Err WriteFault.OutOfMaterial) e h = (21, omega arith, omega arith, (WriteFault.OutOfMaterial, e, refl))
+        by_answer (Err WriteFault.Unshaped) e h = (22, omega arith, omega arith, (WriteFault.Unshaped, e, refl))
+        by_answer (Err WriteFault.NoRoom) e h = absurd (h (full_exactly.0 (WriteFault.NoRoom, e, refl)).0)
 
     whole : WritesShortest (Says answer) (Refuses answer) r m out (leaves r m out)
     unfolding RefusedWith
@@ -85,11 +86,11 @@ module _ (r : Record) (m : List ℕ) where
         }
 
     -- demand 3, from the call's contract
-    pub writes_shortest : {w : Written} {new : List ℕ} → Writes r m out w new → WritesShortest (Says w) (Refuses w) r m out new
+    pub writes_shortest : {w : (Result ℕ WriteFault)} {new : List ℕ} → Writes r m out w new → WritesShortest (Says w) (Refuses w) r m out new
     writes_shortest x = rw (x.answers, x.holds) whole
 
 -- of a record that stands as octets; others are refused with 24
-module _ (o m out : List ℕ) {w : Written} {new : List ℕ} (answers : w ≡ writing_octets o m (length out)) (holds : new ≡ leaves_octets o m out) where
+module _ (o m out : List ℕ) {w : (Result ℕ WriteFault)} {new : List ℕ} (answers : w ≡ writing_octets o m (length out)) (holds : new ≡ leaves_octets o m out) where
   pub octets_shortest : is_record o ≡ true → WritesShortest (Says w) (Refuses w) (record_in o) m out new
   unfolding writing_octets leaves_octets
   octets_shortest h = writes_shortest (record_in o) m (octets_fit o) out (record { answers = answers ∙ rw h; holds = holds ∙ rw h })
@@ -127,8 +128,8 @@ fault_back WriteFault.OutOfMaterial = refl
 fault_back WriteFault.Unshaped = refl
 fault_back WriteFault.NoRoom = refl
 
-same_fault : {w : Written} (f : WriteFault) → Refuses w (write_number f) → Written.Refused f ≡ w
-same_fault f (g, e, n) = sym (e ∙ ap Written.Refused (sym (fault_back g) ∙ ap fault_with n ∙ fault_back f))
+same_fault : {w : (Result ℕ WriteFault)} (f : WriteFault) → Refuses w (write_number f) → Err f ≡ w
+same_fault f (g, e, n) = sym (e ∙ ap Err (sym (fault_back g) ∙ ap fault_with n ∙ fault_back f))
 
 module _ (r : Record) (m out c d : List ℕ) where
   one_message : {n k : ℕ} → Shortest r m out c n → Shortest r m out d k → (n ≡ k) × (c ≡ d)
@@ -146,23 +147,23 @@ module _ (r : Record) (m out c d : List ℕ) where
       by_least (inr g) (inr h) = absurd (omega (arith, x.counts, y.counts))
 
   -- one number
-  one_refusal : (f : WriteFault) {b : Written} → WritesShortest (Says (Written.Refused f)) (Refuses (Written.Refused f)) r m out c → WritesShortest (Says b) (Refuses b) r m out d → Refuses b (write_number f) → (Written.Refused f ≡ b) × (c ≡ d)
+  one_refusal : (f : WriteFault) {b : (Result ℕ WriteFault)} → WritesShortest (Says (Err f)) (Refuses (Err f)) r m out c → WritesShortest (Says b) (Refuses b) r m out d → Refuses b (write_number f) → (Err f ≡ b) × (c ≡ d)
   one_refusal f x y h = (same_fault f h, x.stays (write_number f) (f, refl, refl) ∙ sym (y.stays (write_number f) h))
 
-  pub only_answer : (a b : Written) → WritesShortest (Says a) (Refuses a) r m out c → WritesShortest (Says b) (Refuses b) r m out d → (a ≡ b) × (c ≡ d)
+  pub only_answer : (a b : Result ℕ WriteFault) → WritesShortest (Says a) (Refuses a) r m out c → WritesShortest (Says b) (Refuses b) r m out d → (a ≡ b) × (c ≡ d)
   unfolding write_number
-  only_answer (Written.Length n) b x y =
+  only_answer (Ok n) b x y =
       let k = y.done.1 (x.done.0 (n, refl)) in
       let q = one_message (x.shortest n refl) (y.shortest k.0 k.1) in
-      (ap Written.Length q.0 ∙ sym k.1, q.1)
-  only_answer (Written.Refused WriteFault.WrongParts) b x y = one_refusal _ x y (y.wrong_parts.1 (x.wrong_parts.0 (_, refl, refl)))
-  only_answer (Written.Refused WriteFault.OutOfRange) b x y = one_refusal _ x y (y.out_of_range.1 (x.out_of_range.0 (_, refl, refl)))
-  only_answer (Written.Refused WriteFault.OutOfMaterial) b x y = one_refusal _ x y (y.out_of_material.1 (x.out_of_material.0 (_, refl, refl)))
-  only_answer (Written.Refused WriteFault.Unshaped) b x y = one_refusal _ x y (y.unshaped.1 (x.unshaped.0 (_, refl, refl)))
-  only_answer (Written.Refused WriteFault.NoRoom) b x y = one_refusal _ x y (y.full.1 (x.full.0 (_, refl, refl)))
+      (ap Ok q.0 ∙ sym k.1, q.1)
+  only_answer (Err WriteFault.WrongParts) b x y = one_refusal _ x y (y.wrong_parts.1 (x.wrong_parts.0 (_, refl, refl)))
+  only_answer (Err WriteFault.OutOfRange) b x y = one_refusal _ x y (y.out_of_range.1 (x.out_of_range.0 (_, refl, refl)))
+  only_answer (Err WriteFault.OutOfMaterial) b x y = one_refusal _ x y (y.out_of_material.1 (x.out_of_material.0 (_, refl, refl)))
+  only_answer (Err WriteFault.Unshaped) b x y = one_refusal _ x y (y.unshaped.1 (x.unshaped.0 (_, refl, refl)))
+  only_answer (Err WriteFault.NoRoom) b x y = one_refusal _ x y (y.full.1 (x.full.0 (_, refl, refl)))
 
 -- so the contract says just what the statement says
-pub shortest_writes : (r : Record) (m out : List ℕ) {w : Written} {new : List ℕ} → RecordTyped r → WritesShortest (Says w) (Refuses w) r m out new → Writes r m out w new
+pub shortest_writes : (r : Record) (m out : List ℕ) {w : (Result ℕ WriteFault)} {new : List ℕ} → RecordTyped r → WritesShortest (Says w) (Refuses w) r m out new → Writes r m out w new
 shortest_writes r m out {w} {new} t x =
     let q = only_answer r m out new (leaves r m out) w (writing r m (length out)) x (writes_shortest r m t out (record { answers = refl; holds = refl })) in
     record { answers = q.0; holds = q.1 }

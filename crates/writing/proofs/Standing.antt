@@ -1,5 +1,6 @@
 -- The record that octets stand for: the rows that count are those that are looked at, and the judgment of the rows tells their size.
 -- Assumes nothing.
+use Rattle.std.specs.Prelude.{Result, Some, None, Err}
 use Prim.Native.Nat.{ℕ, zero, suc, ◌-◌, ◌≤◌, ◌<◌, min}
 use native.Mathlib.Omega.{arith}
 use mathlib.Core.Path.{◌≡◌, refl, sym, ap, ◌∙◌}
@@ -12,17 +13,17 @@ use borrow.Author.Tests.{le-leb, lt-leb, leb-true, leb-false, ne_eqb}
 use Rattle.base.specs.Number.{top_of, signed_at, holds}
 use Rattle.base.specs.Value.{Every}
 use Rattle.base.proofs.Numbers.{signed_small, small_holds}
-use Rattle.tcap.specs.declared.{Span.Span, InvokeId.InvokeId, LinkedId.LinkedId, Code.Code, Returned.Returned, Row.Row}
+use Rattle.tcap.specs.declared.{Span.Span, Code.Code, Row.Row}
 use Rattle.tcap.specs.Record.{blank_row}
-use Rattle.write_check_row.specs.declared.Judged.{Judged}
+use Rattle.write_check_row.specs.declared.Wrong.{Wrong}
 use Rattle.tcap.specs.Verdict.{counted, all_parts, all_ranges, all_lie, all_shaped}
 use Rattle.write_check_row.specs.Forms.{record_form}
-use Rattle.write_check_row.specs.Judged.{rank_of, judged, listed, wrapped, size_of, rows_judged}
+use Rattle.write_check_row.specs.Judged.{Judged, rank_of, judged, listed, wrapped, size_of, rows_judged}
 use Rattle.write_check.specs.Judgements.{portion_of, message_judged}
 use Rattle.write_check.proofs.Messages.{portion_law, record_law, message_bad}
 use Rattle.layout.specs.Layout.{head_size, row_size, most_rows, record_size, octet, number_at, span_at, id_in, linked_in, code_in, returned_in, kind_in, row_in, rows_in, rows_held, rows_looked, are_rows, is_head, is_record, record_in}
 use Rattle.unpack.proofs.Rows.{rows_length}
-use Rattle.writing.specs.declared.{WriteFault.WriteFault, Written.Written}
+use Rattle.writing.specs.declared.{WriteFault.WriteFault}
 use Rattle.layout.specs.Fits.{IdFits, LinkedFits}
 use Rattle.writing.specs.Writing.{Writes, CodeTyped, ReturnedTyped, KindTyped, RowTyped, RecordTyped}
 use Rattle.writing.specs.inner.Ranks.{fault_at}
@@ -53,7 +54,7 @@ id_fits : (x n : ℕ) → IdFits (id_in x n)
 unfolding id_in
 id_fits x n = by_flag (eqb x 0)
   where
-    by_flag : (b : Bool) → IdFits (cond b InvokeId.Null (InvokeId.Id (signed_at (top_of 1) n)))
+    by_flag : (b : Bool) → IdFits (cond b None (Some (signed_at (top_of 1) n)))
     by_flag true = tt
     by_flag false = signed_holds 1 n
 
@@ -61,7 +62,7 @@ linked_fits : (x n : ℕ) → LinkedFits (linked_in x n)
 unfolding linked_in
 linked_fits x n = by_flag (eqb x 0)
   where
-    by_flag : (b : Bool) → LinkedFits (cond b LinkedId.Unlinked (LinkedId.Linked (signed_at (top_of 1) n)))
+    by_flag : (b : Bool) → LinkedFits (cond b None (Some (signed_at (top_of 1) n)))
     by_flag true = tt
     by_flag false = signed_holds 1 n
 
@@ -77,7 +78,7 @@ returned_fits : (l : List ℕ) → ReturnedTyped (returned_in l)
 unfolding returned_in
 returned_fits l = by_tag (eqb (octet l 5) 0)
   where
-    by_tag : (b : Bool) → ReturnedTyped (cond b Returned.Bare (Returned.Both (code_in (octet l 5) (span_at l 8)) (span_at l 16)))
+    by_tag : (b : Bool) → ReturnedTyped (cond b None (Some ((code_in (octet l 5) (span_at l 8)), (span_at l 16))))
     by_tag true = tt
     by_tag false = code_fits (octet l 5) (span_at l 8)
 
@@ -164,19 +165,19 @@ module _ (o : List ℕ) where
         by false h = let r = record_in o in rw (e, h, ne_eqb r.count 0 (some h)) (message_bad m r.kind r.orig r.dest r.dialogue r.count)
 
 -- what the writer answers and leaves for the record is what it does for its octets
-pub octets_write : (o m out : List ℕ) {w : Written} {new : List ℕ} → is_record o ≡ true → Writes (record_in o) m out w new → (w ≡ writing_octets o m (length out)) × (new ≡ leaves_octets o m out)
+pub octets_write : (o m out : List ℕ) {w : Result ℕ WriteFault} {new : List ℕ} → is_record o ≡ true → Writes (record_in o) m out w new → (w ≡ writing_octets o m (length out)) × (new ≡ leaves_octets o m out)
 unfolding writing_octets leaves_octets
 octets_write o m out h x = rw h (x.answers, x.holds)
 
-pub octets_none : (o m out : List ℕ) → is_record o ≡ false → (Written.Refused WriteFault.WrongParts ≡ writing_octets o m (length out)) × (out ≡ leaves_octets o m out)
+pub octets_none : (o m out : List ℕ) → is_record o ≡ false → (Err WriteFault.WrongParts ≡ writing_octets o m (length out)) × (out ≡ leaves_octets o m out)
 unfolding writing_octets leaves_octets
 octets_none o m out h = rw h (refl, refl)
 
--- a rank, of octets that may be no record
-pub bad_octets : (o m out : List ℕ) (k : ℕ) → Judged.Bad k ≡ listed (is_record o) (judgment o m) → (Written.Refused (fault_at k) ≡ writing_octets o m (length out)) × (out ≡ leaves_octets o m out)
+-- what is wrong, of octets that may be no record
+pub bad_octets : (o m out : List ℕ) (k : Wrong) → Err k ≡ listed (is_record o) (judgment o m) → (Err (fault_at k) ≡ writing_octets o m (length out)) × (out ≡ leaves_octets o m out)
 unfolding rank_of fault_at
 bad_octets o m out k e = by (is_record o) refl e
   where
-    by : (b : Bool) → is_record o ≡ b → Judged.Bad k ≡ listed b (judgment o m) → (Written.Refused (fault_at k) ≡ writing_octets o m (length out)) × (out ≡ leaves_octets o m out)
-    by true h e = let t = bad_tells _ _ k e in octets_write o m out h (bad_writes (record_in o) m t.0 t.1)
-    by false h e = let z : k ≡ 4 = cc in rw z (octets_none o m out h)
+    by : (b : Bool) → is_record o ≡ b → Err k ≡ listed b (judgment o m) → (Err (fault_at k) ≡ writing_octets o m (length out)) × (out ≡ leaves_octets o m out)
+    by true h e = octets_write o m out h (bad_writes (record_in o) m (bad_tells _ _ k e))
+    by false h e = let z : k ≡ Wrong.WrongParts = cc in rw z (octets_none o m out h)

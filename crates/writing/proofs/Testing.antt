@@ -1,5 +1,9 @@
 -- A part of a record whose strings lie within the material is well-formed exactly if it is in range and of the right shape; numbers of a type's width
 -- are in range. Assumes nothing.
+use Rattle.std.specs.Prelude.{ℤ}
+use Rattle.tcap.specs.declared.DestTransactionId.{DestTransactionId}
+use Rattle.tcap.specs.declared.OrigTransactionId.{OrigTransactionId}
+use Rattle.std.specs.Prelude.{Option as Optional, Some, None}
 use Prim.Native.Nat.{ℕ, ◌+◌, ◌≤◌}
 use mathlib.Core.Path.{◌≡◌, refl, ap}
 use mathlib.Core.Logic.Iff
@@ -15,7 +19,7 @@ use Rattle.element.specs.declared.{Walk.Walk}
 use Rattle.primitive.specs.Primitive.{between, most_identifier_octets, numbers, identifier_ok}
 use Rattle.element.specs.Element.{Element, SeriesOf}
 use Rattle.element.proofs.WalkedWhole.{element_walk_is, series_walk_is}
-use Rattle.tcap.specs.declared.{Span.Span, OptionalSpan.OptionalSpan, OptionalOrig.OptionalOrig, OptionalDest.OptionalDest, InvokeId.InvokeId, LinkedId.LinkedId, Code.Code, Problem.Problem, Diagnostic.Diagnostic, Returned.Returned, ComponentKind.ComponentKind, Row.Row, Dialogue.Dialogue}
+use Rattle.tcap.specs.declared.{Span.Span, Code.Code, Problem.Problem, Diagnostic.Diagnostic, ComponentKind.ComponentKind, Row.Row, Dialogue.Dialogue}
 use Rattle.tcap.specs.Meaning.{structured, unstructured}
 use Rattle.tcap.specs.WellFormed.{the93, left_at, id_ok, InvokeIdOk, CodeOk, ProblemOk, BothOk, ComponentOk, SourceOk, Outside, DialogueOk, EndingOk, OrigOk, DestOk}
 use Rattle.tcap.specs.Record.{id_means, linked_means}
@@ -67,18 +71,18 @@ series_is l c = let e = Iff.trans (took_is _ (length c)) (series_walk_is 0x28 (�
 
 -- Numbers that their types hold
 
-id_is : (m : List ℕ) (i : InvokeId) → InvokeIdOk (id_in m i) ↔ IdFits i
+id_is : (m : List ℕ) (i : Optional ℤ) → InvokeIdOk (id_in m i) ↔ IdFits i
 unfolding holds top_of
-id_is m InvokeId.Null = (λ o. tt, λ f. refl)
-id_is m (InvokeId.Id i) = Iff.rfl
+id_is m None = (λ o. tt, λ f. refl)
+id_is m (Some i) = Iff.rfl
 
-null_is : (m : List ℕ) (i : InvokeId) → Maybe InvokeIdOk (id_means m i) ↔ IdFits i
-null_is m InvokeId.Null = Iff.rfl
-null_is m (InvokeId.Id i) = Iff.rfl
+null_is : (m : List ℕ) (i : Optional ℤ) → Maybe InvokeIdOk (id_means m i) ↔ IdFits i
+null_is m None = Iff.rfl
+null_is m (Some i) = Iff.rfl
 
-linked_is : (m : List ℕ) (l : LinkedId) → Maybe InvokeIdOk (linked_means m l) ↔ LinkedFits l
-linked_is m LinkedId.Unlinked = Iff.rfl
-linked_is m (LinkedId.Linked i) = Iff.rfl
+linked_is : (m : List ℕ) (l : Optional ℤ) → Maybe InvokeIdOk (linked_means m l) ↔ LinkedFits l
+linked_is m None = Iff.rfl
+linked_is m (Some i) = Iff.rfl
 
 problem_is : (q : Problem) → ProblemOk q ↔ (problem_ranges q ≡ true)
 unfolding problem_ranges
@@ -118,46 +122,46 @@ module _ (m : List ℕ) where
 
   -- Parts
 
-  pub orig_is_lem : (o : OptionalOrig) → orig_lies (length m) o ≡ true → Maybe OrigOk (orig_in m o) ↔ (orig_ranges o ≡ true)
+  pub orig_is_lem : (o : Optional OrigTransactionId) → orig_lies (length m) o ≡ true → Maybe OrigOk (orig_in m o) ↔ (orig_ranges o ≡ true)
   unfolding orig_lies orig_ranges
-  orig_is_lem OptionalOrig.NoOrig h = (λ x. refl, λ x. tt)
-  orig_is_lem (OptionalOrig.Orig o) h = rw (id_range o.0.octets h) Iff.rfl
+  orig_is_lem None h = (λ x. refl, λ x. tt)
+  orig_is_lem (Some o) h = rw (id_range o.0.octets h) Iff.rfl
 
-  pub dest_is_lem : (e : OptionalDest) → dest_lies (length m) e ≡ true → Maybe DestOk (dest_in m e) ↔ (dest_ranges e ≡ true)
+  pub dest_is_lem : (e : Optional DestTransactionId) → dest_lies (length m) e ≡ true → Maybe DestOk (dest_in m e) ↔ (dest_ranges e ≡ true)
   unfolding dest_lies dest_ranges
-  dest_is_lem OptionalDest.NoDest h = (λ x. refl, λ x. tt)
-  dest_is_lem (OptionalDest.Dest e) h = rw (id_range e.0.octets h) Iff.rfl
+  dest_is_lem None h = (λ x. refl, λ x. tt)
+  dest_is_lem (Some e) h = rw (id_range e.0.octets h) Iff.rfl
 
   code_is : (c : Code) → code_lies (length m) c ≡ true → Tested (CodeOk (code_in m c)) (CodeTyped c) (code_ranges c) (code_shaped m c)
   unfolding code_lies code_ranges code_shaped
   code_is (Code.Local z) h = record { fine = λ f r k. f; told = λ o. (o, refl, refl) }
   code_is (Code.Global s) h = name_is s h
 
-  parameter_is : (u : OptionalSpan) → Maybe (Element (left_at the93 4)) (option_in m u) ↔ (parameter_shaped m u ≡ true)
+  parameter_is : (u : Optional Span) → Maybe (Element (left_at the93 4)) (option_in m u) ↔ (parameter_shaped m u ≡ true)
   unfolding parameter_shaped
-  parameter_is OptionalSpan.Absent = (λ x. refl, λ x. tt)
-  parameter_is (OptionalSpan.Present s) = element_is _ (string_octets m s)
+  parameter_is None = (λ x. refl, λ x. tt)
+  parameter_is (Some s) = element_is _ (string_octets m s)
 
-  info_is : (u : OptionalSpan) → Maybe (SeriesOf 0x28 (left_at the93 7)) (option_in m u) ↔ (info_shaped m u ≡ true)
+  info_is : (u : Optional Span) → Maybe (SeriesOf 0x28 (left_at the93 7)) (option_in m u) ↔ (info_shaped m u ≡ true)
   unfolding info_shaped
-  info_is OptionalSpan.Absent = (λ x. refl, λ x. tt)
-  info_is (OptionalSpan.Present s) = series_is _ (string_octets m s)
+  info_is None = (λ x. refl, λ x. tt)
+  info_is (Some s) = series_is _ (string_octets m s)
 
-  both_is : (r : Returned) → returned_lies (length m) r ≡ true → Tested (Maybe (BothOk the93) (both_in m r)) (ReturnedTyped r) (returned_ranges r) (returned_shaped m r)
+  both_is : (r : Optional (Code × Span)) → returned_lies (length m) r ≡ true → Tested (Maybe (BothOk the93) (both_in m r)) (ReturnedTyped r) (returned_ranges r) (returned_shaped m r)
   unfolding returned_lies returned_ranges returned_shaped
-  both_is Returned.Bare h = record { fine = λ f r k. tt; told = λ o. (tt, refl, refl) }
-  both_is (Returned.Both c p) h = tested_shape (code_is c (both_true _ _ h).0) (element_is _ (string_octets m p))
+  both_is None h = record { fine = λ f r k. tt; told = λ o. (tt, refl, refl) }
+  both_is (Some (c, p)) h = tested_shape (code_is c (both_true _ _ h).0) (element_is _ (string_octets m p))
 
-  coded_is : (c : Code) (u : OptionalSpan) → (code_lies (length m) c && option_lies (length m) u) ≡ true
+  coded_is : (c : Code) (u : Optional Span) → (code_lies (length m) c && option_lies (length m) u) ≡ true
       → Tested (CodeOk (code_in m c) × Maybe (Element (left_at the93 4)) (option_in m u)) (CodeTyped c) (code_ranges c) (code_shaped m c && parameter_shaped m u)
   coded_is c u h = tested_shape (code_is c (both_true _ _ h).0) (parameter_is u)
 
-  result_is : (i : InvokeId) (r : Returned) → returned_lies (length m) r ≡ true → Tested (InvokeIdOk (id_in m i) × Maybe (BothOk the93) (both_in m r)) (IdFits i × ReturnedTyped r) (returned_ranges r) (returned_shaped m r)
+  result_is : (i : Optional ℤ) (r : Optional (Code × Span)) → returned_lies (length m) r ≡ true → Tested (InvokeIdOk (id_in m i) × Maybe (BothOk the93) (both_in m r)) (IdFits i × ReturnedTyped r) (returned_ranges r) (returned_shaped m r)
   result_is i r h =
       let j = both_is r h in
       record { fine = λ f g k. ((id_is m i).1 f.0, j.fine f.1 g k); told = λ o. let q = j.told o.1 in (((id_is m i).0 o.0, q.0), q.1, q.2) }
 
-  row_is : (i : InvokeId) (k : ComponentKind) → row_lies (length m) k ≡ true → Tested (ComponentOk the93 (row_in m i k)) (IdFits i × KindTyped k) (row_ranges k) (row_shaped m k)
+  row_is : (i : Optional ℤ) (k : ComponentKind) → row_lies (length m) k ≡ true → Tested (ComponentOk the93 (row_in m i k)) (IdFits i × KindTyped k) (row_ranges k) (row_shaped m k)
   unfolding row_lies row_ranges row_shaped ComponentOk
   row_is i (ComponentKind.Invoke l c p) h =
       let j = coded_is c p h in
@@ -179,7 +183,7 @@ module _ (m : List ℕ) where
         told = λ o. (((null_is m i).0 o.0, tt), (problem_is q).0 o.1, refl);
       }
 
-  named_is : (n : Span) (u : OptionalSpan) → (lies (length m) n && option_lies (length m) u) ≡ true
+  named_is : (n : Span) (u : Optional Span) → (lies (length m) n && option_lies (length m) u) ≡ true
       → Tested ((identifier_ok (string_octets m n) ≡ true) × Maybe (SeriesOf 0x28 (left_at the93 7)) (option_in m u)) (Unit {0}) (name_ranges n) (name_shaped m n && info_shaped m u)
   named_is n u h = tested_shape (name_is n (both_true _ _ h).0) (info_is u)
 

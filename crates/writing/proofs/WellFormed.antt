@@ -1,4 +1,7 @@
 -- A record is well-formed exactly if it has a meaning that is. Assumes nothing.
+use Rattle.tcap.specs.declared.DestTransactionId.{DestTransactionId}
+use Rattle.tcap.specs.declared.OrigTransactionId.{OrigTransactionId}
+use Rattle.std.specs.Prelude.{Option as Optional, Some, None}
 use Prim.Native.Nat.{ℕ, zero, suc, ◌≤◌}
 use mathlib.Core.Path.{◌≡◌, refl, sym, ◌∙◌}
 use mathlib.Core.Logic.{◌⊎◌, inl, inr}
@@ -10,7 +13,7 @@ use lib.ListN.{length, take, length-take, length-map}
 use lib.Dec.{leb}
 use borrow.Author.Tests.{leb-true}
 use Rattle.base.specs.Value.{Every}
-use Rattle.tcap.specs.declared.{OptionalOrig.OptionalOrig, OptionalDest.OptionalDest, Row.Row, Dialogue.Dialogue, Record.Record}
+use Rattle.tcap.specs.declared.{Row.Row, Dialogue.Dialogue, Record.Record}
 use Rattle.tcap.specs.Meaning.{Meaning}
 use Rattle.tcap.specs.WellFormed.{most_components, WellFormed}
 use Rattle.tcap.specs.Record.{parts_mean, meaning_of}
@@ -41,15 +44,15 @@ holds_some : {A : Type 0} {a : A} (b : Bool) (x : Option A) → cond b x none �
 holds_some true x e = (refl, e)
 holds_some {a = a} false x e = absurd (none-ne-some a e)
 
-orig_there_lem : (m : List ℕ) (o : OptionalOrig) → there (orig_in m o) ≡ orig_there o
+orig_there_lem : (m : List ℕ) (o : Optional OrigTransactionId) → there (orig_in m o) ≡ orig_there o
 unfolding orig_there
-orig_there_lem m OptionalOrig.NoOrig = refl
-orig_there_lem m (OptionalOrig.Orig o) = refl
+orig_there_lem m None = refl
+orig_there_lem m (Some o) = refl
 
-dest_there_lem : (m : List ℕ) (e : OptionalDest) → there (dest_in m e) ≡ dest_there e
+dest_there_lem : (m : List ℕ) (e : Optional DestTransactionId) → there (dest_in m e) ≡ dest_there e
 unfolding dest_there
-dest_there_lem m OptionalDest.NoDest = refl
-dest_there_lem m (OptionalDest.Dest e) = refl
+dest_there_lem m None = refl
+dest_there_lem m (Some e) = refl
 
 cause_there_lem : (m : List ℕ) (d : Dialogue) → caused (ending_in m d) ≡ cause_there d
 unfolding cause_there

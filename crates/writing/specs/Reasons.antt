@@ -1,12 +1,15 @@
 -- What can be wrong with a record over the material beside it, part by part: document 01, "Writing", 24, 23, 21 and 22. `writing` asks these of whole
 -- records, in its own order; writing/proofs/Order says that it answers as these do. Assumes nothing: these are definitions.
+use Rattle.tcap.specs.declared.DestTransactionId.{DestTransactionId}
+use Rattle.tcap.specs.declared.OrigTransactionId.{OrigTransactionId}
+use Rattle.std.specs.Prelude.{Option as Optional, Some, None}
 use Rattle.std.specs.Prelude.{ℕ, ◌+◌, ◌<◌}
 use mathlib.Core.{Path.◌≡◌, Logic.◌⊎◌, Bool.Bool, Bool.true, Bool.false, Bool.not, List.List, List.[], List.◌∷◌, List.◌++◌}
 use lib.{ListN.length, ListN.take, ListN.drop, Dec.eqb, IntN.ℤ}
 use Rattle.base.specs.{Number.holds}
 use Rattle.primitive.specs.{Primitive.identifier_ok, Primitive.most_integer_octets, Primitive.most_identifier_octets}
 use Rattle.element.specs.{Element.Element, Element.SeriesOf}
-use Rattle.tcap.specs.{declared.Span.Span, declared.OptionalSpan.OptionalSpan, declared.OptionalOrig.OptionalOrig, declared.OptionalDest.OptionalDest, declared.InvokeId.InvokeId, declared.LinkedId.LinkedId, declared.Code.Code, declared.Problem.Problem, declared.Diagnostic.Diagnostic, declared.Returned.Returned, declared.ComponentKind.ComponentKind, declared.Row.Row, declared.Dialogue.Dialogue, declared.MessageKind.MessageKind, declared.Record.Record, WellFormed.most_components, WellFormed.the93, WellFormed.left_at, WellFormed.Outside}
+use Rattle.tcap.specs.{declared.Span.Span, declared.Code.Code, declared.Problem.Problem, declared.Diagnostic.Diagnostic, declared.ComponentKind.ComponentKind, declared.Row.Row, declared.Dialogue.Dialogue, declared.MessageKind.MessageKind, declared.Record.Record, WellFormed.most_components, WellFormed.the93, WellFormed.left_at, WellFormed.Outside}
 use Rattle.tcap.specs.WellFormed.{most_transaction_id_octets, most_general_problem, most_invoke_problem, most_result_problem, most_error_problem, most_cause, most_result, most_user_diagnostic, most_provider_diagnostic, most_abort_source}
 
 -- what a kind must have, may have, may not have
@@ -41,17 +44,17 @@ needs_of MessageKind.End = record { orig = never; dest = must; cause = never; co
 needs_of MessageKind.Continue = record { orig = must; dest = must; cause = never; components = may }
 needs_of MessageKind.Abort = record { orig = never; dest = must; cause = may; components = never }
 
-unfoldable pub orig_parts : Need → OptionalOrig → List Part
-orig_parts n OptionalOrig.NoOrig = there n false ∷ []
-orig_parts n (OptionalOrig.Orig o) = there n true ∷ string transaction o.0.octets ∷ []
+unfoldable pub orig_parts : Need → Optional OrigTransactionId → List Part
+orig_parts n None = there n false ∷ []
+orig_parts n (Some o) = there n true ∷ string transaction o.0.octets ∷ []
 
-unfoldable pub dest_parts : Need → OptionalDest → List Part
-dest_parts n OptionalDest.NoDest = there n false ∷ []
-dest_parts n (OptionalDest.Dest e) = there n true ∷ string transaction e.0.octets ∷ []
+unfoldable pub dest_parts : Need → Optional DestTransactionId → List Part
+dest_parts n None = there n false ∷ []
+dest_parts n (Some e) = there n true ∷ string transaction e.0.octets ∷ []
 
-unfoldable pub option_parts : Wanted → OptionalSpan → List Part
-option_parts w OptionalSpan.Absent = []
-option_parts w (OptionalSpan.Present s) = string w s ∷ []
+unfoldable pub option_parts : Wanted → Optional Span → List Part
+option_parts w None = []
+option_parts w (Some s) = string w s ∷ []
 
 unfoldable pub source_part : Diagnostic → Part
 source_part (Diagnostic.ByUser n) = number n most_user_diagnostic
@@ -68,22 +71,22 @@ dialogue_parts c (Dialogue.DialogueAbort r u) = there c false ∷ number r most_
 dialogue_parts c (Dialogue.OutsideElement n e) = there c false ∷ string outside n ∷ string (element 5) e ∷ []
 dialogue_parts c (Dialogue.OutsideOctets n s) = there c false ∷ string outside n ∷ string anything s ∷ []
 
-unfoldable pub id_parts : Need → InvokeId → List Part
-id_parts n InvokeId.Null = there n false ∷ []
-id_parts n (InvokeId.Id i) = there n true ∷ signed 1 i ∷ []
+unfoldable pub id_parts : Need → Optional ℤ → List Part
+id_parts n None = there n false ∷ []
+id_parts n (Some i) = there n true ∷ signed 1 i ∷ []
 
-unfoldable pub linked_parts : LinkedId → List Part
-linked_parts LinkedId.Unlinked = []
-linked_parts (LinkedId.Linked i) = signed 1 i ∷ []
+unfoldable pub linked_parts : Optional ℤ → List Part
+linked_parts None = []
+linked_parts (Some i) = signed 1 i ∷ []
 
 unfoldable pub code_part : Code → Part
 code_part (Code.Local z) = signed most_integer_octets z
 code_part (Code.Global s) = string identifier s
 
 -- code and parameter, both or none: one alone, like a choice that does not exist, is in no record, and octets that hold it are no record (24)
-unfoldable pub returned_parts : Returned → List Part
-returned_parts Returned.Bare = []
-returned_parts (Returned.Both c p) = code_part c ∷ string (element 5) p ∷ []
+unfoldable pub returned_parts : Optional (Code × Span) → List Part
+returned_parts None = []
+returned_parts (Some (c, p)) = code_part c ∷ string (element 5) p ∷ []
 
 unfoldable pub problem_part : Problem → Part
 problem_part (Problem.General n) = number n most_general_problem
@@ -92,7 +95,7 @@ problem_part (Problem.OfResult n) = number n most_result_problem
 problem_part (Problem.OfError n) = number n most_error_problem
 
 -- null is for a Reject alone
-unfoldable pub row_parts : InvokeId → ComponentKind → List Part
+unfoldable pub row_parts : Optional ℤ → ComponentKind → List Part
 row_parts i (ComponentKind.Invoke l c p) = id_parts must i ++ (linked_parts l ++ (code_part c ∷ option_parts (element 4) p))
 row_parts i (ComponentKind.ResultLast r) = id_parts must i ++ returned_parts r
 row_parts i (ComponentKind.ResultNotLast r) = id_parts must i ++ returned_parts r

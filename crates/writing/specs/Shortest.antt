@@ -1,10 +1,11 @@
 -- Demand 3 in one statement, and the order of document 01's "Writing" with it: what a call that writes a record answers and leaves, over the definition
 -- of reading (`Reads`) and the parts of the record alone, and not over `writing`. Assumes nothing: these are definitions.
+use Rattle.std.specs.Prelude.{Result, Ok, Err}
 use Rattle.std.specs.Prelude.{ℕ, ◌≤◌, ◌<◌}
 use mathlib.Core.{Path.◌≡◌, Logic.◌↔◌, Logic.◌⊎◌, List.List, Option.some}
 use lib.{ListN.length, ListN.take, ListN.drop}
 use Rattle.tcap.specs.{declared.Record.Record, Meaning.Meaning, WellFormed.WellFormed, Record.meaning_of}
-use Rattle.writing.specs.{declared.WriteFault.WriteFault, declared.Written.Written, Writing.write_number, Writing.ReadsAs, Reasons.Misfit, Reasons.RangeOff, Reasons.EndOff, Reasons.ShapeOff, Reasons.SomePart, Reasons.NoPart}
+use Rattle.writing.specs.{declared.WriteFault.WriteFault, Writing.write_number, Writing.ReadsAs, Reasons.Misfit, Reasons.RangeOff, Reasons.EndOff, Reasons.ShapeOff, Reasons.SomePart, Reasons.NoPart}
 
 -- a record is well-formed over the material if it has a meaning and that is
 abbrev pub MeansWell : Record → List ℕ → Type 0
@@ -38,8 +39,8 @@ pub record WritesShortest (Done Refused : ℕ → Type 0) (r : Record) (m out ne
   pub unshaped : Refused 22 ↔ (NoPart Misfit r × NoPart RangeOff r × NoPart (EndOff m) r × SomePart (ShapeOff m) r)
 
 -- what an answer of `write` says
-abbrev pub Says : Written → ℕ → Type 0
-Says w n = w ≡ Written.Length n
+abbrev pub Says : Result ℕ WriteFault → ℕ → Type 0
+Says w n = w ≡ Ok n
 
-abbrev pub Refuses : Written → ℕ → Type 0
-Refuses w n = (f : WriteFault) × (w ≡ Written.Refused f) × (write_number f ≡ n)
+abbrev pub Refuses : Result ℕ WriteFault → ℕ → Type 0
+Refuses w n = (f : WriteFault) × (w ≡ Err f) × (write_number f ≡ n)

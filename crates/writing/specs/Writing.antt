@@ -1,14 +1,16 @@
 -- Writing a record, over the material lent beside it, into room for a message: document 01, "Writing". Room is the number of octets there are.
 -- Assumes nothing: these are definitions.
+use Rattle.tcap.specs.declared.Span.{Span}
+use Rattle.std.specs.Prelude.{Option as Optional, Result, Some, None, Ok, Err}
 use Rattle.std.specs.Prelude.{ℕ, min}
 use mathlib.Core.{Path.◌≡◌, Bool.Bool, Bool.true, Bool.cond, List.List, List.[], List.◌++◌, Option.map, Option.get_or, Option.some}
 use lib.{ListN.length, ListN.drop, Dec.leb}
 use Rattle.base.specs.{Number.holds, Value.Every}
 use Rattle.primitive.specs.{Primitive.most_integer_octets}
-use Rattle.tcap.specs.{declared.Code.Code, declared.Returned.Returned, declared.ComponentKind.ComponentKind, declared.Row.Row, declared.Record.Record, Meaning.Meaning, Meaning.written, WellFormed.most_octets, WellFormed.most_components, WellFormed.Reads, Record.meaning_of}
+use Rattle.tcap.specs.{declared.Code.Code, declared.ComponentKind.ComponentKind, declared.Row.Row, declared.Record.Record, Meaning.Meaning, Meaning.written, WellFormed.most_octets, WellFormed.most_components, WellFormed.Reads, Record.meaning_of}
 use Rattle.layout.specs.{Fits.IdFits, Fits.LinkedFits}
 use Rattle.tcap.specs.Verdict.{all_parts, all_ranges, all_lie, all_shaped}
-use Rattle.writing.specs.{declared.WriteFault.WriteFault, declared.Written.Written}
+use Rattle.writing.specs.{declared.WriteFault.WriteFault}
 
 -- the numbers of document 01
 unfoldable pub write_number : WriteFault → ℕ
@@ -30,11 +32,11 @@ pub record RecordOk (r : Record) (m : List ℕ) : Type 0 where
   pub shaped : all_shaped m r ≡ true
 
 -- refused, unless the test holds
-abbrev pub unless : Bool → WriteFault → Written → Written
-unless b f w = cond b w (Written.Refused f)
+abbrev pub unless : Bool → WriteFault → Result ℕ WriteFault → Result ℕ WriteFault
+unless b f w = cond b w (Err f)
 
 -- each number over the whole record before the next; a message has at most 255 octets, whatever the room
-unfoldable pub writing : Record → List ℕ → ℕ → Written
+unfoldable pub writing : Record → List ℕ → ℕ → Result ℕ WriteFault
 writing r m room =
     let n = length (message_of r m) in
     unless (all_parts r) WriteFault.WrongParts
@@ -42,22 +44,22 @@ writing r m room =
     (unless (all_lie (length m) r) WriteFault.OutOfMaterial
     (unless (all_shaped m r) WriteFault.Unshaped
     (unless (leb n (min most_octets room)) WriteFault.NoRoom
-    (Written.Length n)))))
+    (Ok n)))))
 
 -- refused with this number
 unfoldable pub RefusedWith : Record → List ℕ → ℕ → ℕ → Type 0
-RefusedWith r m room n = (f : WriteFault) × (writing r m room ≡ Written.Refused f) × (write_number f ≡ n)
+RefusedWith r m room n = (f : WriteFault) × (writing r m room ≡ Err f) × (write_number f ≡ n)
 
 -- octets past the message stay; a refusal leaves all as it was
-unfoldable pub behind : Written → List ℕ → List ℕ → List ℕ
-behind (Written.Length n) s out = s ++ drop n out
-behind (Written.Refused f) s out = out
+unfoldable pub behind : Result ℕ WriteFault → List ℕ → List ℕ → List ℕ
+behind (Ok n) s out = s ++ drop n out
+behind (Err f) s out = out
 
 unfoldable pub leaves : Record → List ℕ → List ℕ → List ℕ
 leaves r m out = behind (writing r m (length out)) (message_of r m) out
 
 -- a call's answer, and what the buffer `out` holds after it
-pub record Writes (r : Record) (m out : List ℕ) (answer : Written) (new : List ℕ) : Type 0 where
+pub record Writes (r : Record) (m out : List ℕ) (answer : Result ℕ WriteFault) (new : List ℕ) : Type 0 where
   pub answers : answer ≡ writing r m (length out)
   pub holds : new ≡ leaves r m out
 
@@ -71,9 +73,9 @@ abbrev pub CodeTyped : Code → Type 0
 CodeTyped (Code.Local z) = holds most_integer_octets z ≡ true
 CodeTyped (Code.Global s) = Unit {0}
 
-abbrev pub ReturnedTyped : Returned → Type 0
-ReturnedTyped Returned.Bare = Unit {0}
-ReturnedTyped (Returned.Both c p) = CodeTyped c
+abbrev pub ReturnedTyped : Optional (Code × Span) → Type 0
+ReturnedTyped None = Unit {0}
+ReturnedTyped (Some (c, p)) = CodeTyped c
 
 abbrev pub KindTyped : ComponentKind → Type 0
 KindTyped (ComponentKind.Invoke l c p) = LinkedFits l × CodeTyped c

@@ -1,26 +1,6 @@
 -- The octets passed have been put. Assumes nothing.
-use native.Mathlib.Omega.{arith}
-use lib.Seq.{take_all}
-use Rattle.base.proofs.Puts.{put_none, put_more, put_length}
+use Rattle.base.proofs.Puts.{put_more}
 use Rattle.base.proofs.put_each.Goals as goal
 
-pub loop-i-init : goal.loop-i-init
-loop-i-init c = (omega arith, put_none _ _ (omega arith) (omega arith))
-
-pub bounds-part-i : goal.bounds-part-i
-bounds-part-i c = omega arith
-
-pub overflow_add-i : goal.overflow_add-i
-overflow_add-i c = omega arith
-
-pub loop-i-smaller : goal.loop-i-smaller
-loop-i-smaller c = omega arith
-
-pub loop-i-preserved : goal.loop-i-preserved
-loop-i-preserved c = (omega arith, put_more _ _ c.loop-i-test.true c.loop-i.invariant.1 c.put_octet-o.ensures)
-
-pub shape_of-out : goal.shape_of-out
-shape_of-out c = put_length c.loop-i.invariant.1
-
-pub returns : goal.returns
-returns c = rw (take_all _ c.args.part.now c.loop-i-test.false) at c.loop-i.invariant.1
+pub loop-octet-preserved : goal.loop-octet-preserved
+loop-octet-preserved c = put_more _ _ c.loop-octet-test.true c.loop-octet.invariant c.put_octet-next.ensures

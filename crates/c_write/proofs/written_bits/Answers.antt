@@ -3,10 +3,10 @@ use Rattle.c_answer.specs.Answer.{length_bits}
 use Rattle.c_write.specs.Write.{written_bits}
 use Rattle.c_write.proofs.written_bits.Goals as goal
 
-pub returns-in-Length : goal.returns-in-Length
+pub returns-in-Ok : goal.returns-in-Ok
 unfolding written_bits length_bits
-returns-in-Length c = rw c.in-Length.is
+returns-in-Ok c = rw c.in-Ok.is
 
-pub returns-in-Refused : goal.returns-in-Refused
+pub returns-in-Err : goal.returns-in-Err
 unfolding written_bits
-returns-in-Refused c = rw c.in-Refused.is c.write_number.ensures
+returns-in-Err c = rw c.in-Err.is c.from.ensures

@@ -1,17 +1,11 @@
--- Four, then four more. Assumes nothing.
+-- By the first entry that is under the ID, or none. Assumes nothing.
 use native.Mathlib.Omega.{arith}
-use lib.ListN.{length-drop}
-use Rattle.entry_octets.proofs.Passing.{passed_most, eight_short, eight_long}
+use mathlib.Core.Path.{sym, ◌∙◌}
+use Rattle.entry_octets.proofs.Passing.{passed_at, passed_all}
 use Rattle.entry_octets.proofs.passed_eight.Goals as goal
 
-pub overflow_add-result : goal.overflow_add-result
-overflow_add-result c = let h = passed_most c.args.word c.args.len c.after-rest.result.now 4 in omega (arith, c.passed_four.ensures, h)
+pub returns-then-holds_in : goal.returns-then-holds_in
+returns-then-holds_in c = sym (passed_at c.args.word c.args.len c.args.part.now 8 c.loop-i.i (omega arith) c.loop-i.invariant (rw (← c.after.ensures) (sym c.holds_in.ensures ∙ c.if-holds_in.true)))
 
 pub returns : goal.returns
-returns c = eight_long _ _ _ c.passed_four-passed.ensures c.if-passed-lt4.false c.after-rest.ensures c.passed_four.ensures
-
-pub returns-then-passed-lt4 : goal.returns-then-passed-lt4
-returns-then-passed-lt4 c = eight_short _ _ _ c.passed_four-passed.ensures c.if-passed-lt4.true
-
-pub passed_four-requires : goal.passed_four-requires
-passed_four-requires c = rw c.after-rest.ensures (simp length-drop (omega arith))
+returns c = sym (passed_all c.args.word c.args.len c.args.part.now 8 (λ j h. c.loop-i.invariant j (omega (arith, h))))

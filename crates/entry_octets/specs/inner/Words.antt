@@ -1,9 +1,9 @@
 -- How the code compares and puts entries: four octets as one number. Assumes nothing: these are definitions.
-use Rattle.std.specs.Prelude.{ℕ, zero, suc, ◌+◌, ◌*◌, ◌/◌, ◌%◌}
+use Rattle.std.specs.Prelude.{ℕ, zero, suc, ◌+◌, ◌*◌}
 use mathlib.Core.{Bool.Bool, Bool.false, Bool.cond, List.List, List.[], List.◌∷◌}
 use lib.{ListN.length, ListN.get_or, ListN.drop, Seq.sets, Dec.eqb}
-use Rattle.transaction_states.specs.Events.{is_open}
-use Rattle.entry_octets.specs.Entries.{four_of, state_in}
+use Rattle.transaction_states.specs.Events.{is_open, state_in}
+use Rattle.entry_octets.specs.Entries.{four_of}
 
 -- How the code compares: four octets as one number, then the length, then the state
 
@@ -21,10 +21,7 @@ unfoldable pub passed_in : List ℕ → ℕ → ℕ → ℕ → ℕ
 passed_in c w n zero = 0
 passed_in c w n (suc k) = cond (held_in c w n) 0 (suc (passed_in (drop 12 c) w n k))
 
--- How it puts: four octets from one number, and a partner's ID beside ours, which stands there
-
-abbrev pub octets_of : ℕ → List ℕ
-octets_of w = w % 256 ∷ w / 256 % 256 ∷ w / 65536 % 256 ∷ w / 16777216 % 256 ∷ []
+-- How it puts a partner's ID: beside ours, which stands there
 
 abbrev pub partner_put : List ℕ → ℕ → List ℕ → List ℕ → List ℕ
 partner_put l at o p = sets (sets l at (3 ∷ length o ∷ length p ∷ 0 ∷ [])) (at + 8) (four_of p)

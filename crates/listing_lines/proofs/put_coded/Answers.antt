@@ -5,4 +5,4 @@ use Rattle.listing_lines.proofs.put_coded.Goals as goal
 
 pub returns : goal.returns
 unfolding coded_text
-returns c = put_then (put_then c.put_linked-a.ensures c.put_code-b.ensures) c.put_parameter.ensures
+returns c = put_then (put_then c.put_id-a.ensures c.put_code-b.ensures) c.put_parameter.ensures

@@ -1,30 +1,21 @@
--- By its tests. Assumes nothing.
+-- By how many octets the number takes. Assumes nothing.
+use Rattle.std.proofs.Common.{rules}
 use mir.Syntax.{w32}
+use mir.Val.{SFits}
 use mir.Facts.{to_z-of_z}
-use Rattle.base.proofs.Tests.{tests}
-use Rattle.primitive.specs.Primitive.{integer_ok}
-use Rattle.primitive.specs.inner.Answers.{integer_of}
+use mathlib.Core.Path.{sym, ◌∙◌}
+use Rattle.base.proofs.Numbers.{octets_known}
+use Rattle.primitive.proofs.Integers.{integer_more, integer_fewest}
 use Rattle.primitive.proofs.integer_at.Goals as goal
 
-pub returns-then-contents-lt1 : goal.returns-then-contents-lt1
-unfolding integer_of integer_ok
-returns-then-contents-lt1 c = search tests
-
-pub returns-then-contents-most : goal.returns-then-contents-most
-unfolding integer_of integer_ok
-returns-then-contents-most c = search tests
-
-pub returns-then-not-is_fewest : goal.returns-then-not-is_fewest
-unfolding integer_of integer_ok
-returns-then-not-is_fewest c = rw (← c.is_fewest.ensures, c.if-not-is_fewest.true) (search tests)
+pub returns-then-integer_size-contents : goal.returns-then-integer_size-contents
+returns-then-integer_size-contents c =
+    let held : SFits w32 c.in_ok-value.value = search rules in
+    let size = rw (to_z-of_z {w = w32} held) at c.integer_size.ensures in
+    sym (integer_more c.args.most c.args.contents.now c.in_ok-value.value (octets_known _ c.type_inv.contents) c.in_ok-value.ensures (λ e. c.if-integer_size-contents.true (size ∙ e)))
 
 pub returns : goal.returns
-unfolding integer_of integer_ok
 returns c =
-    rw (
-      to_z-of_z {w = w32} {z = c.value_of.result} (record { sfits = c.value_of.type_inv }),
-      ← c.is_fewest.ensures,
-      c.if-not-is_fewest.false,
-      c.value_of.ensures,
-    )
-    (search tests)
+    let held : SFits w32 c.in_ok-value.value = search rules in
+    let size = rw (to_z-of_z {w = w32} held) at c.integer_size.ensures in
+    rw (to_z-of_z {w = w32} held) (sym (integer_fewest c.args.most c.args.contents.now c.in_ok-value.value (octets_known _ c.type_inv.contents) c.in_ok-value.ensures c.if-contents-most.false (sym size ∙ c.if-integer_size-contents.false)))

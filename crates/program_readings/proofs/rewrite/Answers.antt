@@ -1,15 +1,12 @@
 -- What was read is always written, and stands at the front. Assumes nothing.
-use Rattle.program_readings.proofs.Rewriting.{of_refused, of_written, always}
+use mathlib.Core.Path.{sym, ◌∙◌}
+use Rattle.program_readings.specs.Rewritten.{rewritten}
+use Rattle.program_readings.proofs.Rewriting.{front_written}
 use Rattle.program_readings.proofs.rewrite.Goals as goal
 
-pub returns-in-Length-clause-prefix_len : goal.returns-in-Length-clause-prefix_len
-returns-in-Length-clause-prefix_len c = (of_written _ _ c.in-Accepted.is c.write_again-written.ensures c.in-Length.is).0
+pub returns-in-Ok-clause-prefix_len : goal.returns-in-Ok-clause-prefix_len
+returns-in-Ok-clause-prefix_len c = (front_written _ _ _ _ c.write_again.ensures (sym c.requires.found_value ∙ c.in-Ok.is) c.requires.out_len c.unwrap_or.ensures).0
 
-pub returns-in-Length-clause-out_after : goal.returns-in-Length-clause-out_after
-returns-in-Length-clause-out_after c = (of_written _ _ c.in-Accepted.is c.write_again-written.ensures c.in-Length.is).1
-
-pub returns-in-Refused-written-clause-out_after : goal.returns-in-Refused-written-clause-out_after
-returns-in-Refused-written-clause-out_after c = absurd (always _ _ c.in-Accepted.is c.write_again-written.ensures c.requires.found_value c.requires.out_len c.in-Refused-written.is)
-
-pub returns-in-Refused-clause-out_after : goal.returns-in-Refused-clause-out_after
-returns-in-Refused-clause-out_after c = of_refused _ _ c.in-Refused.is
+pub returns-in-Ok-clause-out_after : goal.returns-in-Ok-clause-out_after
+unfolding rewritten
+returns-in-Ok-clause-out_after c = rw c.in-Ok.is (front_written _ _ _ _ c.write_again.ensures (sym c.requires.found_value ∙ c.in-Ok.is) c.requires.out_len c.unwrap_or.ensures).1

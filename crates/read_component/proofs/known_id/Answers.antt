@@ -9,44 +9,27 @@ use Rattle.read_component.proofs.known_id.Goals as goal
 
 pub overflow_add-result : goal.overflow_add-result
 overflow_add-result c =
-    let inside = octet_inside c.args.m.now c.args.at c.args.stop c.requires.0.0.1 c.requires.1 _ c.is_component.ensures c.if-is_component.true _ c.entry_asked-inner.ensures c.requires.0.0.2 c.if-inner-ge-FAULT.false _ c.start_of-first.ensures _ c.one_octet_at-r.ensures c.if-r-ge-FAULT.false in
+    let inside = octet_inside c.args.m.now c.args.at c.args.stop c.requires.0.0.1 c.requires.1 _ c.is_component.ensures c.if-is_component.true _ c.in-Ok.ensures.0 c.requires.0.0.2 c.in-Ok.ensures.1 _ c.start_of-first.ensures _ c.in-Ok-one_octet_at.ensures.0 c.in-Ok-one_octet_at.ensures.1 in
     omega (arith, inside, c.requires.0.0.2)
 
 pub bounds-m-first : goal.bounds-m-first
 bounds-m-first c =
-    octet_inside c.args.m.now c.args.at c.args.stop c.requires.0.0.1 c.requires.1 _ c.is_component.ensures c.if-is_component.true _ c.entry_asked-inner.ensures c.requires.0.0.2 c.if-inner-ge-FAULT.false _ c.start_of-first.ensures _ c.one_octet_at-r.ensures c.if-r-ge-FAULT.false
+    octet_inside c.args.m.now c.args.at c.args.stop c.requires.0.0.1 c.requires.1 _ c.is_component.ensures c.if-is_component.true _ c.in-Ok.ensures.0 c.requires.0.0.2 c.in-Ok.ensures.1 _ c.start_of-first.ensures _ c.in-Ok-one_octet_at.ensures.0 c.in-Ok-one_octet_at.ensures.1
 
 pub returns-then-is_component : goal.returns-then-is_component
-returns-then-is_component c =
-    let low : get_or c.args.m.now (c.start_of-first.result + 2) 0 < 256 = omega (arith, c.shared_slice_known-then-is_component-1.given (c.start_of-first.result + 2)) in
-    record { knows_id = search (told_id, low); upper_bound = omega (arith, low) }
+returns-then-is_component c = search (told_id, c.in-Ok.ensures.0, c.in-Ok.ensures.1, c.in-Ok-one_octet_at.ensures.0, c.in-Ok-one_octet_at.ensures.1)
 
-pub returns-then-inner-ge-FAULT-clause-knows_id : goal.returns-then-inner-ge-FAULT-clause-knows_id
-returns-then-inner-ge-FAULT-clause-knows_id c = search (rules, told_entry)
-
-pub returns-then-inner-ge-FAULT-clause-upper_bound : goal.returns-then-inner-ge-FAULT-clause-upper_bound
-returns-then-inner-ge-FAULT-clause-upper_bound c = search (rules, told_entry)
+pub returns-in_default : goal.returns-in_default
+returns-in_default c = let (i, t) = c.in_default.ensures in search (rules, told_entry)
 
 pub start_of-first-requires : goal.start_of-first-requires
-start_of-first-requires c = search (rules, entry_inside)
+start_of-first-requires c = search (rules, entry_inside, c.in-Ok.ensures.0, c.in-Ok.ensures.1)
 
-pub one_octet_at-r-requires : goal.one_octet_at-r-requires
-one_octet_at-r-requires c = search (rules, entry_from, entry_to)
+pub one_octet_at-requires : goal.one_octet_at-requires
+one_octet_at-requires c = search (rules, entry_from, entry_to, c.in-Ok.ensures.0, c.in-Ok.ensures.1)
 
-pub returns-then-r-ge-FAULT-clause-knows_id : goal.returns-then-r-ge-FAULT-clause-knows_id
-returns-then-r-ge-FAULT-clause-knows_id c = search (rules, told_none)
+pub returns-in_default-one_octet_at : goal.returns-in_default-one_octet_at
+returns-in_default-one_octet_at c = let (i, t) = c.in_default-one_octet_at.ensures in search (rules, told_none, c.in-Ok.ensures.0, c.in-Ok.ensures.1, i, t)
 
-pub returns-then-r-ge-FAULT-clause-upper_bound : goal.returns-then-r-ge-FAULT-clause-upper_bound
-returns-then-r-ge-FAULT-clause-upper_bound c = search (rules, told_none)
-
-pub overflow_cast-result : goal.overflow_cast-result
-overflow_cast-result c = omega (arith, c.shared_slice_known-then-is_component-1.given (c.start_of-first.result + 2))
-
-pub overflow_add-result-then-is_component : goal.overflow_add-result-then-is_component
-overflow_add-result-then-is_component c = omega (arith, c.shared_slice_known-then-is_component-1.given (c.start_of-first.result + 2))
-
-pub returns-clause-knows_id : goal.returns-clause-knows_id
-returns-clause-knows_id c = search (rules, told_wrong)
-
-pub returns-clause-upper_bound : goal.returns-clause-upper_bound
-returns-clause-upper_bound c = search (rules, told_wrong)
+pub returns : goal.returns
+returns c = search (rules, told_wrong)

@@ -1,4 +1,5 @@
 -- `outside_at` meets its contract. Assumes nothing.
+use Rattle.std.proofs.lemmas.Result.{err_from_is_err_and}
 use borrow.Author.Rules.{rules}
 use native.Mathlib.Omega.{arith}
 use Rattle.read_dialogue.proofs.Names.{name_to, holds_within, other_bad, other_far, other_near}
@@ -10,17 +11,17 @@ piece-requires c = let h = name_to c.args.m.now _ _ _ c.requires.1 in omega (ari
 pub overflow_add-at-then-identifier_ok-3 : goal.overflow_add-at-then-identifier_ok-3
 overflow_add-at-then-identifier_ok-3 c = let h = name_to c.args.m.now _ _ _ c.requires.1 in omega (arith, h)
 
-pub encoding_at-r-requires : goal.encoding_at-r-requires
-encoding_at-r-requires c = search (rules, name_to)
+pub encoding_at-requires : goal.encoding_at-requires
+encoding_at-requires c = search (rules, name_to)
 
-pub returns-then-r-ge-FAULT : goal.returns-then-r-ge-FAULT
-returns-then-r-ge-FAULT c = search other_far
+pub returns-in_err-r : goal.returns-in_err-r
+returns-in_err-r c = let p = err_from_is_err_and c.from_residual.result c.from_residual.ensures.1 in rw (p.1, p.2) ((search (other_far, c.in_err-r.ensures.0, c.in_err-r.ensures.1), c.in_err-r.ensures.1))
 
 pub leave-requires : goal.leave-requires
-leave-requires c = let w = holds_within c.args.m.now _ _ _ _ _ c.encoding_at-r.ensures c.if-r-ge-FAULT.false in omega (arith, w, c.requires.0)
+leave-requires c = let w = holds_within c.args.m.now _ _ _ _ _ c.in_ok-r.ensures.0 c.in_ok-r.ensures.1 in omega (arith, w, c.requires.0)
 
 pub returns-then-identifier_ok : goal.returns-then-identifier_ok
-returns-then-identifier_ok c = search other_near
+returns-then-identifier_ok c = (search (other_near, c.in_ok-r.ensures.0, c.in_ok-r.ensures.1, c.leave.ensures.0), c.leave.ensures.1)
 
 pub returns : goal.returns
-returns c = search other_bad
+returns c = (search other_bad, omega arith)

@@ -1,30 +1,31 @@
 -- `enclosed_number_at` meets its contract. Assumes nothing.
+use Rattle.std.proofs.lemmas.Result.{err_from_is_err_and}
 use borrow.Author.Rules.{rules}
 use Rattle.read_place.proofs.Optional.{entry_inside, entry_from, entry_to, reads_within}
 use Rattle.read_pdu.proofs.Taking.{octet_one, octet_in_lem}
 use Rattle.read_pdu.proofs.Pdus.{number_entry, number_far, number}
 use Rattle.read_pdu.proofs.enclosed_number_at.Goals as goal
 
-pub returns-then-inner-ge-FAULT : goal.returns-then-inner-ge-FAULT
-returns-then-inner-ge-FAULT c = search number_entry
+pub returns-in_err-inner : goal.returns-in_err-inner
+returns-in_err-inner c = let p = err_from_is_err_and c.from_residual.result c.from_residual.ensures.1 in rw (p.1, p.2) ((search (number_entry, c.in_err-inner.ensures.0, c.in_err-inner.ensures.1), c.in_err-inner.ensures.1))
 
 pub start_of-requires : goal.start_of-requires
-start_of-requires c = search (rules, entry_inside)
+start_of-requires c = search (rules, entry_inside, c.in_ok-inner.ensures.0, c.in_ok-inner.ensures.1)
 
-pub small_at-r-requires : goal.small_at-r-requires
-small_at-r-requires c = search (rules, entry_from, entry_to)
+pub small_at-requires : goal.small_at-requires
+small_at-requires c = search (rules, entry_from, entry_to, c.in_ok-inner.ensures.0, c.in_ok-inner.ensures.1)
 
-pub returns-then-r-ge-FAULT : goal.returns-then-r-ge-FAULT
-returns-then-r-ge-FAULT c = search number_far
+pub returns-in_err-r : goal.returns-in_err-r
+returns-in_err-r c = let p = err_from_is_err_and c.from_residual-in_err-r.result c.from_residual-in_err-r.ensures.1 in rw (p.1, p.2) ((search (number_far, c.in_ok-inner.ensures.0, c.in_ok-inner.ensures.1, c.in_err-r.ensures.0, c.in_err-r.ensures.1), c.in_err-r.ensures.1))
 
 pub overflow_sub-out : goal.overflow_sub-out
-overflow_sub-out c = search (octet_one, entry_to)
+overflow_sub-out c = search (octet_one, entry_to, c.in_ok-inner.ensures.0, c.in_ok-inner.ensures.1, c.in_ok-r.ensures.0, c.in_ok-r.ensures.1)
 
 pub bounds-m-r : goal.bounds-m-r
-bounds-m-r c = search (octet_in_lem, entry_to)
+bounds-m-r c = search (octet_in_lem, entry_to, c.in_ok-inner.ensures.0, c.in_ok-inner.ensures.1, c.in_ok-r.ensures.0, c.in_ok-r.ensures.1)
 
 pub leave-requires : goal.leave-requires
-leave-requires c = search (rules, reads_within, entry_to)
+leave-requires c = search (rules, reads_within, entry_to, c.in_ok-inner.ensures.0, c.in_ok-inner.ensures.1, c.in_ok-r.ensures.0, c.in_ok-r.ensures.1)
 
 pub returns : goal.returns
-returns c = search (number, entry_to)
+returns c = (search (number, entry_to, c.in_ok-inner.ensures.0, c.in_ok-inner.ensures.1, c.in_ok-r.ensures.0, c.in_ok-r.ensures.1, c.leave.ensures.0), c.leave.ensures.1)

@@ -7,6 +7,6 @@ pub returns-then-at-stop : goal.returns-then-at-stop
 unfolding stands_of
 returns-then-at-stop c = search tests
 
-pub returns : goal.returns
+pub returns-else-at-stop : goal.returns-else-at-stop
 unfolding stands_of
-returns c = search tests
+returns-else-at-stop c = search tests

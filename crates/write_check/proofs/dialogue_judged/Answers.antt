@@ -1,5 +1,6 @@
 -- `dialogue_judged` meets its contract. Assumes nothing.
 use mathlib.Core.Path.{ap, ◌∙◌}
+use mathlib.Core.Logic.{inl, inr}
 use Rattle.element.specs.Form.{shortest}
 use Rattle.write_check_row.specs.Judged.{rank_of, judged}
 use Rattle.tcap.specs.Verdict.{dialogue_ranges, dialogue_lies, dialogue_shaped}
@@ -16,13 +17,6 @@ pub returns-in-Cause : goal.returns-in-Cause
 unfolding dialogue_ranges dialogue_lies dialogue_shaped dialogue_form
 returns-in-Cause c = rw (c.in-Cause.is, octet_size) c.octet_judged.ensures
 
-pub returns-in-Unidialogue : goal.returns-in-Unidialogue
-unfolding dialogue_ranges dialogue_lies dialogue_shaped dialogue_form
-returns-in-Unidialogue c = rw c.in-Unidialogue.is (c.request_judged-in-Unidialogue.ensures ∙ ap (judged _) (named_alike _))
-
-pub returns-in-Request : goal.returns-in-Request
-returns-in-Request c = rw c.in-Request.is c.request_judged.ensures
-
 pub returns-in-Response : goal.returns-in-Response
 returns-in-Response c = rw c.in-Response.is c.response_judged.ensures
 
@@ -34,3 +28,7 @@ returns-in-OutsideElement c = rw c.in-OutsideElement.is c.outside_element_judged
 
 pub returns-in-OutsideOctets : goal.returns-in-OutsideOctets
 returns-in-OutsideOctets c = rw c.in-OutsideOctets.is c.outside_octets_judged.ensures
+
+pub returns-in-Request : goal.returns-in-Request
+unfolding dialogue_ranges dialogue_lies dialogue_shaped dialogue_form
+returns-in-Request c = elim c.in-Request.is [ inl h ↦ rw h c.request_judged.ensures | inr h ↦ rw h (c.request_judged.ensures ∙ ap (judged _) (named_alike _)) ]

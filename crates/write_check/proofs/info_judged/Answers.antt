@@ -6,10 +6,10 @@ use Rattle.write_check_row.specs.Forms.{info_form}
 use Rattle.write_check_row.proofs.Joining.{wrap, around_size, exact_size}
 use Rattle.write_check.proofs.info_judged.Goals as goal
 
-pub returns-in-Absent : goal.returns-in-Absent
+pub returns-in-None : goal.returns-in-None
 unfolding rank_of judged option_lies info_shaped info_form shortest
-returns-in-Absent c = rw c.in-Absent.is
+returns-in-None c = rw c.in-None.is
 
-pub returns-in-Present : goal.returns-in-Present
+pub returns-in-Some : goal.returns-in-Some
 unfolding option_lies info_shaped info_form
-returns-in-Present c = rw (c.in-Present.is, c.around.ensures, c.series_judged.ensures, wrap, around_size, exact_size)
+returns-in-Some c = rw (c.in-Some.is, c.around.ensures, c.series_judged.ensures, wrap, around_size, exact_size)

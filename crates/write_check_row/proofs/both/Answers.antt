@@ -2,18 +2,18 @@
 use Rattle.write_check_row.specs.Judged.{joined}
 use Rattle.write_check_row.proofs.both.Goals as goal
 
-pub returns-in-Fine-other : goal.returns-in-Fine-other
+pub returns-in-Ok-Ok : goal.returns-in-Ok-Ok
 unfolding joined
-returns-in-Fine-other c = rw (c.in-Fine.is, c.in-Fine-other.is, c.total.ensures)
+returns-in-Ok-Ok c = rw (c.in-Ok-Ok.is-0, c.in-Ok-Ok.is-1, c.total.ensures)
 
-pub returns-in-Bad-other : goal.returns-in-Bad-other
+pub returns-in-Err-Err : goal.returns-in-Err-Err
 unfolding joined
-returns-in-Bad-other c = rw (c.in-Fine.is, c.in-Bad-other.is)
+returns-in-Err-Err c = rw (c.in-Err-Err.is-0, c.in-Err-Err.is-1, c.worse.ensures)
 
-pub returns-in-Fine-other-2 : goal.returns-in-Fine-other-2
+pub returns-in-Err-Ok : goal.returns-in-Err-Ok
 unfolding joined
-returns-in-Fine-other-2 c = rw (c.in-Bad.is, c.in-Fine-other-2.is)
+returns-in-Err-Ok c = rw (c.in-Err-Ok.is-0, c.in-Err-Ok.is-1)
 
-pub returns-in-Bad-other-2 : goal.returns-in-Bad-other-2
+pub returns-in-Ok-Err : goal.returns-in-Ok-Err
 unfolding joined
-returns-in-Bad-other-2 c = rw (c.in-Bad.is, c.in-Bad-other-2.is, c.worse.ensures)
+returns-in-Ok-Err c = rw (c.in-Ok-Err.is-0, c.in-Ok-Err.is-1)

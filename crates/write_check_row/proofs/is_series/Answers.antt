@@ -10,14 +10,14 @@ loop-at-init c = search (rules, loop_start)
 pub returns-then-octets-at-ne40 : goal.returns-then-octets-at-ne40
 returns-then-octets-at-ne40 c = search series_other
 
-pub returns-then-r-eq0 : goal.returns-then-r-eq0
-returns-then-r-eq0 c = search series_fault
-
-pub loop-at-smaller : goal.loop-at-smaller
-loop-at-smaller c = search series_less
-
-pub loop-at-preserved : goal.loop-at-preserved
-loop-at-preserved c = search (series_to, series_again)
-
 pub returns : goal.returns
 returns c = search series_done
+
+pub loop-at-smaller : goal.loop-at-smaller
+loop-at-smaller c = series_less _ _ _ c.loop-at-test.true c.loop-at.invariant.1 _ c.whole_at.ensures _ c.in-Some.is c.if-octets-at-ne40.false
+
+pub loop-at-preserved : goal.loop-at-preserved
+loop-at-preserved c = (series_to _ _ _ c.loop-at-test.true c.loop-at.invariant.1 _ c.whole_at.ensures _ c.in-Some.is c.if-octets-at-ne40.false, series_again _ _ _ c.loop-at-test.true c.loop-at.invariant.1 _ c.whole_at.ensures _ c.in-Some.is c.if-octets-at-ne40.false)
+
+pub returns-in_default : goal.returns-in_default
+returns-in_default c = series_fault _ _ _ c.loop-at-test.true c.loop-at.invariant.1 _ c.whole_at.ensures c.in_default.not-Some

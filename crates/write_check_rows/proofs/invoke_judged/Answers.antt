@@ -5,16 +5,13 @@ use Rattle.layout.specs.Layout.{linked_in}
 use Rattle.tcap.specs.Verdict.{row_ranges, row_lies, row_shaped}
 use Rattle.write_check_row.specs.Forms.{linked_form, rest_form}
 use Rattle.write_check_row.proofs.Joining.{then_size, exact_size}
-use Rattle.write_check_row.proofs.Listed.{fine_then, flag_none, octet_id}
+use Rattle.write_check_row.proofs.Listed.{fine_then, octet_id}
 use Rattle.write_check_rows.proofs.invoke_judged.Goals as goal
 
-pub returns-then-part-eq0 : goal.returns-then-part-eq0
+pub returns-in-0 : goal.returns-in-0
 unfolding linked_in linked_form rest_form row_ranges row_lies row_shaped
-returns-then-part-eq0 c = rw (c.if-part-eq0.true, c.coded_judged.ensures) (simp (then_size, exact_size, zero-add))
+returns-in-0 c = rw (c.in-0.is, c.coded_judged.ensures) (simp (then_size, exact_size, zero-add))
 
-pub returns-then-part-eq1 : goal.returns-then-part-eq1
+pub returns-in-1 : goal.returns-in-1
 unfolding linked_in linked_form rest_form row_ranges row_lies row_shaped
-returns-then-part-eq1 c = rw (c.if-part-eq1.true, c.both.ensures, c.coded_judged-then-part-eq1.ensures, fine_then 3 (omega arith)) (simp (then_size, octet_id))
-
-pub returns : goal.returns
-returns c = rw (flag_none _ c.if-part-eq0.false c.if-part-eq1.false)
+returns-in-1 c = rw (c.in-1.is, c.both.ensures, c.coded_judged-in-1.ensures, fine_then 3 (omega arith)) (simp (then_size, octet_id))

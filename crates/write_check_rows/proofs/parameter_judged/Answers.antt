@@ -4,16 +4,12 @@ use Rattle.layout.specs.Layout.{optional_in}
 use Rattle.write_check_row.specs.Judged.{rank_of, judged}
 use Rattle.tcap.specs.Verdict.{option_lies, parameter_shaped}
 use Rattle.write_check_row.specs.Forms.{parameter_form}
-use Rattle.write_check_row.proofs.Listed.{flag_none}
 use Rattle.write_check_rows.proofs.parameter_judged.Goals as goal
 
-pub returns-then-part-eq0 : goal.returns-then-part-eq0
+pub returns-in-0 : goal.returns-in-0
 unfolding rank_of judged option_lies parameter_shaped parameter_form shortest optional_in
-returns-then-part-eq0 c = rw c.if-part-eq0.true
+returns-in-0 c = rw c.in-0.is
 
-pub returns-then-part-eq1 : goal.returns-then-part-eq1
+pub returns-in-1 : goal.returns-in-1
 unfolding option_lies parameter_shaped parameter_form shortest optional_in
-returns-then-part-eq1 c = rw (c.if-part-eq1.true, ← c.span_at-parameter.ensures) c.element_judged.ensures
-
-pub returns : goal.returns
-returns c = rw (flag_none _ c.if-part-eq0.false c.if-part-eq1.false)
+returns-in-1 c = rw (c.in-1.is, ← c.span_at.ensures) c.element_judged.ensures

@@ -2,24 +2,20 @@
 use Rattle.layout.specs.Layout.{problem_in}
 use Rattle.tcap.specs.Verdict.{problem_ranges}
 use Rattle.write_check_row.proofs.Leaves.{octet_size}
-use Rattle.write_check_row.proofs.Listed.{problem_none}
 use Rattle.write_check_rows.proofs.problem_judged.Goals as goal
 
-pub returns-then-tag-eq128 : goal.returns-then-tag-eq128
+pub returns-in-128 : goal.returns-in-128
 unfolding problem_in problem_ranges
-returns-then-tag-eq128 c = rw (c.if-tag-eq128.true, octet_size) c.octet_judged.ensures
+returns-in-128 c = rw (c.in-128.is, octet_size) c.octet_judged.ensures
 
-pub returns-then-tag-eq129 : goal.returns-then-tag-eq129
+pub returns-in-129 : goal.returns-in-129
 unfolding problem_in problem_ranges
-returns-then-tag-eq129 c = rw (c.if-tag-eq129.true, octet_size) c.octet_judged-then-tag-eq129.ensures
+returns-in-129 c = rw (c.in-129.is, octet_size) c.octet_judged-in-129.ensures
 
-pub returns-then-tag-eq130 : goal.returns-then-tag-eq130
+pub returns-in-130 : goal.returns-in-130
 unfolding problem_in problem_ranges
-returns-then-tag-eq130 c = rw (c.if-tag-eq130.true, octet_size) c.octet_judged-then-tag-eq130.ensures
+returns-in-130 c = rw (c.in-130.is, octet_size) c.octet_judged-in-130.ensures
 
-pub returns-then-tag-eq131 : goal.returns-then-tag-eq131
+pub returns-in-131 : goal.returns-in-131
 unfolding problem_in problem_ranges
-returns-then-tag-eq131 c = rw (c.if-tag-eq131.true, octet_size) c.octet_judged-then-tag-eq131.ensures
-
-pub returns : goal.returns
-returns c = rw (problem_none _ c.if-tag-eq128.false c.if-tag-eq129.false c.if-tag-eq130.false c.if-tag-eq131.false)
+returns-in-131 c = rw (c.in-131.is, octet_size) c.octet_judged-in-131.ensures

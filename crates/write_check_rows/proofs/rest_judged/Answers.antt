@@ -1,16 +1,16 @@
 -- An Invoke, or no linked ID. Assumes nothing.
-use borrow.Author.Tests.{eq-eqb, ne_eqb}
+use borrow.Author.Tests.{ne_eqb}
 use Rattle.layout.specs.Layout.{is_kind, kind_in}
 use Rattle.write_check_rows.proofs.rest_judged.Goals as goal
 
-pub returns-then-tag-eq161 : goal.returns-then-tag-eq161
+pub returns-in-161-default : goal.returns-in-161-default
 unfolding is_kind kind_in
-returns-then-tag-eq161 c = rw c.if-tag-eq161.true c.invoke_judged.ensures
+returns-in-161-default c = rw c.in-161-default.is-0 c.invoke_judged.ensures
 
-pub returns-then-part-ne0 : goal.returns-then-part-ne0
+pub returns-in_default-eq0 : goal.returns-in_default-eq0
 unfolding is_kind
-returns-then-part-ne0 c = rw (ne_eqb _ _ c.if-tag-eq161.false, ne_eqb _ _ c.if-part-ne0.true)
+returns-in_default-eq0 c = rw (ne_eqb _ _ c.in_default-eq0.is-0.1, c.in_default-eq0.is-1) c.unlinked_judged.ensures
 
-pub returns : goal.returns
+pub returns-in_default : goal.returns-in_default
 unfolding is_kind
-returns c = rw (ne_eqb _ _ c.if-tag-eq161.false, eq-eqb _ _ c.if-part-ne0.false) c.unlinked_judged.ensures
+returns-in_default c = rw (ne_eqb _ _ c.in_default.is-0.1, ne_eqb _ _ c.in_default.is-1.1)

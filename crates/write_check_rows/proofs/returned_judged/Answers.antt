@@ -1,6 +1,8 @@
 -- Neither, or both. Assumes nothing.
-use mathlib.Core.Bool.{and-true, and-false}
-use borrow.Author.Tests.{eq-eqb, ne_eqb}
+use native.Mathlib.Omega.{arith}
+use Rattle.std.proofs.lemmas.Bool.Decides.{nat_tests}
+use mathlib.Core.Bool.{and-true}
+use borrow.Author.Tests.{ne_eqb}
 use Rattle.element.specs.Form.{shortest}
 use Rattle.layout.specs.Layout.{is_returned, returned_in}
 use Rattle.write_check_row.specs.Judged.{rank_of, judged}
@@ -10,18 +12,18 @@ use Rattle.write_check_row.proofs.Joining.{then_size, around_size, exact_size}
 use Rattle.write_check_row.proofs.Listed.{listed_then, listed_wrap}
 use Rattle.write_check_rows.proofs.returned_judged.Goals as goal
 
-pub returns-then-part-eq0-2 : goal.returns-then-part-eq0-2
+pub returns-in-0-eq0 : goal.returns-in-0-eq0
 unfolding rank_of judged is_returned returned_in returned_ranges returned_lies returned_shaped returned_form shortest
-returns-then-part-eq0-2 c = rw (eq-eqb _ _ c.if-part-eq0.true, eq-eqb _ _ c.if-part-eq0-2.true)
+returns-in-0-eq0 c = rw (c.in-0-eq0.is-0, c.in-0-eq0.is-1)
 
-pub returns-then-part-eq0 : goal.returns-then-part-eq0
-unfolding is_returned
-returns-then-part-eq0 c = rw (eq-eqb _ _ c.if-part-eq0.true, ne_eqb _ _ c.if-part-eq0-2.false)
-
-pub returns-then-part-ne1 : goal.returns-then-part-ne1
-unfolding is_returned
-returns-then-part-ne1 c = rw (ne_eqb _ _ c.if-part-eq0.false, ne_eqb _ _ c.if-part-ne1.true, and-false)
-
-pub returns : goal.returns
+pub returns-in-1-to-255-eq1 : goal.returns-in-1-to-255-eq1
 unfolding is_returned returned_in returned_ranges returned_lies returned_shaped returned_form
-returns c = rw (ne_eqb _ _ c.if-part-eq0.false, eq-eqb _ _ c.if-part-ne1.false, and-true, c.around.ensures, c.both.ensures, c.code_judged-code.ensures, c.element_judged.ensures, c.span_at-parameter.ensures, listed_then, listed_wrap, around_size, then_size, exact_size) (simp and-true)
+returns-in-1-to-255-eq1 c = rw (ne_eqb _ _ c.in-1-to-255-eq1.is-0.1, c.in-1-to-255-eq1.is-1, and-true, c.around.ensures, c.both.ensures, c.code_judged-code.ensures, c.element_judged.ensures, c.span_at-parameter.ensures, listed_then, listed_wrap, around_size, then_size, exact_size) (simp and-true)
+
+pub returns-in_default : goal.returns-in_default
+unfolding is_returned
+returns-in_default c = rw (c.in_default.is-0, ne_eqb _ _ c.in_default.is-1.1)
+
+pub returns-in_default-2 : goal.returns-in_default-2
+unfolding is_returned
+returns-in_default-2 c = grind (arith, nat_tests)

@@ -1,26 +1,24 @@
 -- By the tag. Assumes nothing.
-use borrow.Author.Tests.{ne_eqb}
+use native.Mathlib.Omega.{arith}
+use mathlib.Core.Logic.{inl, inr}
+use Rattle.std.proofs.lemmas.Bool.Decides.{nat_tests}
 use Rattle.layout.specs.Layout.{is_unlinked, kind_in}
 use Rattle.tcap.specs.Verdict.{row_ranges, row_lies, row_shaped}
 use Rattle.write_check_row.specs.Forms.{rest_form}
 use Rattle.write_check_rows.proofs.unlinked_judged.Goals as goal
 
-pub returns-then-tag-eq162 : goal.returns-then-tag-eq162
+pub returns-in-162 : goal.returns-in-162
 unfolding is_unlinked kind_in rest_form row_ranges row_lies row_shaped
-returns-then-tag-eq162 c = rw c.if-tag-eq162.true c.returned_judged.ensures
+returns-in-162 c = elim c.in-162.is [ inl h ↦ rw h c.returned_judged.ensures | inr h ↦ rw h c.returned_judged.ensures ]
 
-pub returns-then-tag-eq163 : goal.returns-then-tag-eq163
+pub returns-in-163 : goal.returns-in-163
 unfolding is_unlinked kind_in rest_form row_ranges row_lies row_shaped
-returns-then-tag-eq163 c = rw c.if-tag-eq163.true c.coded_judged.ensures
+returns-in-163 c = rw c.in-163.is c.coded_judged.ensures
 
-pub returns-then-tag-eq164 : goal.returns-then-tag-eq164
+pub returns-in-164 : goal.returns-in-164
 unfolding is_unlinked kind_in rest_form row_ranges row_lies row_shaped
-returns-then-tag-eq164 c = rw c.if-tag-eq164.true c.reject_judged.ensures
+returns-in-164 c = rw c.in-164.is c.reject_judged.ensures
 
-pub returns-then-tag-eq167 : goal.returns-then-tag-eq167
-unfolding is_unlinked kind_in rest_form row_ranges row_lies row_shaped
-returns-then-tag-eq167 c = rw c.if-tag-eq167.true c.returned_judged-then-tag-eq167.ensures
-
-pub returns : goal.returns
+pub returns-in_default : goal.returns-in_default
 unfolding is_unlinked
-returns c = rw (ne_eqb _ _ c.if-tag-eq162.false, ne_eqb _ _ c.if-tag-eq163.false, ne_eqb _ _ c.if-tag-eq164.false, ne_eqb _ _ c.if-tag-eq167.false)
+returns-in_default c = grind (arith, nat_tests)

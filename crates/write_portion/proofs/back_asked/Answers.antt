@@ -8,17 +8,17 @@ use Rattle.write_check_row.specs.Forms.{info_form, octets_of}
 use Rattle.write_portion.proofs.Around.{room_fields}
 use Rattle.write_portion.proofs.back_asked.Goals as goal
 
-pub back_info-a-requires-clause-info_value : goal.back_info-a-requires-clause-info_value
+pub back_info-a-requires-clause-info_within : goal.back_info-a-requires-clause-info_within
 unfolding shortest
-back_info-a-requires-clause-info_value c = c.requires.info_value
+back_info-a-requires-clause-info_within c = c.requires.info_within
 
 pub back_info-a-requires-clause-room : goal.back_info-a-requires-clause-room
 unfolding shortest
 back_info-a-requires-clause-room c = room_last (octets_of (context_form (string_octets c.args.material.now c.args.name))) (room_fields c.args.known.now 0x60 (octets_of (context_form (string_octets c.args.material.now c.args.name)) ++ octets_of (info_form c.args.material.now c.args.info)) c.requires.room)
 
-pub back_context-b-requires-clause-name_value : goal.back_context-b-requires-clause-name_value
+pub back_context-b-requires-clause-name_within : goal.back_context-b-requires-clause-name_within
 unfolding shortest
-back_context-b-requires-clause-name_value c = c.requires.name_value
+back_context-b-requires-clause-name_within c = c.requires.name_within
 
 pub back_context-b-requires-clause-room : goal.back_context-b-requires-clause-room
 unfolding shortest

@@ -5,9 +5,9 @@ use Rattle.write_check_row.specs.Forms.{octets_of}
 use Rattle.write_head.proofs.Heads.{room_inside, room_head, back_around}
 use Rattle.write_portion.proofs.back_context.Goals as goal
 
-pub back_string-next-requires-clause-string_value : goal.back_string-next-requires-clause-string_value
+pub back_string-next-requires-clause-string_within : goal.back_string-next-requires-clause-string_within
 unfolding shortest
-back_string-next-requires-clause-string_value c = c.requires.name_value
+back_string-next-requires-clause-string_within c = c.requires.name_within
 
 pub back_string-next-requires-clause-room : goal.back_string-next-requires-clause-room
 unfolding shortest

@@ -6,9 +6,9 @@ use Rattle.write_check_row.specs.Forms.{octets_of}
 use Rattle.write_portion.proofs.Around.{room_named}
 use Rattle.write_portion.proofs.back_outside.Goals as goal
 
-pub back_string-next-requires-clause-string_value : goal.back_string-next-requires-clause-string_value
+pub back_string-next-requires-clause-string_within : goal.back_string-next-requires-clause-string_within
 unfolding shortest
-back_string-next-requires-clause-string_value c = c.requires.string_value
+back_string-next-requires-clause-string_within c = c.requires.string_within
 
 pub back_string-next-requires-clause-room : goal.back_string-next-requires-clause-room
 unfolding shortest

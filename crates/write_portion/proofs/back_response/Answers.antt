@@ -8,17 +8,17 @@ use Rattle.write_check_row.specs.Forms.{info_form, dialogue_form, octets_of}
 use Rattle.write_portion.proofs.Around.{named_lie, room_fields}
 use Rattle.write_portion.proofs.back_response.Goals as goal
 
-pub back_result-a-requires-clause-info_value : goal.back_result-a-requires-clause-info_value
+pub back_result-a-requires-clause-info_within : goal.back_result-a-requires-clause-info_within
 unfolding dialogue_lies dialogue_form shortest
-back_result-a-requires-clause-info_value c = (named_lie _ _ _ c.requires.info_value).1
+back_result-a-requires-clause-info_within c = (named_lie _ _ _ c.requires.info_within).1
 
 pub back_result-a-requires-clause-room : goal.back_result-a-requires-clause-room
 unfolding dialogue_lies dialogue_form shortest
 back_result-a-requires-clause-room c = room_last (octets_of (context_form (string_octets c.args.material.now c.args.name))) (room_fields structured 0x61 (octets_of (context_form (string_octets c.args.material.now c.args.name)) ++ octets_of (then (around 0xA2 (octet 0x02 c.args.res)) (then (around 0xA3 (source_form c.args.diagnostic)) (info_form c.args.material.now c.args.info)))) c.requires.room)
 
-pub back_context-b-requires-clause-name_value : goal.back_context-b-requires-clause-name_value
+pub back_context-b-requires-clause-name_within : goal.back_context-b-requires-clause-name_within
 unfolding dialogue_lies dialogue_form shortest
-back_context-b-requires-clause-name_value c = (named_lie _ _ _ c.requires.info_value).0
+back_context-b-requires-clause-name_within c = (named_lie _ _ _ c.requires.info_within).0
 
 pub back_context-b-requires-clause-room : goal.back_context-b-requires-clause-room
 unfolding dialogue_lies dialogue_form shortest

@@ -13,18 +13,6 @@ pub returns-then-count-eq0 : goal.returns-then-count-eq0
 unfolding shortest
 returns-then-count-eq0 c = rw (no_rows c.args.material.now c.args.count (drop 44 c.args.octets.now) (omega arith)) (back_none _ _ c.requires.room.within)
 
-pub back_rows-next-requires-clause-in_bounds : goal.back_rows-next-requires-clause-in_bounds
-unfolding shortest
-back_rows-next-requires-clause-in_bounds c = c.requires.in_bounds
-
-pub back_rows-next-requires-clause-octets_value : goal.back_rows-next-requires-clause-octets_value
-unfolding shortest
-back_rows-next-requires-clause-octets_value c = c.requires.octets_value
-
-pub back_rows-next-requires-clause-octets_value_2 : goal.back_rows-next-requires-clause-octets_value_2
-unfolding shortest
-back_rows-next-requires-clause-octets_value_2 c = c.requires.octets_value_2
-
 pub back_rows-next-requires-clause-room : goal.back_rows-next-requires-clause-room
 unfolding shortest
 back_rows-next-requires-clause-room c = room_inside 0x6C (octets_of (series_form (row_form c.args.material.now) (rows_in c.args.count (drop 44 c.args.octets.now)))) (rw (some_rows c.args.material.now c.args.count (drop 44 c.args.octets.now) (omega arith)) at c.requires.room)

@@ -15,7 +15,7 @@ back_components-a-requires c =
     let inside : Room c.args.out.now c.args.at (octets_of (inside_form c.args.material.now c.args.orig c.args.dest c.args.dialogue (rows_in c.args.count (drop 44 c.args.octets.now)))) = room_inside (message_tag c.args.kind) (octets_of (inside_form c.args.material.now c.args.orig c.args.dest c.args.dialogue (rows_in c.args.count (drop 44 c.args.octets.now)))) c.requires.room in
     let m = c.args.material.now in
     let last = room_last (octets_of (dialogue_form m c.args.dialogue)) (room_last (octets_of (dest_form m c.args.dest)) (room_last (octets_of (orig_form m c.args.orig)) inside)) in
-    record { in_bounds = c.requires.in_bounds; octets_value = c.requires.octets_value; octets_value_2 = c.requires.octets_value_2; room = last }
+    record { in_bounds = c.requires.in_bounds; rows_listed = c.requires.rows_listed; rows_within = c.requires.rows_within; room = last }
 
 pub back_dialogue-b-requires : goal.back_dialogue-b-requires
 unfolding inside_form shortest parts_form
@@ -23,21 +23,21 @@ back_dialogue-b-requires c =
     let inside : Room c.args.out.now c.args.at (octets_of (inside_form c.args.material.now c.args.orig c.args.dest c.args.dialogue (rows_in c.args.count (drop 44 c.args.octets.now)))) = room_inside (message_tag c.args.kind) (octets_of (inside_form c.args.material.now c.args.orig c.args.dest c.args.dialogue (rows_in c.args.count (drop 44 c.args.octets.now)))) c.requires.room in
     let m = c.args.material.now in
     let room = room_last (octets_of (dest_form m c.args.dest)) (room_last (octets_of (orig_form m c.args.orig)) inside) in
-    record { dialogue_value = c.requires.dialogue_value; room = room_next c.back_components-a.ensures _ room }
+    record { dialogue_within = c.requires.dialogue_within; room = room_next c.back_components-a.ensures _ room }
 
 pub back_dest-c-requires : goal.back_dest-c-requires
 unfolding inside_form shortest parts_form
 back_dest-c-requires c =
     let inside : Room c.args.out.now c.args.at (octets_of (inside_form c.args.material.now c.args.orig c.args.dest c.args.dialogue (rows_in c.args.count (drop 44 c.args.octets.now)))) = room_inside (message_tag c.args.kind) (octets_of (inside_form c.args.material.now c.args.orig c.args.dest c.args.dialogue (rows_in c.args.count (drop 44 c.args.octets.now)))) c.requires.room in
     let put = back_then c.back_components-a.ensures c.back_dialogue-b.ensures in
-    record { dest_value = c.requires.dest_value; room = room_next put _ (room_last (octets_of (orig_form c.args.material.now c.args.orig)) inside) }
+    record { dest_within = c.requires.dest_within; room = room_next put _ (room_last (octets_of (orig_form c.args.material.now c.args.orig)) inside) }
 
 pub back_orig-next-requires : goal.back_orig-next-requires
 unfolding inside_form shortest parts_form
 back_orig-next-requires c =
     let inside : Room c.args.out.now c.args.at (octets_of (inside_form c.args.material.now c.args.orig c.args.dest c.args.dialogue (rows_in c.args.count (drop 44 c.args.octets.now)))) = room_inside (message_tag c.args.kind) (octets_of (inside_form c.args.material.now c.args.orig c.args.dest c.args.dialogue (rows_in c.args.count (drop 44 c.args.octets.now)))) c.requires.room in
     let put = back_then (back_then c.back_components-a.ensures c.back_dialogue-b.ensures) c.back_dest-c.ensures in
-    record { orig_value = c.requires.orig_value; room = room_next put _ inside }
+    record { orig_within = c.requires.orig_within; room = room_next put _ inside }
 
 pub back_head-requires : goal.back_head-requires
 unfolding inside_form parts_form shortest

@@ -16,9 +16,9 @@ pub returns-then-part-eq2 : goal.returns-then-part-eq2
 unfolding code_form code_in span_at top_of
 returns-then-part-eq2 c = rw (eq-eqb _ _ c.if-part-eq2.true) (rw (to_z-of_z {w = w32} (record { sfits = c.signed-value.type_inv }), c.signed-value.ensures, c.number_at.ensures) at c.back_integer.ensures)
 
-pub back_string-requires-clause-string_value : goal.back_string-requires-clause-string_value
+pub back_string-requires-clause-string_within : goal.back_string-requires-clause-string_within
 unfolding code_lies code_form code_in
-back_string-requires-clause-string_value c = rw c.span_at-string.ensures (rw (ne_eqb _ _ c.if-part-eq2.false) at c.requires.part_value)
+back_string-requires-clause-string_within c = rw c.span_at-string.ensures (rw (ne_eqb _ _ c.if-part-eq2.false) at c.requires.code_within)
 
 pub back_string-requires-clause-room : goal.back_string-requires-clause-room
 unfolding code_lies code_form code_in

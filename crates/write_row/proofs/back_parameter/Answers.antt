@@ -11,9 +11,9 @@ pub returns-then-part-eq0 : goal.returns-then-part-eq0
 unfolding parameter_form optional_in shortest
 returns-then-part-eq0 c = rw (eq-eqb _ _ c.if-part-eq0.true) (back_none _ _ c.requires.room.within)
 
-pub back_span-requires-clause-string_value : goal.back_span-requires-clause-string_value
+pub back_span-requires-clause-string_within : goal.back_span-requires-clause-string_within
 unfolding option_lies parameter_form optional_in shortest
-back_span-requires-clause-string_value c = rw c.span_at-string.ensures (rw (ne_eqb _ _ c.if-part-eq0.false) at c.requires.part_value)
+back_span-requires-clause-string_within c = rw c.span_at-string.ensures (rw (ne_eqb _ _ c.if-part-eq0.false) at c.requires.parameter_within)
 
 pub back_span-requires-clause-room : goal.back_span-requires-clause-room
 unfolding option_lies parameter_form optional_in shortest

@@ -12,10 +12,10 @@ pub returns-then-part-eq0 : goal.returns-then-part-eq0
 unfolding returned_in returned_form shortest
 returns-then-part-eq0 c = rw (eq-eqb _ _ c.if-part-eq0.true) (back_none _ _ c.requires.room.within)
 
-pub back_span-next-requires-clause-string_value : goal.back_span-next-requires-clause-string_value
+pub back_span-next-requires-clause-string_within : goal.back_span-next-requires-clause-string_within
 unfolding returned_in
-back_span-next-requires-clause-string_value c =
-    let lie = rw (ne_eqb _ _ c.if-part-eq0.false) at c.requires.part_value in
+back_span-next-requires-clause-string_within c =
+    let lie = rw (ne_eqb _ _ c.if-part-eq0.false) at c.requires.within in
     rw c.span_at-string.ensures (both_lie _ _ _ lie).1
 
 pub back_span-next-requires-clause-room : goal.back_span-next-requires-clause-room
@@ -24,10 +24,10 @@ back_span-next-requires-clause-room c =
     let room = rw (ne_eqb _ _ c.if-part-eq0.false) at c.requires.room in
     rw c.span_at-string.ensures (room_last (octets_of (code_form c.args.material.now (code_at c.args.part.now))) (both_inside _ _ _ room))
 
-pub back_code-start-requires-clause-part_value : goal.back_code-start-requires-clause-part_value
+pub back_code-start-requires-clause-code_within : goal.back_code-start-requires-clause-code_within
 unfolding returned_in
-back_code-start-requires-clause-part_value c =
-    let lie = rw (ne_eqb _ _ c.if-part-eq0.false) at c.requires.part_value in
+back_code-start-requires-clause-code_within c =
+    let lie = rw (ne_eqb _ _ c.if-part-eq0.false) at c.requires.within in
     (both_lie _ _ _ lie).0
 
 pub back_code-start-requires-clause-room : goal.back_code-start-requires-clause-room

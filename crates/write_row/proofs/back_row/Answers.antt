@@ -8,17 +8,13 @@ use Rattle.write_row.proofs.Fields.{contents_parts, row_inside}
 use Rattle.write_row.proofs.Tags.{row_kind, row_tag_lem}
 use Rattle.write_row.proofs.back_row.Goals as goal
 
-pub back_rest-next-requires-clause-in_bounds : goal.back_rest-next-requires-clause-in_bounds
+pub back_rest-next-requires-clause-kind_listed : goal.back_rest-next-requires-clause-kind_listed
 unfolding row_in
-back_rest-next-requires-clause-in_bounds c = c.requires.in_bounds
+back_rest-next-requires-clause-kind_listed c = row_kind _ c.requires.row_listed
 
-pub back_rest-next-requires-clause-part_value : goal.back_rest-next-requires-clause-part_value
+pub back_rest-next-requires-clause-within : goal.back_rest-next-requires-clause-within
 unfolding row_in
-back_rest-next-requires-clause-part_value c = row_kind _ c.requires.part_value
-
-pub back_rest-next-requires-clause-part_value_2 : goal.back_rest-next-requires-clause-part_value_2
-unfolding row_in
-back_rest-next-requires-clause-part_value_2 c = c.requires.part_value_2
+back_rest-next-requires-clause-within c = c.requires.within
 
 pub back_rest-next-requires-clause-room : goal.back_rest-next-requires-clause-room
 unfolding row_in
@@ -30,8 +26,8 @@ back_id-start-requires c = room_next c.back_rest-next.ensures _ (row_inside c.ar
 
 pub back_head-requires : goal.back_head-requires
 unfolding row_in row_form shortest
-back_head-requires c = let both = room_head (back_then c.back_rest-next.ensures c.back_id-start.ensures) _ (rw (contents_parts, row_tag_lem _ c.requires.part_value) at c.requires.room) in record { room = both.0; n_bound = both.1 }
+back_head-requires c = let both = room_head (back_then c.back_rest-next.ensures c.back_id-start.ensures) _ (rw (contents_parts, row_tag_lem _ c.requires.row_listed) at c.requires.room) in record { room = both.0; n_bound = both.1 }
 
 pub returns : goal.returns
 unfolding row_in row_form shortest
-returns c = rw (contents_parts, row_tag_lem _ c.requires.part_value) (back_around (back_then c.back_rest-next.ensures c.back_id-start.ensures) _ c.back_head.ensures)
+returns c = rw (contents_parts, row_tag_lem _ c.requires.row_listed) (back_around (back_then c.back_rest-next.ensures c.back_id-start.ensures) _ c.back_head.ensures)

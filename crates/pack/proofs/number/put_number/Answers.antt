@@ -1,7 +1,6 @@
--- The octets of the number, one by one. Assumes nothing.
-use Rattle.base.specs.Number.{octets_in}
+-- The octets of the number. Assumes nothing.
+use Rattle.pack.proofs.Rooms.{be_octets}
 use Rattle.pack.proofs.number.put_number.Goals as goal
 
 pub returns : goal.returns
-unfolding octets_in
-returns c = c.put_four.ensures
+returns c = rw (c.to_be_bytes.ensures, be_octets) at c.put_octets.ensures

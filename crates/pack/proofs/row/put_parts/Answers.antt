@@ -1,18 +1,12 @@
 -- Three octets, and a string behind a string. Assumes nothing.
-use native.Mathlib.Omega.{arith}
-use Rattle.base.specs.Number.{octets_in}
+use Rattle.std.proofs.Common.{rules, ◌≡◌}
 use Rattle.base.proofs.Puts.{put_then}
-use Rattle.layout.specs.Layout.{span_octets, parts_octets}
-use Rattle.pack.proofs.Rooms.{put_room}
+use Rattle.layout.specs.Layout.{optional_flag, optional_span, parts_octets}
 use Rattle.pack.proofs.row.put_parts.Goals as goal
 
-pub put_span-requires : goal.put_span-requires
-unfolding span_octets octets_in
-put_span-requires c = put_room c.put_span-b.ensures 8 (put_room c.put_three-a.ensures 16 c.requires)
-
 pub returns : goal.returns
-unfolding parts_octets
-returns c = put_then (put_then c.put_three-a.ensures c.put_span-b.ensures) c.put_span.ensures
-
-pub put_span-b-requires : goal.put_span-b-requires
-put_span-b-requires c = omega (arith, put_room c.put_three-a.ensures 16 c.requires)
+unfolding parts_octets optional_flag optional_span
+returns c =
+    let f : c.flag.result ≡ optional_flag c.args.parameter = search rules in
+    let s : c.unwrap_or.result ≡ optional_span c.args.parameter = search rules in
+    rw (← f, ← s) (put_then (put_then c.put_octets-a.ensures c.put_span-b.ensures) c.put_span.ensures)

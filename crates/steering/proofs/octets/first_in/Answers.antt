@@ -1,48 +1,21 @@
--- The loop: of the octets' rules so many are left, from a place on, and they give what all give. Assumes nothing.
-use native.Mathlib.Omega.{arith}
-use mathlib.Core.Path.{refl, sym, ap, ◌∙◌}
-use Rattle.base.specs.Number.{number_from}
-use Rattle.steering.specs.declared.{Choice.Choice}
-use Rattle.steering.specs.Layout.{rule_of, rules_in}
-use Rattle.steering.proofs.Rules.{fit_here, fit_next, fit_none, rules_first, rules_none, rule_long, four_long}
+-- The first rule of the octets that fits. Assumes nothing.
+use Rattle.std.proofs.Common.{rules, ◌≡◌, List, ℕ, ◌/◌, length}
+use Rattle.std.proofs.lemmas.Iterator.{YieldsList-from_slice}
+use Rattle.std.proofs.lemmas.Iterator.Search.{find_from_yields_List}
+use Rattle.std.specs.Option.{option_map}
+use Rattle.std.specs.Prelude.{map}
+use denote.Ref.{Bor}
+use mathlib.Core.Path.{ap, ◌∙◌}
+use Rattle.steering.specs.declared.{Rule.Rule}
+use Rattle.steering.specs.Steering.{rule_fits, first_fit}
+use Rattle.steering.specs.Layout.{rule_size, rule_of, rules_in}
+use Rattle.steering.proofs.Rules.{fit_lent, rules_twelves}
 use Rattle.steering.proofs.octets.first_in.Goals as goal
 
-pub loop-left-init : goal.loop-left-init
-unfolding rules_in
-loop-left-init c = (omega arith, refl)
-
-pub fits_in-requires : goal.fits_in-requires
-fits_in-requires c = rule_long c.args.octets.now c.loop-left.left c.loop-left.at (omega arith) c.loop-left.invariant.0 c.after-rule.ensures
-
-pub piece-requires : goal.piece-requires
-piece-requires c = omega (arith, rule_long c.args.octets.now c.loop-left.left c.loop-left.at (omega arith) c.loop-left.invariant.0 c.after-rule.ensures)
-
-pub number_in-requires : goal.number_in-requires
-number_in-requires c = four_long 8 c.after-rule.result.now (omega (arith, rule_long c.args.octets.now c.loop-left.left c.loop-left.at (omega arith) c.loop-left.invariant.0 c.after-rule.ensures)) c.piece.ensures
-
-pub returns-then-fits_in : goal.returns-then-fits_in
-unfolding rule_of
-returns-then-fits_in c =
-    sym
-    (c.loop-left.invariant.1
-    ∙ fit_here _ _ (rules_first c.args.octets.now c.loop-left.left c.loop-left.at (omega arith) c.after-rule.ensures refl) (sym c.fits_in.ensures ∙ c.if-fits_in.true)
-    ∙ ap Choice.Link (sym (c.number_in.ensures ∙ ap (number_from 0) c.piece.ensures)))
-
-pub loop-left-smaller : goal.loop-left-smaller
-loop-left-smaller c = omega arith
-
-pub loop-left-preserved : goal.loop-left-preserved
-loop-left-preserved c =
-    (omega arith, c.loop-left.invariant.1 ∙ fit_next _ _ (rules_first c.args.octets.now c.loop-left.left c.loop-left.at (omega arith) c.after-rule.ensures refl) (sym c.fits_in.ensures ∙ c.if-fits_in.false))
-
 pub returns : goal.returns
-returns c = sym (c.loop-left.invariant.1 ∙ fit_none _ _ (rules_none c.args.octets.now c.loop-left.left c.loop-left.at (omega arith)))
-
-pub after-rule-requires : goal.after-rule-requires
-after-rule-requires c = omega arith
-
-pub overflow_sub-left : goal.overflow_sub-left
-overflow_sub-left c = omega arith
-
-pub overflow_add-at : goal.overflow_add-at
-overflow_add-at c = omega arith
+unfolding rules_in
+returns c =
+    let k : c.map.result ≡ option_map (λ (y : Bor (List ℕ)). (rule_of y.now).link) c.find.result = search rules in
+    fit_lent c.args.tag c.args.first rule_of c.find.result c.as_chunks.result.0.now k
+    (find_from_yields_List (λ (x : List ℕ). rule_fits (rule_of x) c.args.tag c.args.first) _ _ c.find.result c.find.ensures.ran (YieldsList-from_slice c.as_chunks.result.0.now c.iter.ensures.rest) (λ x b q h. search rules))
+    ∙ ap (λ (rs : List Rule). first_fit rs c.args.tag c.args.first) (ap (map rule_of) c.as_chunks.ensures.front ∙ rules_twelves (length c.args.octets.now / rule_size) c.args.octets.now)

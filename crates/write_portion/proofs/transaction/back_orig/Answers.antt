@@ -1,22 +1,16 @@
--- By cases. Assumes nothing.
-use Rattle.base.proofs.Backs.{back_none}
-use Rattle.element.specs.Form.{shortest}
-use Rattle.tcap.specs.Verdict.{orig_lies}
-use Rattle.write_check_row.specs.Forms.{orig_form}
+-- By the ID. Assumes nothing.
+use Rattle.std.proofs.Common.{rules}
+use Rattle.std.specs.Prelude.{option_map}
+use mathlib.Core.Path.{◌≡◌}
+use Rattle.write_portion.proofs.Transactions.{orig_same, orig_within}
 use Rattle.write_portion.proofs.transaction.back_orig.Goals as goal
 
-pub back_transaction-requires-clause-octets_value : goal.back_transaction-requires-clause-octets_value
-unfolding orig_lies orig_form shortest
-back_transaction-requires-clause-octets_value c = rw c.in-Orig.is at c.requires.orig_value
+pub back_transaction-requires : goal.back_transaction-requires
+back_transaction-requires c =
+    let id : c.map.result ≡ option_map (λ i. i.0) c.args.orig = search rules in
+    rw id (record { id_within = orig_within _ _ c.requires.orig_within; room = rw orig_same at c.requires.room })
 
-pub back_transaction-requires-clause-room : goal.back_transaction-requires-clause-room
-unfolding orig_lies orig_form shortest
-back_transaction-requires-clause-room c = rw c.in-Orig.is at c.requires.room
-
-pub returns-in-NoOrig : goal.returns-in-NoOrig
-unfolding orig_lies orig_form shortest
-returns-in-NoOrig c = rw c.in-NoOrig.is (back_none _ _ c.requires.room.within)
-
-pub returns-in-Orig : goal.returns-in-Orig
-unfolding orig_lies orig_form shortest
-returns-in-Orig c = rw c.in-Orig.is c.back_transaction.ensures
+pub returns : goal.returns
+returns c =
+    let id : c.map.result ≡ option_map (λ i. i.0) c.args.orig = search rules in
+    rw (orig_same, ← id) c.back_transaction.ensures
