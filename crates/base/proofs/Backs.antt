@@ -1,10 +1,11 @@
 -- Laws of puts before a place: a put before a put is one put, the room that is left, and what a buffer holds in the end. Assumes nothing.
-use Prim.Native.Nat.{ℕ, ◌≤◌}
+use Prim.Native.Nat.{ℕ, ◌+◌, ◌-◌, ◌≤◌, ◌<◌}
 use native.Mathlib.Omega.{arith}
-use mathlib.Core.Path.{◌≡◌, ap, ◌∙◌}
+use native.Mathlib.Numerals.{add-one}
+use mathlib.Core.Path.{◌≡◌, sym, ap, ◌∙◌}
 use mathlib.Core.List.{List, [], ◌++◌, append_assoc, append-nil}
-use lib.ListN.{length, take, drop, length-append, length-take, length-drop, take-append-drop}
-use lib.Seq.{take-append-le, take-take, drop_at, length-take-le}
+use lib.ListN.{length, take, drop, set, get_or, length-append, length-take, length-drop, take-append-drop}
+use lib.Seq.{paste, paste-suc, length-paste, take_all, take-append-le, take-take, drop_at, length-take-le}
 use Rattle.base.specs.inner.Back.{Room, PutBack}
 
 -- the room of what comes last
@@ -43,3 +44,16 @@ back_front {d} {at} {s} {r} p k =
 
 pub back_none : (d : List ℕ) (at : ℕ) → at ≤ length d → PutBack d at [] at d
 back_none d at h = record { within = h; begins = omega arith; holds = rw (append-nil, take-append-drop) }
+
+-- a loop that copies
+module _ (d : List ℕ) (at : ℕ) (s : List ℕ) (r : Room d at s) (i : ℕ) (out : List ℕ) (e : out ≡ paste d (at - length s) s i) where
+  pub copied_length : i ≤ length s → length out ≡ length d
+  copied_length h = ap length e ∙ length-paste d (at - length s) s i (omega (arith, r.fits, r.within)) h
+
+  pub copied_next : i < length s → set out (at - length s + i) (get_or s i 0) ≡ paste d (at - length s) s (i + 1)
+  copied_next h = ap (λ (o : List ℕ). set o (at - length s + i) (get_or s i 0)) e ∙ paste-suc d (at - length s) s i 0 (omega (arith, r.fits, r.within)) h ∙ ap (paste d (at - length s) s) (sym (add-one i))
+
+  pub copied : i ≤ length s → length s ≤ i → PutBack d at s (at - length s) out
+  copied h k =
+      let n : at - length s + i ≡ at = omega (arith, r.fits) in
+      record { within = r.within; begins = omega (arith, r.fits); holds = e ∙ rw (take_all i s k, n) }

@@ -60,6 +60,10 @@ put_nowhere {at} {s} p = p.holds ∙ sets_out [] at s (omega arith)
 pub put_none : (d : List ℕ) (at : ℕ) → length d ≤ farthest → at ≤ farthest → Put d at [] at d
 put_none d at w h = record { within = w; ends = omega arith; holds = refl }
 
+-- one octet within the buffer
+pub put_in : (d : List ℕ) (at x r : ℕ) → length d ≤ farthest → at < length d → r ≡ at + 1 → Put d at (x ∷ []) r (set d at x)
+put_in d at x r w h k = record { within = w; ends = omega arith; holds = refl }
+
 -- a part within the buffer
 pub put_all : (d s : List ℕ) (at : ℕ) → length d ≤ farthest → at + length s ≤ length d → Put d at s (at + length s) (put_mid at (at + length s - at) d s)
 put_all d s at w h =

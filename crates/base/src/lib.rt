@@ -51,15 +51,18 @@ fn put_each(out: &mut [u8], at: usize, part: &[u8]) -> usize
     next
 }
 
-// All octets of a part, with the room asked for once.
+// All octets of a part, with the room asked for once. Octet by octet, here and in `back_part`: `copy_from_slice` calls memmove, which costs a short part
+// more than its copy does, and which a host of the archive would have to bring beside memcpy and memset.
 pub fn put_part(out: &mut [u8], at: usize, part: &[u8]) -> usize
     ensures { Put out.old at part.now result out.new }
 {
-    if at <= out.len() && part.len() <= out.len() - at {
-        out[at..at + part.len()].copy_from_slice(part);
-        return at + part.len();
+    if at > out.len() || part.len() > out.len() - at {
+        return put_each(out, at, part);
     }
-    put_each(out, at, part)
+    for (i, octet) in part.iter().enumerate() {
+        out[at + i] = *octet;
+    }
+    at + part.len()
 }
 
 // The octets of an array, one after the other, with the room asked for once.
@@ -75,7 +78,9 @@ pub fn back_part(out: &mut [u8], at: usize, part: &[u8]) -> usize
     ensures { PutBack out.old at part.now result out.new }
 {
     let start = at - part.len();
-    out[start..at].copy_from_slice(part);
+    for (i, octet) in part.iter().enumerate() {
+        out[start + i] = *octet;
+    }
     start
 }
 
