@@ -1,10 +1,10 @@
 // Rules as octets, as a program in C passes them: 12 octets a rule, in the layout of docs/LAYOUT.md.
 ghost use Rattle.std.specs.Prelude.{◌≡◌, ◌≤◌, length};
 ghost use Rattle.primitive.specs.Primitive.{signed_of};
-ghost use Rattle.steering.specs.Steering.{first_fit};
+ghost use Rattle.steering.specs.Steering.{rule_fits, first_fit};
 ghost use Rattle.steering.specs.Layout.{rule_size, kind_in, code_in, rule_of, rules_in};
 
-use crate::{Rule, rule_fits};
+use crate::{Rule, code_fits, kind_fits};
 
 // Neither any kind nor one of the five.
 const NO_KIND: u8 = 255;
@@ -52,6 +52,16 @@ pub fn rule_of(octets: &[u8]) -> Rule
     }
 }
 
+// Whether the rule that octets begin with fits: its code is looked at only where its kind fits.
+#[tactic(auto, unfolding(crate::specs::Steering::rule_fits, crate::specs::Layout::rule_of))]
+fn fits_in(octets: &[u8], tag: u8, first: Option<i32>) -> bool
+    requires { rule_size ≤ length octets.now }
+    ensures { result ≡ rule_fits (rule_of octets.now) tag first }
+{
+    let flag = octets[1];
+    kind_fits(kind_in(octets[0], flag), tag) && code_fits(code_in(flag, &octets[4..8]), first)
+}
+
 // The first rule that fits, over rules as octets.
 pub fn first_in(octets: &[u8], tag: u8, first: Option<i32>) -> Option<u32>
     ensures { result ≡ first_fit (rules_in octets.now) tag first }
@@ -59,6 +69,6 @@ pub fn first_in(octets: &[u8], tag: u8, first: Option<i32>) -> Option<u32>
     let (rules, _) = octets.as_chunks::<12>();
     rules
         .iter()
-        .find(|rule| rule_fits(&rule_of(*rule), tag, first))
+        .find(|rule| fits_in(*rule, tag, first))
         .map(|rule| rule_of(rule).link)
 }
