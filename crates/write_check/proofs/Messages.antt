@@ -14,7 +14,7 @@ use borrow.Author.Tests.{eqb-true, eqb-false}
 use Rattle.element.specs.Form.{shortest, series_form}
 use Rattle.tcap.specs.declared.{Row.Row, Dialogue.Dialogue, MessageKind.MessageKind, Record.Record}
 use Rattle.tcap.specs.WellFormed.{most_components}
-use Rattle.write_check_row.specs.declared.Wrong.{Wrong}
+use Rattle.write_check_row.specs.declared.TheConstants.Wrong.{WRONG_PARTS}
 use Rattle.tcap.specs.Verdict.{counted, orig_there, dest_there, orig_ranges, dest_ranges, dialogue_ranges, orig_lies, dest_lies, dialogue_lies, dialogue_shaped, all_parts, all_ranges, all_lie, all_shaped}
 use Rattle.write_check_row.specs.Forms.{orig_form, dest_form, rows_form, inside_form, parts_form, record_form}
 use Rattle.write_check_row.specs.Judged.{rank_of, judged, wrapped, size_of, rows_rank, rows_judged}
@@ -69,6 +69,6 @@ module _ (m : List ℕ) where
   record_law r = simp (join, wrap, around_size, then_size, zero-add)
 
   -- a wrong part of a row outranks all else
-  pub message_bad : (k : MessageKind) (o : Optional OrigTransactionId) (e : Optional DestTransactionId) (d : Dialogue) (n : ℕ) → message_judged m k o e d n (Err Wrong.WrongParts) ≡ Err Wrong.WrongParts
+  pub message_bad : (k : MessageKind) (o : Optional OrigTransactionId) (e : Optional DestTransactionId) (d : Dialogue) (n : ℕ) → message_judged m k o e d n (Err WRONG_PARTS) ≡ Err WRONG_PARTS
   unfolding wrapped
   message_bad k o e d n = rw (over_right true (dialogue_ranges d) (dialogue_lies (length m) d) (dialogue_shaped m d), over_right true (dest_ranges e) (dest_lies (length m) e) true, over_right true (orig_ranges o) (orig_lies (length m) o) true) (over_right _ _ true true 0)

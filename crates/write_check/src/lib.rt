@@ -37,7 +37,7 @@ fn outside_judged(name: Span, material: &[u8]) -> Judged
 {
     let size = name_judged(name, material)?;
     if name_kind(octets_of(name, material)) != 0 {
-        return Err(Wrong::Unshaped);
+        return Err(Wrong::UNSHAPED);
     }
     Ok(size)
 }

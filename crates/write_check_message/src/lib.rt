@@ -85,10 +85,10 @@ fn parts_judged(
         cause_there(dialogue),
         count,
     ) {
-        return Err(Wrong::WrongParts);
+        return Err(Wrong::WRONG_PARTS);
     }
     if count > MOST_COMPONENTS {
-        return Err(Wrong::OutOfRange);
+        return Err(Wrong::OUT_OF_RANGE);
     }
     Ok(0)
 }

@@ -12,6 +12,7 @@ use borrow.Author.Tests.{lt-ltb, ltb-true, ltb-false}
 use Rattle.element.specs.Form.{Form, exactly, then, leaf, around, shortest, document01, StandsFor, length_octets}
 use Rattle.element.proofs.Shortest.{document01_laws}
 use Rattle.write_check_row.specs.declared.Wrong.{Wrong}
+use Rattle.write_check_row.specs.declared.TheConstants.Wrong.{UNSHAPED}
 use Rattle.write_check_row.specs.Judged.{worse, rank_of, size_cap, judged, joined, whole_size, wrapped, size_of}
 
 -- the worse of two, or of one and nothing
@@ -153,6 +154,6 @@ module _ (v s a b : Bool) (n : ℕ) where
     pub later_fine : b ≡ true → Ok k ≡ judged (rank_of true v s (a && b)) n
     later_fine h = rw (h, and-true) (sym e)
 
-    pub later_not : b ≡ false → Err Wrong.Unshaped ≡ judged (rank_of true v s (a && b)) n
+    pub later_not : b ≡ false → Err UNSHAPED ≡ judged (rank_of true v s (a && b)) n
     unfolding judged rank_of
     later_not h = let q = passed true v s a n k e in rw (h, q.ranges, q.lies, q.shaped)

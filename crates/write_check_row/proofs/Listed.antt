@@ -18,6 +18,7 @@ use Rattle.tcap.specs.declared.{Problem.Problem, ComponentKind.ComponentKind, Ro
 use Rattle.tcap.specs.Meaning.{integer}
 use Rattle.layout.specs.Layout.{head_size, row_size, octet, is_flag, id_in, linked_in, code_at, parameter_at, is_problem_tag, problem_in, returned_in, is_kind, kind_in, is_row, row_in, are_rows}
 use Rattle.write_check_row.specs.declared.Wrong.{Wrong}
+use Rattle.write_check_row.specs.declared.TheConstants.Wrong.{WRONG_PARTS}
 use Rattle.tcap.specs.Verdict.{id_there, row_parts_fit, row_ranges, row_lies, row_shaped}
 use Rattle.write_check_row.specs.Forms.{id_form, rest_form, contents_form, row_form}
 use Rattle.write_check_row.specs.Judged.{Judged, rank_of, size_cap, judged, joined, whole_size, wrapped, size_of, listed, rest_judged, row_judged, rows_rank, rows_judged}
@@ -28,7 +29,7 @@ use Rattle.write_check_row.proofs.Rows.{rows_step}
 
 -- 24 is the worst
 
-pub over_right : (p v s h : Bool) (n : ℕ) → joined (judged (rank_of p v s h) n) (Err Wrong.WrongParts) ≡ Err Wrong.WrongParts
+pub over_right : (p v s h : Bool) (n : ℕ) → joined (judged (rank_of p v s h) n) (Err WRONG_PARTS) ≡ Err WRONG_PARTS
 unfolding rank_of judged joined
 over_right true true true true n = refl
 over_right true true true false n = refl
@@ -36,7 +37,7 @@ over_right true true false h n = refl
 over_right true false s h n = refl
 over_right false v s h n = refl
 
-over_left : (p v s h : Bool) (n : ℕ) → joined (Err Wrong.WrongParts) (judged (rank_of p v s h) n) ≡ Err Wrong.WrongParts
+over_left : (p v s h : Bool) (n : ℕ) → joined (Err WRONG_PARTS) (judged (rank_of p v s h) n) ≡ Err WRONG_PARTS
 unfolding rank_of judged joined
 over_left true true true true n = refl
 over_left true true true false n = refl
@@ -44,7 +45,7 @@ over_left true true false h n = refl
 over_left true false s h n = refl
 over_left false v s h n = refl
 
-listed_both : (a b : Bool) (x y : Judged) → joined x (Err Wrong.WrongParts) ≡ Err Wrong.WrongParts → joined (Err Wrong.WrongParts) y ≡ Err Wrong.WrongParts → joined (listed a x) (listed b y) ≡ listed (a && b) (joined x y)
+listed_both : (a b : Bool) (x y : Judged) → joined x (Err WRONG_PARTS) ≡ Err WRONG_PARTS → joined (Err WRONG_PARTS) y ≡ Err WRONG_PARTS → joined (listed a x) (listed b y) ≡ listed (a && b) (joined x y)
 unfolding joined
 listed_both true true x y h i = refl
 listed_both true false x y h i = h
@@ -138,7 +139,7 @@ module _ (m : List ℕ) where
       by false false false = refl
 
   -- null is for a Reject alone
-  null_listed : (x : ℕ) (l : List ℕ) → (x ≡ 0xA4 → ⊥) → (b : Bool) → Err Wrong.WrongParts ≡ listed b (row_judged m (record { id = None; kind = kind_in x l }))
+  null_listed : (x : ℕ) (l : List ℕ) → (x ≡ 0xA4 → ⊥) → (b : Bool) → Err WRONG_PARTS ≡ listed b (row_judged m (record { id = None; kind = kind_in x l }))
   unfolding rank_of judged
   null_listed x l h true = rw (null_parts x l h)
   null_listed x l h false = refl
@@ -154,7 +155,7 @@ module _ (m : List ℕ) where
       unfolding is_row row_in id_in kind_in
       row_null e = rw (h, e) (reject_listed (problem_in (octet l 5) (octet l 7)) (is_kind 0xA4 l))
 
-      pub row_none : (octet l 0 ≡ 0xA4 → ⊥) → Err Wrong.WrongParts ≡ listed (is_row l) (row_judged m (row_in l))
+      pub row_none : (octet l 0 ≡ 0xA4 → ⊥) → Err WRONG_PARTS ≡ listed (is_row l) (row_judged m (row_in l))
       unfolding is_row row_in id_in
       row_none e = rw h (null_listed (octet l 0) l e (is_kind (octet l 0) l))
 

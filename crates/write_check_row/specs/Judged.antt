@@ -6,26 +6,23 @@ use mathlib.Core.{Bool.Bool, Bool.true, Bool.cond, Bool.◌&&◌, List.List}
 use lib.{ListN.length, Dec.leb, Dec.ltb}
 use Rattle.element.specs.{Form.Form, Form.then, Form.series_form, Form.length_octets, Form.shortest, Form.document01}
 use Rattle.tcap.specs.{declared.Span.Span, declared.Code.Code, declared.Problem.Problem, declared.ComponentKind.ComponentKind, declared.Row.Row, Meaning.problem_form, WellFormed.most_octets}
-use Rattle.write_check_row.specs.{declared.Wrong.Wrong, Forms.code_form, Forms.parameter_form, Forms.returned_form, Forms.rest_form, Forms.row_form}
+use Rattle.write_check_row.specs.{declared.Wrong.Wrong, declared.TheConstants.Wrong.UNSHAPED, declared.TheConstants.Wrong.OUT_OF_MATERIAL, declared.TheConstants.Wrong.OUT_OF_RANGE, declared.TheConstants.Wrong.WRONG_PARTS, Forms.code_form, Forms.parameter_form, Forms.returned_form, Forms.rest_form, Forms.row_form}
 use Rattle.tcap.specs.Verdict.{every, row_parts_fit, ranges, name_ranges, code_ranges, problem_ranges, returned_ranges, row_ranges, lies, option_lies, code_lies, returned_lies, row_lies, is_element, is_series, string_octets, name_shaped, parameter_shaped, code_shaped, returned_shaped, row_shaped}
 
 -- the size of a part that may be written, capped, or the worst that is wrong with it
 abbrev pub Judged : Type 0
 Judged = Result ℕ Wrong
 
--- the order of document 01: 24 before 23, 21 and 22
+-- the order of document 01: 24 (4) before 23 (3), 21 (2) and 22 (1)
 abbrev pub rank : Wrong → ℕ
-rank Wrong.WrongParts = 4
-rank Wrong.OutOfRange = 3
-rank Wrong.OutOfMaterial = 2
-rank Wrong.Unshaped = 1
+rank k = k.0
 
 abbrev pub worse : Wrong → Wrong → Wrong
 worse k l = cond (ltb (rank k) (rank l)) l k
 
 -- the worst of a part by the four tests, or nothing
 unfoldable pub rank_of : Bool → Bool → Bool → Bool → Optional Wrong
-rank_of parts ranges lies shaped = cond parts (cond ranges (cond lies (cond shaped None (Some Wrong.Unshaped)) (Some Wrong.OutOfMaterial)) (Some Wrong.OutOfRange)) (Some Wrong.WrongParts)
+rank_of parts ranges lies shaped = cond parts (cond ranges (cond lies (cond shaped None (Some UNSHAPED)) (Some OUT_OF_MATERIAL)) (Some OUT_OF_RANGE)) (Some WRONG_PARTS)
 
 -- sizes above the most octets are all alike: no such message may be written
 abbrev pub size_cap : ℕ
@@ -37,7 +34,7 @@ judged (Some k) size = Err k
 
 -- a part as octets say it: an octet that chooses and is not listed is a wrong part, 24
 abbrev pub listed : Bool → Judged → Judged
-listed b j = cond b j (Err Wrong.WrongParts)
+listed b j = cond b j (Err WRONG_PARTS)
 
 -- two parts, one after the other
 unfoldable pub joined : Judged → Judged → Judged

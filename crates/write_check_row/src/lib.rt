@@ -3,7 +3,6 @@
 
 ghost use Rattle.std.specs.Prelude.{◌≡◌, true, false, ◌+◌, min, length, IfOk, IfErr};
 ghost use Rattle.tcap.specs.Verdict.{lies, is_element, is_series, string_octets};
-ghost use Rattle.write_check_row.specs.declared.Wrong.{Wrong};
 ghost use Rattle.write_check_row.specs.Judged.{size_cap, worse, joined, wrapped, octet_judged, octets_judged, sized_judged, name_judged, element_judged, series_judged};
 
 use base::piece;
@@ -14,13 +13,19 @@ use walk::whole_at;
 // Any size above the most octets that a message may have.
 const SIZE_CAP: usize = MOST_OCTETS + 1;
 
-// What is wrong with a part, the worst last; document 01 numbers these 22, 21, 23 and 24.
+// What is wrong with a part, by its rank, the worst the greatest. Parts are judged by the four below; joining takes every rank.
 #[derive(Clone, Copy, PartialEq, Eq, PartialOrd, Ord)]
-pub enum Wrong {
-    Unshaped,
-    OutOfMaterial,
-    OutOfRange,
-    WrongParts,
+pub struct Wrong(pub u8);
+
+// Document 01 numbers these 22, 21, 23 and 24.
+impl Wrong {
+    pub const UNSHAPED: Wrong = Wrong(1);
+
+    pub const OUT_OF_MATERIAL: Wrong = Wrong(2);
+
+    pub const OUT_OF_RANGE: Wrong = Wrong(3);
+
+    pub const WRONG_PARTS: Wrong = Wrong(4);
 }
 
 // The size of a part that may be written, capped; or the worst that is wrong with it.
@@ -81,11 +86,11 @@ pub fn octets_of(span: Span, material: &[u8]) -> &[u8]
 // The octets of any string; 21: place and length are 32 bits, so that their sum does not wrap.
 fn octets_in(span: Span, material: &[u8]) -> Result<&[u8], Wrong>
     ensures ok { IfOk result (λ octets. (lies (length material.now) span ≡ true) × (octets.now ≡ string_octets material.now span)) }
-    ensures err { IfErr result (λ wrong. (lies (length material.now) span ≡ false) × (wrong ≡ Wrong.OutOfMaterial)) }
+    ensures err { IfErr result (λ wrong. (lies (length material.now) span ≡ false) × (wrong ≡ Wrong.OUT_OF_MATERIAL)) }
 {
     let place = span.place as usize;
     let end = place + span.len as usize;
-    material.get(place..end).ok_or(Wrong::OutOfMaterial)
+    material.get(place..end).ok_or(Wrong::OUT_OF_MATERIAL)
 }
 
 // Octets of any kind.
@@ -102,7 +107,7 @@ pub fn sized_judged(span: Span, most: usize, material: &[u8]) -> Judged
 {
     let len = span.len as usize;
     if len < 1 || len > most {
-        return Err(Wrong::OutOfRange);
+        return Err(Wrong::OUT_OF_RANGE);
     }
     octets_judged(span, material)
 }
@@ -113,7 +118,7 @@ pub fn name_judged(span: Span, material: &[u8]) -> Judged
 {
     let size = sized_judged(span, MOST_IDENTIFIER_OCTETS, material)?;
     if !identifier_ok(octets_of(span, material)) {
-        return Err(Wrong::Unshaped);
+        return Err(Wrong::UNSHAPED);
     }
     Ok(size)
 }
@@ -148,7 +153,7 @@ pub fn element_judged(span: Span, material: &[u8], left: usize) -> Judged
 {
     let octets = octets_in(span, material)?;
     if !is_element(octets, left) {
-        return Err(Wrong::Unshaped);
+        return Err(Wrong::UNSHAPED);
     }
     Ok(capped(octets.len()))
 }
@@ -159,7 +164,7 @@ pub fn series_judged(span: Span, material: &[u8], left: usize) -> Judged
 {
     let octets = octets_in(span, material)?;
     if !is_series(octets, left) {
-        return Err(Wrong::Unshaped);
+        return Err(Wrong::UNSHAPED);
     }
     Ok(capped(octets.len()))
 }
@@ -169,7 +174,7 @@ pub fn octet_judged(octet: u8, most: u8) -> Judged
     ensures { result ≡ octet_judged octet most }
 {
     if octet > most {
-        return Err(Wrong::OutOfRange);
+        return Err(Wrong::OUT_OF_RANGE);
     }
     Ok(3)
 }

@@ -21,7 +21,7 @@ fn code_judged(part: &[u8; 24], material: &[u8]) -> Judged
     match part[5] {
         0x02 => around(Ok(integer_size(signed(u32::MAX, number_at(part, 8))))),
         0x06 => around(name_judged(span_at(part, 8), material)),
-        _ => Err(Wrong::WrongParts),
+        _ => Err(Wrong::WRONG_PARTS),
     }
 }
 
@@ -32,7 +32,7 @@ fn parameter_judged(part: &[u8; 24], material: &[u8]) -> Judged
     match part[6] {
         0 => Ok(0),
         1 => element_judged(span_at(part, 16), material, LEFT_AT_4),
-        _ => Err(Wrong::WrongParts),
+        _ => Err(Wrong::WRONG_PARTS),
     }
 }
 
@@ -55,7 +55,7 @@ fn returned_judged(part: &[u8; 24], material: &[u8]) -> Judged
             let parameter = span_at(part, 16);
             around(both(code, element_judged(parameter, material, LEFT_AT_5)))
         }
-        _ => Err(Wrong::WrongParts),
+        _ => Err(Wrong::WRONG_PARTS),
     }
 }
 
@@ -67,7 +67,7 @@ fn problem_judged(tag: u8, number: u8) -> Judged
         0x81 => octet_judged(number, MOST_INVOKE_PROBLEM),
         0x82 => octet_judged(number, MOST_RESULT_PROBLEM),
         0x83 => octet_judged(number, MOST_ERROR_PROBLEM),
-        _ => Err(Wrong::WrongParts),
+        _ => Err(Wrong::WRONG_PARTS),
     }
 }
 
@@ -76,7 +76,7 @@ fn reject_judged(part: &[u8; 24]) -> Judged
     ensures { result ≡ listed (eqb (get_or part.now 6 0) 0 && is_problem_tag (get_or part.now 5 0)) (problem_judged (problem_in (get_or part.now 5 0) (get_or part.now 7 0))) }
 {
     if part[6] != 0 {
-        return Err(Wrong::WrongParts);
+        return Err(Wrong::WRONG_PARTS);
     }
     problem_judged(part[5], part[7])
 }
@@ -88,7 +88,7 @@ fn invoke_judged(part: &[u8; 24], material: &[u8]) -> Judged
     match part[3] {
         0 => coded_judged(part, material),
         1 => both(Ok(3), coded_judged(part, material)),
-        _ => Err(Wrong::WrongParts),
+        _ => Err(Wrong::WRONG_PARTS),
     }
 }
 
@@ -100,7 +100,7 @@ fn unlinked_judged(tag: u8, part: &[u8; 24], material: &[u8]) -> Judged
         0xA2 | 0xA7 => returned_judged(part, material),
         0xA3 => coded_judged(part, material),
         0xA4 => reject_judged(part),
-        _ => Err(Wrong::WrongParts),
+        _ => Err(Wrong::WRONG_PARTS),
     }
 }
 
@@ -111,7 +111,7 @@ fn rest_judged(tag: u8, part: &[u8; 24], material: &[u8]) -> Judged
     match (tag, part[3]) {
         (0xA1, _) => invoke_judged(part, material),
         (_, 0) => unlinked_judged(tag, part, material),
-        _ => Err(Wrong::WrongParts),
+        _ => Err(Wrong::WRONG_PARTS),
     }
 }
 
@@ -119,11 +119,15 @@ fn rest_judged(tag: u8, part: &[u8; 24], material: &[u8]) -> Judged
 fn row_judged(part: &[u8; 24], material: &[u8]) -> Judged
     ensures { result ≡ listed (is_row part.now) (row_judged material.now (row_in part.now)) }
 {
+    // asked first: a row that is none is refused without a walk through its parameter
+    if part[1] > 1 {
+        return Err(Wrong::WRONG_PARTS);
+    }
     let rest = rest_judged(part[0], part, material);
     match (part[0], part[1]) {
         (_, 1) => around(both(Ok(3), rest)),
         (0xA4, 0) => around(both(Ok(2), rest)),
-        _ => Err(Wrong::WrongParts),
+        _ => Err(Wrong::WRONG_PARTS),
     }
 }
 

@@ -16,6 +16,7 @@ use Rattle.tcap.specs.WellFormed.{most_octets}
 use Rattle.tcap.specs.Verdict.{all_parts, all_ranges, all_lie, all_shaped}
 use Rattle.write_check_row.specs.Forms.{record_form, octets_of}
 use Rattle.write_check_row.specs.declared.Wrong.{Wrong}
+use Rattle.write_check_row.specs.declared.TheConstants.Wrong.{UNSHAPED, OUT_OF_MATERIAL, OUT_OF_RANGE, WRONG_PARTS}
 use Rattle.write_check_row.specs.Judged.{rank_of, size_cap}
 use Rattle.writing.specs.declared.{WriteFault.WriteFault}
 use Rattle.writing.specs.Writing.{message_of, RecordOk, unless, writing, Writes, RecordTyped}
@@ -27,10 +28,10 @@ use Rattle.writing.proofs.Promises.{message_is, ok_answer, leaves_message, leave
 by_rank : (p q l s : Bool) (k : Wrong) (w : Result ℕ WriteFault) → rank_of p q l s ≡ Some k → unless p WriteFault.WrongParts (unless q WriteFault.OutOfRange (unless l WriteFault.OutOfMaterial (unless s WriteFault.Unshaped w))) ≡ Err (fault_at k)
 unfolding rank_of fault_at
 by_rank true true true true k w e = absurd cc
-by_rank true true true false k w e = let z : k ≡ Wrong.Unshaped = cc in rw z
-by_rank true true false s k w e = let z : k ≡ Wrong.OutOfMaterial = cc in rw z
-by_rank true false l s k w e = let z : k ≡ Wrong.OutOfRange = cc in rw z
-by_rank false q l s k w e = let z : k ≡ Wrong.WrongParts = cc in rw z
+by_rank true true true false k w e = let z : k ≡ UNSHAPED = cc in rw z
+by_rank true true false s k w e = let z : k ≡ OUT_OF_MATERIAL = cc in rw z
+by_rank true false l s k w e = let z : k ≡ OUT_OF_RANGE = cc in rw z
+by_rank false q l s k w e = let z : k ≡ WRONG_PARTS = cc in rw z
 
 rank_none : (p q l s : Bool) → rank_of p q l s ≡ None → (p ≡ true) × (q ≡ true) × (l ≡ true) × (s ≡ true)
 unfolding rank_of

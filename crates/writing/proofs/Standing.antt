@@ -16,6 +16,7 @@ use Rattle.base.proofs.Numbers.{signed_small, small_holds}
 use Rattle.tcap.specs.declared.{Span.Span, Code.Code, Row.Row}
 use Rattle.tcap.specs.Record.{blank_row}
 use Rattle.write_check_row.specs.declared.Wrong.{Wrong}
+use Rattle.write_check_row.specs.declared.TheConstants.Wrong.{WRONG_PARTS}
 use Rattle.tcap.specs.Verdict.{counted, all_parts, all_ranges, all_lie, all_shaped}
 use Rattle.write_check_row.specs.Forms.{record_form}
 use Rattle.write_check_row.specs.Judged.{Judged, rank_of, judged, listed, wrapped, size_of, rows_judged}
@@ -180,4 +181,4 @@ bad_octets o m out k e = by (is_record o) refl e
   where
     by : (b : Bool) → is_record o ≡ b → Err k ≡ listed b (judgment o m) → (Err (fault_at k) ≡ writing_octets o m (length out)) × (out ≡ leaves_octets o m out)
     by true h e = octets_write o m out h (bad_writes (record_in o) m (bad_tells _ _ k e))
-    by false h e = let z : k ≡ Wrong.WrongParts = cc in rw z (octets_none o m out h)
+    by false h e = let z : k ≡ WRONG_PARTS = cc in rw z (octets_none o m out h)

@@ -1,4 +1,4 @@
-// Writing: what it answers. Definitions and theorems stand here, the code in `writer`.
+// Writing: what it answers, and by which number. Definitions and theorems stand here, the writer in `writer`.
 #![tactic(auto)]
 
 ghost use Rattle.std.specs.Prelude.{◌≡◌};
@@ -23,10 +23,10 @@ impl From<Wrong> for WriteFault {
 
     fn from(wrong: Wrong) -> WriteFault {
         match wrong {
-            Wrong::WrongParts => WriteFault::WrongParts,
-            Wrong::OutOfRange => WriteFault::OutOfRange,
-            Wrong::OutOfMaterial => WriteFault::OutOfMaterial,
-            Wrong::Unshaped => WriteFault::Unshaped,
+            Wrong::WRONG_PARTS => WriteFault::WrongParts,
+            Wrong::OUT_OF_RANGE => WriteFault::OutOfRange,
+            Wrong::OUT_OF_MATERIAL => WriteFault::OutOfMaterial,
+            _ => WriteFault::Unshaped,
         }
     }
 }

@@ -13,13 +13,14 @@ use borrow.Author.Tests.{le-leb, lt-leb}
 use Rattle.tcap.specs.declared.Span.{Span}
 use Rattle.tcap.specs.Verdict.{lies, string_octets}
 use Rattle.write_check_row.specs.declared.Wrong.{Wrong}
+use Rattle.write_check_row.specs.declared.TheConstants.Wrong.{OUT_OF_MATERIAL}
 use Rattle.write_check_row.proofs.octets_in.Goals as goal
 
 module _ (m : List ℕ) (s : Span) where
   abbrev Found : Result (Bor (List ℕ)) Wrong → Type 0
-  Found q = record { ok : IfOk q (λ octets. (lies (length m) s ≡ true) × (octets.now ≡ string_octets m s)); err : IfErr q (λ wrong. (lies (length m) s ≡ false) × (wrong ≡ Wrong.OutOfMaterial)) }
+  Found q = record { ok : IfOk q (λ octets. (lies (length m) s ≡ true) × (octets.now ≡ string_octets m s)); err : IfErr q (λ wrong. (lies (length m) s ≡ false) × (wrong ≡ OUT_OF_MATERIAL)) }
 
-  by_part : (r : Optional (Bor (List ℕ))) → IsGetRangeResult m s.place (s.place + s.len) r → Found (ok_or r Wrong.OutOfMaterial)
+  by_part : (r : Optional (Bor (List ℕ))) → IsGetRangeResult m s.place (s.place + s.len) r → Found (ok_or r OUT_OF_MATERIAL)
   unfolding lies string_octets
   by_part None (inl h, i) = absurd (omega arith)
   by_part None (inr h, i) = record { ok = tt; err = (lt-leb _ _ h, refl) }

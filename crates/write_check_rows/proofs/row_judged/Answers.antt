@@ -1,7 +1,12 @@
 -- The ID, and what stands behind it. Assumes nothing.
+use borrow.Author.Tests.{lt-leb}
 use Rattle.layout.specs.Layout.{is_row}
 use Rattle.write_check_row.proofs.Listed.{flag_none, row_id, row_null, row_none}
 use Rattle.write_check_rows.proofs.row_judged.Goals as goal
+
+pub returns-then-part-gt1 : goal.returns-then-part-gt1
+unfolding is_row
+returns-then-part-gt1 c = rw (lt-leb _ 1 c.if-part-gt1.true)
 
 pub returns-in_default-eq1 : goal.returns-in_default-eq1
 returns-in_default-eq1 c = rw (c.around.ensures, c.both.ensures, c.rest_judged-rest.ensures) (row_id c.args.material.now c.args.part.now c.in_default-eq1.is-1)
