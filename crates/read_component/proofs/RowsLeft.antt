@@ -36,12 +36,13 @@ use Rattle.read_component.proofs.Rows.{series_missing, series_whole, series_cut,
 -- What `blame_component` stores
 
 module _ (k : ℕ) (m : List ℕ) (at stop : ℕ) where
-  pub blame_unknown : (l : List ℕ) → 4 ≤ length l → CarriesHere (id_in_octet None) m at stop → (owner_in (set (set (set l 0 2) 1 k) 2 0) ≡ component k) × CarriesHere (id_in (set (set (set l 0 2) 1 k) 2 0)) m at stop
+  pub blame_unknown : (l : List ℕ) → 4 ≤ length l → CarriesHere (id_in_octet None) m at stop → (owner_in (set (set (set (set l 0 2) 1 k) 2 0) 3 0) ≡ component k) × CarriesHere (id_in (set (set (set (set l 0 2) 1 k) 2 0) 3 0)) m at stop
   unfolding owner_in id_in id_in_octet
   blame_unknown [] h e = absurd (omega (arith, h))
   blame_unknown (a ∷ []) h e = absurd (omega (arith, h))
   blame_unknown (a ∷ b ∷ []) h e = absurd (omega (arith, h))
-  blame_unknown (a ∷ b ∷ c ∷ l) h e = (refl, e)
+  blame_unknown (a ∷ b ∷ c ∷ []) h e = absurd (omega (arith, h))
+  blame_unknown (a ∷ b ∷ c ∷ d ∷ l) h e = (refl, e)
 
   pub blame_known : (id : ℕ) (l : List ℕ) → 4 ≤ length l → CarriesHere (id_in_octet (Some id)) m at stop → (owner_in (set (set (set (set l 0 2) 1 k) 2 1) 3 id) ≡ component k) × CarriesHere (id_in (set (set (set (set l 0 2) 1 k) 2 1) 3 id)) m at stop
   unfolding owner_in id_in id_in_octet

@@ -45,7 +45,10 @@ fn blame_component(m: &[u8], at: usize, stop: usize, k: usize, out: &mut [u8; RE
     out[0] = OF_COMPONENT;
     out[1] = k as u8;
     match known_id(m, at, stop) {
-        None => out[2] = 0,
+        None => {
+            out[2] = 0;
+            out[3] = 0;
+        }
         Some(id) => {
             out[2] = 1;
             out[3] = id;

@@ -38,6 +38,10 @@ fn end_at(m: &[u8], at: usize, stop: usize, out: &mut [u8; RECORD]) -> Result<us
     ensures finishes { Tells result (λ r. Finishes nothing m.now at stop r) }
     ensures leaves_all { LeavesAll unlaid Blames nothing m.now at stop out.old out.new }
 {
+    // asked here too: most contents end where they are said to, and the answer of `leave` would be asked again
+    if at == stop {
+        return Ok(at);
+    }
     match leave(m, at, stop) {
         Ok(r) => Ok(r),
         Err(fault) => Err(portion_fault(out, fault)),

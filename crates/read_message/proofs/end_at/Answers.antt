@@ -1,9 +1,17 @@
 -- `end_at` meets its contract. Assumes nothing.
 use native.Mathlib.Omega.{arith}
 use Rattle.read_place.specs.declared.FaultAt.{FaultAt}
+use Rattle.read_place.specs.Places.{Finishes, nothing}
+use Rattle.read_place.proofs.Fronts.{leave_here}
 use mathlib.Core.Path.{ap}
 use Rattle.read_message.proofs.PortionFaults.{end_there, end_fault}
 use Rattle.read_message.proofs.end_at.Goals as goal
+
+pub returns-then-at-stop : goal.returns-then-at-stop
+returns-then-at-stop c =
+    let a = c.args in
+    let here : Finishes nothing a.m.now a.at a.stop a.at = search leave_here in
+    let both = end_there a.m.now a.at a.stop _ here a.out.now (omega arith) in record { finishes = (both.0, omega arith); leaves_all = both.1 }
 
 pub returns-in-Err : goal.returns-in-Err
 returns-in-Err c =
