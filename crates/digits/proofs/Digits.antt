@@ -1,4 +1,4 @@
--- Laws of digits: a number by its last digit and how many it has, a signed number by its bits, and one octet more in hex. Assumes nothing.
+-- Laws of digits: a number by its last digit and how many it has, a signed number below 0 by its absolute value, and one octet more in hex. Assumes nothing.
 use Prim.Native.Nat.{ℕ, zero, suc, ◌+◌, ◌*◌, ◌/◌, ◌%◌, ◌<◌, ◌≤◌}
 use native.Mathlib.Omega.{arith}
 use native.Mathlib.Numerals.{add-one}

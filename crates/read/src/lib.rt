@@ -32,7 +32,10 @@ pub fn read(message: &[u8]) -> Result<Record, Refusal>
     ensures { result ≡ reading message.now }
 {
     let mut octets = [0; RECORD];
-    read_octets(message, &mut octets)?;
+    // no `?`: where an edit hands back something else of a refusal, the outcome keeps the name that the proof cites
+    if let Err(refusal) = read_octets(message, &mut octets) {
+        return Err(refusal);
+    }
     let kind = message_kind_in(octets[0]);
     let orig = orig_in(&octets);
     let dest = dest_in(&octets);
