@@ -6,7 +6,7 @@ mod steerings;
 mod vectors;
 
 use program_parts::Tally;
-use program_parts::cases::{MOST_CASES, Verdict, name_case};
+use program_parts::cases::{MOST_CASES, Verdict, left_after, name_case};
 use std::fs::File;
 use std::io;
 use std::io::Read;
@@ -21,13 +21,12 @@ fn compare_all<I: Read, F: FnMut(&mut I) -> io::Result<Verdict>>(
     requires { F.IsAlwaysCallable next }
 {
     let mut tally = Tally::default();
-    for _ in 0..MOST_CASES {
+    let mut left = MOST_CASES;
+    while left > 0 {
         let verdict = next(input)?;
-        if verdict == Verdict::Ended {
-            break;
-        }
         name_case(rt, tally, verdict)?;
         tally = tally.told(verdict);
+        left = left_after(left, verdict);
     }
     Ok(tally)
 }

@@ -1,3 +1,4 @@
 pub mod Judging
 pub mod Coming
 pub mod Fits
+pub mod Telling

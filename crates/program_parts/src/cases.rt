@@ -1,5 +1,5 @@
 // The cases of a file, one after the other: their strings, what was found of each, and the tally of all.
-ghost use Rattle.std.specs.Prelude.{◌≡◌, ◌<◌, ◌≤◌, List, ℕ, length, take, IfOk};
+ghost use Rattle.std.specs.Prelude.{◌≡◌, ◌≢◌, ◌+◌, ◌<◌, ◌≤◌, List, ℕ, length, take, IfOk};
 ghost use Rattle.program_parts.specs.Front.{IsPrefixLen};
 ghost use Rattle.program_parts.specs.Strings.{string_octets, short_string_octets, Comes, Loses};
 ghost use Rattle.program_parts.specs.Tallied.{verdict_on, tallied_by};
@@ -102,6 +102,19 @@ impl Tally {
             Verdict::Differs => self.counted(false),
             Verdict::Ended => self,
         }
+    }
+}
+
+// How many cases may still come after one, where `left` might before it.
+pub fn left_after(left: u64, verdict: Verdict) -> u64
+    requires { 0 < left }
+    ensures less { result < left }
+    ensures goes_on { verdict ≢ Verdict.Ended → result + 1 ≡ left }
+{
+    match verdict {
+        Verdict::Same => left - 1,
+        Verdict::Differs => left - 1,
+        Verdict::Ended => 0,
     }
 }
 
