@@ -1,5 +1,5 @@
 -- The entries that stand before the first under an ID. Assumes nothing.
-use Prim.Native.Nat.{ℕ, zero, suc, ◌+◌, ◌*◌, ◌<◌}
+use Prim.Native.Nat.{ℕ, zero, suc, ◌+◌, ◌*◌, ◌<◌, ◌≤◌}
 use native.Mathlib.Omega.{arith}
 use mathlib.Core.Path.{◌≡◌, refl, ap, ◌∙◌}
 use mathlib.Core.Bool.{Bool, true, false}
@@ -25,3 +25,12 @@ module _ (w n : ℕ) where
   unfolding passed_in
   passed_all c zero h = refl
   passed_all c (suc m) h = rw (h 0 (omega arith)) (ap suc (passed_all (drop 12 c) m (λ j k. further c j ∙ h (suc j) (omega (arith, k)))))
+
+  pub passed_most : (c : List ℕ) (m : ℕ) → passed_in c w n m ≤ m
+  unfolding passed_in
+  passed_most c zero = omega arith
+  passed_most c (suc m) = by_held (held_in c w n) refl (passed_most (drop 12 c) m)
+    where
+      by_held : (b : Bool) → held_in c w n ≡ b → passed_in (drop 12 c) w n m ≤ m → passed_in c w n (suc m) ≤ suc m
+      by_held true e h = rw e (omega arith)
+      by_held false e h = rw e (omega (arith, h))

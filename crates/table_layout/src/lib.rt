@@ -1,4 +1,4 @@
-// The table of open transactions as octets: what they hold, and how a step on them is refused. The code is in table_octets and table_number.
+// The table of open transactions as octets: what they hold, and how a step on them is refused, and by which number. The steps are in table_octets and table_number.
 #![tactic(auto)]
 
 ghost use Rattle.std.specs.Prelude.{◌≡◌};
